@@ -84,5 +84,5 @@ module _ (prefix : List ℕ → List ℕ → List ℕ) where
   written_items (x ∷ xs) = written x ++ written_others xs
 
 -- a call has added this to the text
-abbrev pub Writes : Vec ℕ → Vec ℕ → List ℕ → Type 0
-Writes before later added = later.items ≡ before.items ++ added
+abbrev pub AddsText : Vec ℕ → Vec ℕ → List ℕ → Type 0
+AddsText before later added = later.items ≡ before.items ++ added

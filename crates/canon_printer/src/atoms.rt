@@ -2,7 +2,7 @@
 ghost use Rattle.std.specs.Prelude.{◌≡◌, ◌++◌, OnOk};
 ghost use Rattle.std.specs.Fmt.{signed_decimal};
 ghost use Rattle.canon_printer.specs.Written.{printed_ratio, printed_character, printed_text};
-ghost use Rattle.canon_printer.specs.Written.{Writes};
+ghost use Rattle.canon_printer.specs.Written.{AddsText};
 
 use crate::names::write_escaped;
 use lisp_object::Ratio;
@@ -10,7 +10,7 @@ use std::alloc::AllocError;
 
 /// Writes an integer in decimal (standard 22.1.3.1.1).
 pub(crate) fn write_integer(text: &mut Vec<u8>, n: i128) -> Result<(), AllocError>
-    ensures { OnOk result (Writes text.old text.new (signed_decimal n)) }
+    ensures { OnOk result (AddsText text.old text.new (signed_decimal n)) }
 {
     let digits = n.to_string(*text.allocator())?;
     text.extend_from_slice(digits.as_bytes())
@@ -18,7 +18,7 @@ pub(crate) fn write_integer(text: &mut Vec<u8>, n: i128) -> Result<(), AllocErro
 
 /// Writes a ratio, its two parts in decimal (standard 22.1.3.1.2).
 pub(crate) fn write_ratio(text: &mut Vec<u8>, ratio: Ratio) -> Result<(), AllocError>
-    ensures { OnOk result (Writes text.old text.new (printed_ratio ratio.0 ratio.1)) }
+    ensures { OnOk result (AddsText text.old text.new (printed_ratio ratio.0 ratio.1)) }
 {
     write_integer(text, ratio.numerator())?;
     text.push(b'/')?;
@@ -28,7 +28,7 @@ pub(crate) fn write_ratio(text: &mut Vec<u8>, ratio: Ratio) -> Result<(), AllocE
 
 /// Writes a character by its name, or as it is (standard 22.1.3.2).
 pub(crate) fn write_character(text: &mut Vec<u8>, c: u8) -> Result<(), AllocError>
-    ensures { OnOk result (Writes text.old text.new (printed_character c)) }
+    ensures { OnOk result (AddsText text.old text.new (printed_character c)) }
 {
     text.extend_from_slice(b"#\\")?;
     match c {
@@ -45,7 +45,7 @@ pub(crate) fn write_character(text: &mut Vec<u8>, c: u8) -> Result<(), AllocErro
 
 /// Writes a string (standard 22.1.3.4).
 pub(crate) fn write_text(text: &mut Vec<u8>, bytes: &[u8]) -> Result<(), AllocError>
-    ensures { OnOk result (Writes text.old text.new (printed_text bytes.now)) }
+    ensures { OnOk result (AddsText text.old text.new (printed_text bytes.now)) }
 {
     text.push(b'"')?;
     for c in bytes {

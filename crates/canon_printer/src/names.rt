@@ -2,13 +2,13 @@
 ghost use Rattle.std.specs.Prelude.{◌≡◌, ◌∷◌, [], ◌++◌, if◌then◌else◌, codes, OnOk};
 ghost use Rattle.std.specs.List.{list_all};
 ghost use Rattle.canon_printer.specs.Names.{printed_name, is_plain, begins_plain, goes_on_plain, is_escaped_in_bars, is_invalid};
-ghost use Rattle.canon_printer.specs.Written.{Writes};
+ghost use Rattle.canon_printer.specs.Written.{AddsText};
 
 use std::alloc::AllocError;
 
 /// Writes a name as it is if it reads back so, and else between bars (standard 22.1.3.3).
 pub(crate) fn write_name(text: &mut Vec<u8>, name: &[u8]) -> Result<(), AllocError>
-    ensures { OnOk result (Writes text.old text.new (printed_name name.now)) }
+    ensures { OnOk result (AddsText text.old text.new (printed_name name.now)) }
 {
     if is_plain(name) {
         return text.extend_from_slice(name);
@@ -23,7 +23,7 @@ pub(crate) fn write_name(text: &mut Vec<u8>, name: &[u8]) -> Result<(), AllocErr
 
 /// Writes the character, after a backslash if it needs one.
 pub(crate) fn write_escaped(text: &mut Vec<u8>, c: u8, is_escaped: bool) -> Result<(), AllocError>
-    ensures { OnOk result (Writes text.old text.new
+    ensures { OnOk result (AddsText text.old text.new
         (if is_escaped then codes "\\" ++ c ∷ [] else c ∷ [])) }
 {
     if is_escaped {

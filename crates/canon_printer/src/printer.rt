@@ -7,7 +7,7 @@ ghost use Rattle.lisp_object.specs.Datum.{object_of, is_proper, is_list};
 ghost use Rattle.package_table.specs.Table.{IsPackage};
 ghost use Rattle.canon_printer.specs.Written.{written_rest, written_items};
 ghost use Rattle.canon_printer.specs.Printed.{printed, printed_prefix};
-ghost use Rattle.canon_printer.specs.Written.{Writes};
+ghost use Rattle.canon_printer.specs.Written.{AddsText};
 
 use crate::atoms::{write_character, write_integer, write_ratio, write_text};
 use crate::symbols::{write_symbol, write_uninterned};
@@ -48,7 +48,7 @@ fn write(
 ) -> Result<(), AllocError>
     requires proper { is_proper datum.now ≡ true }
     requires known { IsPackage packages.now.0 current.now }
-    ensures { OnOk result (Writes text.old text.new
+    ensures { OnOk result (AddsText text.old text.new
         (printed packages.now.0 current.now (object_of datum.now))) }
 {
     match datum {
@@ -88,7 +88,7 @@ fn write_items(
 ) -> Result<(), AllocError>
     requires proper { list_all is_proper items.now ≡ true }
     requires known { IsPackage packages.now.0 current.now }
-    ensures { OnOk result (Writes text.old text.new
+    ensures { OnOk result (AddsText text.old text.new
         (written_items (printed_prefix packages.now.0 current.now) (map object_of items.now))) }
 {
     let items = items.as_slice();
@@ -110,7 +110,7 @@ fn write_tail(
 ) -> Result<(), AllocError>
     requires proper { option_map_or (λ d. is_proper d && not (is_list d)) tail.now true ≡ true }
     requires known { IsPackage packages.now.0 current.now }
-    ensures { OnOk result (Writes text.old text.new
+    ensures { OnOk result (AddsText text.old text.new
         (written_rest (printed_prefix packages.now.0 current.now)
         (option_map_or object_of tail.now nil))) }
 {
@@ -130,7 +130,7 @@ fn write_tail(
 
 // A space, but before the first of some items.
 fn write_space(text: &mut Vec<u8>, index: usize) -> Result<(), AllocError>
-    ensures { OnOk result (Writes text.old text.new (if index == 0 then [] else codes " ")) }
+    ensures { OnOk result (AddsText text.old text.new (if index == 0 then [] else codes " ")) }
 {
     if index > 0 {
         text.push(b' ')?;

@@ -3,7 +3,7 @@ ghost use Rattle.std.specs.Prelude.{◌≡◌, ◌++◌, OnOk};
 ghost use Rattle.package_table.specs.Table.{IsPackage};
 ghost use Rattle.canon_printer.specs.Written.{printed_uninterned};
 ghost use Rattle.canon_printer.specs.Printed.{is_accessible, printed_prefix, printed_symbol};
-ghost use Rattle.canon_printer.specs.Written.{Writes};
+ghost use Rattle.canon_printer.specs.Written.{AddsText};
 
 use crate::names::write_name;
 use package_table::standardized::KEYWORD;
@@ -19,7 +19,7 @@ pub(crate) fn write_symbol(
     current: &[u8],
 ) -> Result<(), AllocError>
     requires { IsPackage packages.now.0 current.now }
-    ensures { OnOk result (Writes text.old text.new
+    ensures { OnOk result (AddsText text.old text.new
         (printed_symbol packages.now.0 current.now home.now name.now)) }
 {
     write_prefix(text, home, name, packages, current)?;
@@ -28,7 +28,7 @@ pub(crate) fn write_symbol(
 
 /// Writes a symbol that has no home (standard 22.1.3.3.1).
 pub(crate) fn write_uninterned(text: &mut Vec<u8>, name: &[u8]) -> Result<(), AllocError>
-    ensures { OnOk result (Writes text.old text.new (printed_uninterned name.now)) }
+    ensures { OnOk result (AddsText text.old text.new (printed_uninterned name.now)) }
 {
     text.extend_from_slice(b"#:")?;
     write_name(text, name)
@@ -43,7 +43,7 @@ fn write_prefix(
     current: &[u8],
 ) -> Result<(), AllocError>
     requires { IsPackage packages.now.0 current.now }
-    ensures { OnOk result (Writes text.old text.new
+    ensures { OnOk result (AddsText text.old text.new
         (printed_prefix packages.now.0 current.now home.now name.now)) }
 {
     if is_accessible(home, name, packages, current) {

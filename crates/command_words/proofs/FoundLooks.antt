@@ -15,7 +15,7 @@ use Rattle.clap.proofs.OnLiterals.{clap_on_literals}
 use Rattle.clap.proofs.ValueTestLemmas.{Accepts-accepts, accepts-Accepts}
 use Rattle.clap.proofs.WalkLemmas.{first_value-rows}
 use Rattle.command_words.specs.CheckLine as checking
-use Rattle.command_words.specs.LookLine.{IsLooked, looking_line, number_of, place_given, text_of}
+use Rattle.command_words.specs.LookLine.{IsLooked, looking_line, written_number, place_given, text_of}
 use Rattle.command_words.specs.Rules.{FindsCommand}
 use Rattle.command_words.specs.declared.check.Check.{Check}
 use Rattle.command_words.specs.declared.looks.Look.{Look}
@@ -23,15 +23,15 @@ use Rattle.command_words.specs.declared.looks.RecordPlace.{RecordPlace}
 use Rattle.command_words.proofs.FoundWords.{named_found}
 
 -- a number that was read, and a text that is none
-pub number_parsed : (text : Text) (n : ℕ) → ParsesUnsigned {E = Unit {0}} 64 10 text (Ok n) → Some n ≡ number_of text
+pub number_parsed : (text : Text) (n : ℕ) → ParsesUnsigned {E = Unit {0}} 64 10 text (Ok n) → Some n ≡ written_number text
 number_parsed text n read =
     let within : Accepts false (Unsigned 0 (2 ^ 64 - 1)) text = (read.0.0, read.0.1, omega arith, omega (arith, read.0.1)) in
     rw (Accepts-accepts false (Unsigned 0 (2 ^ 64 - 1)) text within) (ap (λ (k : ℕ). Some k) read.1)
 
-pub none_parsed : {E : Type 0} (text : Text) (e : E) → ParsesUnsigned {E = E} 64 10 text (Err e) → ◌≡◌ {A = Option ℕ} None (number_of text)
+pub none_parsed : {E : Type 0} (text : Text) (e : E) → ParsesUnsigned {E = E} 64 10 text (Err e) → ◌≡◌ {A = Option ℕ} None (written_number text)
 none_parsed {E} text e read = go (is_unsigned_in 0 (2 ^ 64 - 1) text) refl
   where
-    go : (b : Bool) → is_unsigned_in 0 (2 ^ 64 - 1) text ≡ b → ◌≡◌ {A = Option ℕ} None (number_of text)
+    go : (b : Bool) → is_unsigned_in 0 (2 ^ 64 - 1) text ≡ b → ◌≡◌ {A = Option ℕ} None (written_number text)
     go false is = rw is refl
     go true is = let within = accepts-Accepts false (Unsigned 0 (2 ^ 64 - 1)) text is in absurd (read (within.0, within.1))
 

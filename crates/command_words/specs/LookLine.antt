@@ -68,22 +68,22 @@ looking_line = with_subcommand worlds_line verify_line.top
 -- ---- the place of a record: N, or G.N
 
 -- the number of 64 bits that a text writes, with or without a plus
-abbrev pub number_of : Text → Option ℕ
-number_of text = if is_unsigned_in 0 (2 ^ 64 - 1) text then Some (digits_value 10 (without_leading_plus text)) else None
+abbrev pub written_number : Text → Option ℕ
+written_number text = if is_unsigned_in 0 (2 ^ 64 - 1) text then Some (digits_value 10 (without_leading_plus text)) else None
 
 -- the same of digits alone
 abbrev pub plain_number_of : Text → Option ℕ
-plain_number_of text = if list_all is_ascii_digit text then number_of text else None
+plain_number_of text = if list_all is_ascii_digit text then written_number text else None
 
-abbrev pub is_dot : ℕ → Bool
-is_dot byte = byte == 46
+abbrev pub is_dot_byte : ℕ → Bool
+is_dot_byte byte = byte == 46
 
 abbrev pub place_of : Text → Option RecordPlace
 place_of text =
-    if nat_lt (position_or_len is_dot text) (length text)
+    if nat_lt (position_or_len is_dot_byte text) (length text)
     then option_and_then (λ generation. option_map (λ number. record { generation = Some generation; number = number })
-    (plain_number_of (after_first is_dot text))) (plain_number_of (before_first is_dot text))
-    else option_map (λ number. record { generation = None; number = number }) (number_of text)
+    (plain_number_of (after_first is_dot_byte text))) (plain_number_of (before_first is_dot_byte text))
+    else option_map (λ number. record { generation = None; number = number }) (written_number text)
 
 -- the place that an option gives: no record before the least one, and that one where the option is not there
 abbrev pub place_given : ℕ → Option Text → Option RecordPlace

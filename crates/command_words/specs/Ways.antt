@@ -2,8 +2,8 @@
 use Rattle.std.specs.Prelude.{◌==◌, ◌&&◌, ◌||◌, ℕ, Bool, false, not, bytes_eq, if◌then◌else◌, List, [], ◌∷◌, codes}
 use Rattle.std.specs.List.{before_first}
 use Rattle.clap.specs.Words.{Text}
-use Rattle.command_words.specs.declared.way.Way.{Way}
-use Rattle.command_words.specs.declared.way.Way.TheVariants.{Serve, Messages, See, Look, Check}
+use Rattle.command_words.specs.declared.way.CommandWay.{CommandWay}
+use Rattle.command_words.specs.declared.way.CommandWay.TheVariants.{Serve, Messages, See, Look, Check}
 
 -- a word is an option, alone or before an equals sign and its value
 abbrev pub is_option : Text → Text → Bool
@@ -25,14 +25,14 @@ abbrev pub is_report : Text → Bool
 is_report command = bytes_eq command (codes "dump") || (bytes_eq command (codes "verify") || bytes_eq command (codes "export"))
 
 -- the help of a command, or of the program
-abbrev pub way_of_help : List Text → Way
+abbrev pub way_of_help : List Text → CommandWay
 way_of_help [] = Serve
 way_of_help (name ∷ names) =
     if is_look name || (bytes_eq name (codes "dump") || bytes_eq name (codes "verify")) then Look
     else (if bytes_eq name (codes "check") then Check else Serve)
 
 -- a command with these options
-abbrev pub way_of_command : Text → List Text → Way
+abbrev pub way_of_command : Text → List Text → CommandWay
 way_of_command command options =
     if is_look command then Look
     else (if bytes_eq command (codes "check") then Check
@@ -43,7 +43,7 @@ way_of_command command options =
     else (if bytes_eq command (codes "run") && has_option (codes "--messages") options then Messages else Serve))))))
 
 -- the words of the command line, of which the first is the program's name
-abbrev pub way_of : List Text → Way
+abbrev pub way_of : List Text → CommandWay
 way_of [] = Serve
 way_of (program ∷ []) = Serve
 way_of (program ∷ command ∷ options) = way_of_command command options

@@ -30,5 +30,5 @@ mod words;
 pub use check::{Check, checked_in};
 pub use looks::{InfoPart, Look, Looked, RecordPlace, Records, Shown, looked_in};
 pub use messages::{Messages, messages_in};
-pub use way::{Way, asks_for_quiet, way_of};
+pub use way::{CommandWay, asks_for_quiet, way_of};
 pub use words::{Asked, Report, Task, asked_in};

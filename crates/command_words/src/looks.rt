@@ -3,7 +3,7 @@ ghost use Rattle.std.specs.Prelude.{◌≡◌, map, IfOk, Some};
 ghost use Rattle.std.specs.Char.{is_ascii_digit};
 ghost use Rattle.std.specs.List.{list_all};
 ghost use Rattle.clap.specs.Words.{app_of, first_of, found_of, rows_of, subcommand_rows_of};
-ghost use Rattle.command_words.specs.LookLine.{plain_number_of, looking_line, place_given, place_of, number_of, AreRecords, AsksToLook, IsInfo, IsLook, IsLooked, IsShown};
+ghost use Rattle.command_words.specs.LookLine.{plain_number_of, looking_line, place_given, place_of, written_number, AreRecords, AsksToLook, IsInfo, IsLook, IsLooked, IsShown};
 ghost use Rattle.command_words.specs.Rules.{FindsCommand};
 
 use crate::look_lines::looking_command;
@@ -122,7 +122,7 @@ fn place_of(word: &str) -> Option<RecordPlace>
 
 // The number that a word writes.
 fn number_of(word: &str) -> Option<u64>
-    ensures { result ≡ number_of word.now }
+    ensures { result ≡ written_number word.now }
 {
     match word.parse::<u64>() {
         Ok(number) => Some(number),

@@ -9,7 +9,7 @@ use std::convert::AsStr;
 
 /// How what the words ask for is carried out.
 #[derive(Clone, Copy, Debug, PartialEq, Eq)]
-pub enum Way {
+pub enum CommandWay {
     /// Over the files of a folder: `asked_in` has the words.
     Serve,
     /// The same, of messages in frames: `messages_in` has the words.
@@ -24,41 +24,41 @@ pub enum Way {
 
 /// How what the words ask for is carried out: the name of the command comes first, or `help` and that name. Words that no command has
 /// are those of `asked_in`.
-pub fn way_of<S: AsStr>(words: &[S]) -> Way
+pub fn way_of<S: AsStr>(words: &[S]) -> CommandWay
     ensures { result ≡ way_of (map S.text words.now) }
 {
     match words {
         [_, command, options @ ..] => way_of_command(command.as_str(), options),
-        _ => Way::Serve,
+        _ => CommandWay::Serve,
     }
 }
 
 // The same of a command with these options.
-fn way_of_command<S: AsStr>(command: &str, options: &[S]) -> Way
+fn way_of_command<S: AsStr>(command: &str, options: &[S]) -> CommandWay
     ensures { result ≡ way_of_command command.now (map S.text options.now) }
 {
     if is_look(command) {
-        return Way::Look;
+        return CommandWay::Look;
     }
     if command == CHECK {
-        return Way::Check;
+        return CommandWay::Check;
     }
     if command == "help" {
         return way_of_help(options);
     }
     if command == DUMP && (has_option(options, "--at") || asks_for_help(options)) {
-        return Way::Look;
+        return CommandWay::Look;
     }
     if command == VERIFY && (has_option(options, "--json") || asks_for_help(options)) {
-        return Way::Look;
+        return CommandWay::Look;
     }
     if is_report(command) && has_option(options, "--existing") {
-        return Way::See;
+        return CommandWay::See;
     }
     if command == RUN && has_option(options, "--messages") {
-        return Way::Messages;
+        return CommandWay::Messages;
     }
-    Way::Serve
+    CommandWay::Serve
 }
 
 // Whether a command only looks.
@@ -76,19 +76,19 @@ fn is_report(command: &str) -> bool
 }
 
 // Who has the help of a command, if one is named.
-fn way_of_help<S: AsStr>(names: &[S]) -> Way
+fn way_of_help<S: AsStr>(names: &[S]) -> CommandWay
     ensures { result ≡ way_of_help (map S.text names.now) }
 {
     let [name, ..] = names else {
-        return Way::Serve;
+        return CommandWay::Serve;
     };
     let name = name.as_str();
     if is_look(name) || name == DUMP || name == VERIFY {
-        Way::Look
+        CommandWay::Look
     } else if name == CHECK {
-        Way::Check
+        CommandWay::Check
     } else {
-        Way::Serve
+        CommandWay::Serve
     }
 }
 

@@ -4,19 +4,19 @@ use Rattle.disk_trait.specs.Disk.{Image, Performed}
 use Rattle.disk_trait.specs.Orders.{OrderValue}
 use Rattle.deferred_disk.specs.Calls.{CallsValue, all_of}
 use Rattle.deferred_disk.specs.Sound.{left_now}
-use Rattle.deferred_disk.specs.State.{LeftSince, MayLeave, ordered}
+use Rattle.deferred_disk.specs.State.{OrdersLeftSince, OrdersMayLeave, ordered}
 
-left_between : (start image : Image) (done first later : List OrderValue) → MayLeave start (first ++ done) image → LeftSince start ((later ++ first) ++ done) (length done) image
+left_between : (start image : Image) (done first later : List OrderValue) → OrdersMayLeave start (first ++ done) image → OrdersLeftSince start ((later ++ first) ++ done) (length done) image
 left_between start image done first [] left = left_now start (first ++ done) (length done) image (omega (arith, length-append first done)) left
 left_between start image done first (order ∷ later) left = inl (left_between start image done first later left)
 
 -- the same of what a disk was asked, from which what was reported is the same
 module _ (old new : CallsValue) (before after : ℕ) (first later : List OrderValue) (image : Image)
-    (same : (ordered new after).performed ≡ (ordered old before).performed) (parts : new.pending ≡ later ++ first) (left : MayLeave old.start (first ++ old.done) image) where
-  pub left_some : LeftSince new.start (all_of new) (length old.done) image
+    (same : (ordered new after).performed ≡ (ordered old before).performed) (parts : new.pending ≡ later ++ first) (left : OrdersMayLeave old.start (first ++ old.done) image) where
+  pub left_some : OrdersLeftSince new.start (all_of new) (length old.done) image
   left_some =
-      subst (λ (p : Performed). LeftSince p.start (new.pending ++ p.done) (length old.done) image) (sym same)
-      (subst (λ (l : List OrderValue). LeftSince old.start (l ++ old.done) (length old.done) image) (sym parts) (left_between old.start image old.done first later left))
+      subst (λ (p : Performed). OrdersLeftSince p.start (new.pending ++ p.done) (length old.done) image) (sym same)
+      (subst (λ (l : List OrderValue). OrdersLeftSince old.start (l ++ old.done) (length old.done) image) (sym parts) (left_between old.start image old.done first later left))
 
-  pub left_none : old.pending ≡ [] → LeftSince new.start (all_of new) (length (all_of old)) image
-  left_none none = subst (λ (l : List OrderValue). LeftSince new.start (all_of new) (length (l ++ old.done)) image) (sym none) left_some
+  pub left_none : old.pending ≡ [] → OrdersLeftSince new.start (all_of new) (length (all_of old)) image
+  left_none none = subst (λ (l : List OrderValue). OrdersLeftSince new.start (all_of new) (length (l ++ old.done)) image) (sym none) left_some

@@ -15,15 +15,15 @@ abbrev pub all_of : CallsValue → List OrderValue
 all_of calls = calls.pending ++ calls.done
 
 -- one order more, which is pending
-abbrev pub asked : CallsValue → OrderValue → CallsValue
-asked calls order = record { start = calls.start; done = calls.done; pending = order ∷ calls.pending }
+abbrev pub with_order : CallsValue → OrderValue → CallsValue
+with_order calls order = record { start = calls.start; done = calls.done; pending = order ∷ calls.pending }
 
 -- the pending ones are done
 abbrev pub reported : CallsValue → CallsValue
 reported calls = record { start = calls.start; done = all_of calls; pending = [] }
 
-abbrev pub begun : List ℕ → List ℕ → CallsValue
-begun a b = record { start = record { a = a; b = b }; done = []; pending = [] }
+abbrev pub first_calls : List ℕ → List ℕ → CallsValue
+first_calls a b = record { start = record { a = a; b = b }; done = []; pending = [] }
 
 -- ---- how it is stored
 

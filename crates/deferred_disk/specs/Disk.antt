@@ -2,7 +2,7 @@
 use Rattle.std.specs.Prelude.{◌≡◌, ℕ, List, length, Result, OnOk, OnErr}
 use Rattle.disk_trait.specs.Disk.{State}
 use Rattle.deferred_disk.specs.Bytes.{orders_bytes}
-use Rattle.deferred_disk.specs.Calls.{CallsValue, asked, reported}
+use Rattle.deferred_disk.specs.Calls.{CallsValue, with_order, reported}
 use Rattle.deferred_disk.specs.Kept.{IsWhole}
 use Rattle.disk_trait.specs.Orders.{OrderValue}
 use Rattle.deferred_disk.specs.State.{ordered}
@@ -25,7 +25,7 @@ KeepsAll disk = IsWhole disk.a × IsWhole disk.b
 
 -- A call of which this is the order: it is pending after it, or the call failed and nothing was asked.
 pub record Asks {T E : Type 0} (order : OrderValue) (old new : DeferredDisk) (result : Result T E) : Type 0 where
-  pub ok : OnOk result (calls_of new ≡ asked (calls_of old) order)
+  pub ok : OnOk result (calls_of new ≡ with_order (calls_of old) order)
   pub refused : OnErr result (calls_of new ≡ calls_of old)
 
 -- A report that so many bytes of orders were done: all pending ones are done, if they have just so many, and else nothing has changed.

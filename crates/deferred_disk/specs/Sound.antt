@@ -5,7 +5,7 @@ use Rattle.disk_trait.specs.declared.half.Half.{Half}
 use Rattle.disk_trait.specs.declared.half.Half.TheVariants.{A, B}
 use Rattle.disk_trait.specs.Orders.{OrderValue, writes, cuts, syncs}
 use Rattle.deferred_disk.specs.Calls.{CallsValue, all_of}
-use Rattle.deferred_disk.specs.State.{AllWriteBytes, Binds, LeftSince, MayLeave, PartOf, WritesBytes, ordered, reads_after, reads_by, with_file}
+use Rattle.deferred_disk.specs.State.{AllWriteBytes, OrderBinds, OrdersLeftSince, OrdersMayLeave, PartOfOrder, WritesBytes, ordered, image_after, reads_by, with_file}
 
 -- ---- bytes in lists
 
@@ -68,53 +68,53 @@ whole_cut : (len : ℕ) (file : List ℕ) → Cut len file (take len file)
 whole_cut len file = record { middle = []; bytes = tt; parts = sym (append-nil (take len file)); no_longer = omega (arith, length-take len file) }
 
 -- done in whole, it is one of the parts
-pub whole : (order : OrderValue) (image : Image) → WritesBytes order → Partly (PartOf order) image (reads_after order image)
+pub whole : (order : OrderValue) (image : Image) → WritesBytes order → Partly (PartOfOrder order) image (image_after order image)
 whole (writes half at bytes) image are = inr (on_half half (Torn at (length bytes)) (written at bytes (file_of half image)) image (whole_write at bytes (file_of half image) are))
 whole (cuts half len) image are = inr (on_half half (Cut len) (take len (file_of half image)) image (whole_cut len (file_of half image)))
 whole (syncs half) image are = inl refl
 
-bound : (order : OrderValue) (image : Image) → Binds order image (reads_after order image)
+bound : (order : OrderValue) (image : Image) → OrderBinds order image (image_after order image)
 bound (writes half at bytes) image = tt
 bound (cuts half len) image = tt
 bound (syncs half) image = refl
 
-part_bytes : (order : OrderValue) (old new : Image) → PartOf order old new → HoldsBytes old → HoldsBytes new
+part_bytes : (order : OrderValue) (old new : Image) → PartOfOrder order old new → HoldsBytes old → HoldsBytes new
 part_bytes (writes half at bytes) old new part holds = half_bytes half (Torn at (length bytes)) old new (bytes_torn at (length bytes)) part holds
 part_bytes (cuts half len) old new part holds = half_bytes half (Cut len) old new (bytes_cut len) part holds
 part_bytes (syncs half) old new part holds = absurd part
 
 -- ---- all orders
 
-stays : (start : Image) (orders : List OrderValue) → AllWriteBytes orders → MayLeave start orders (reads_by start orders)
+stays : (start : Image) (orders : List OrderValue) → AllWriteBytes orders → OrdersMayLeave start orders (reads_by start orders)
 stays start [] wrote = refl
 stays start (order ∷ earlier) wrote =
     let before = reads_by start earlier in
     ((before, stays start earlier wrote.1, whole order before wrote.0), bound order before)
 
-left_bytes : (start : Image) (orders : List OrderValue) (c : Image) → HoldsBytes start → MayLeave start orders c → HoldsBytes c
+left_bytes : (start : Image) (orders : List OrderValue) (c : Image) → HoldsBytes start → OrdersMayLeave start orders c → HoldsBytes c
 left_bytes start [] c holds left = subst HoldsBytes (sym left) holds
 left_bytes start (order ∷ earlier) c holds left =
     let d = left.0.0 in
     let before = left_bytes start earlier d holds left.0.1 in
     ⊎_elim (λ same. subst HoldsBytes (sym same) before) (λ part. part_bytes order d c part before) left.0.2
 
-since_bytes : (start : Image) (orders : List OrderValue) (t : ℕ) (c : Image) → HoldsBytes start → LeftSince start orders t c → HoldsBytes c
+since_bytes : (start : Image) (orders : List OrderValue) (t : ℕ) (c : Image) → HoldsBytes start → OrdersLeftSince start orders t c → HoldsBytes c
 since_bytes start [] t c holds left = left_bytes start [] c holds left.1
 since_bytes start (order ∷ earlier) t c holds left =
     ⊎_elim (λ before. since_bytes start earlier t c holds before) (λ now. left_bytes start (order ∷ earlier) c holds now.1) left
 
 -- nothing was left since a moment that is still to come
-no_later : (start : Image) (orders : List OrderValue) (t : ℕ) (c : Image) → LeftSince start orders t c → t ≤ length orders
+no_later : (start : Image) (orders : List OrderValue) (t : ℕ) (c : Image) → OrdersLeftSince start orders t c → t ≤ length orders
 no_later start [] t c left = left.0
 no_later start (order ∷ earlier) t c left =
     ⊎_elim (λ before. let le : t ≤ length earlier = no_later start earlier t c before in omega (arith, le)) (λ now. now.0) left
 
 -- what may be left now may have been left since any moment until now
-pub left_now : (start : Image) (orders : List OrderValue) (t : ℕ) (c : Image) → t ≤ length orders → MayLeave start orders c → LeftSince start orders t c
+pub left_now : (start : Image) (orders : List OrderValue) (t : ℕ) (c : Image) → t ≤ length orders → OrdersMayLeave start orders c → OrdersLeftSince start orders t c
 left_now start [] t c le left = (le, left)
 left_now start (order ∷ earlier) t c le left = inr (le, left)
 
-only_now : (start : Image) (orders : List OrderValue) (c : Image) → LeftSince start orders (length orders) c → MayLeave start orders c
+only_now : (start : Image) (orders : List OrderValue) (c : Image) → OrdersLeftSince start orders (length orders) c → OrdersMayLeave start orders c
 only_now start [] c left = left.1
 only_now start (order ∷ earlier) c left =
     ⊎_elim (λ before. let le : length (order ∷ earlier) ≤ length earlier = no_later start earlier (length (order ∷ earlier)) c before in absurd (omega (arith, le))) (λ now. now.1) left

@@ -14,21 +14,21 @@ with_file A file image = record { a = file; b = image.b }
 with_file B file image = record { a = image.a; b = file }
 
 -- what a read gives after it
-abbrev pub reads_after : OrderValue → Image → Image
-reads_after (writes half at bytes) image = with_file half (written at bytes (file_of half image)) image
-reads_after (cuts half len) image = with_file half (take len (file_of half image)) image
-reads_after (syncs half) image = image
+abbrev pub image_after : OrderValue → Image → Image
+image_after (writes half at bytes) image = with_file half (written at bytes (file_of half image)) image
+image_after (cuts half len) image = with_file half (take len (file_of half image)) image
+image_after (syncs half) image = image
 
 -- what a crash may make of an image on which it is pending, beside leaving it undone: a part of it, or all
-abbrev pub PartOf : OrderValue → Image → Image → Type 0
-PartOf (writes half at bytes) = OnHalf half (Torn at (length bytes))
-PartOf (cuts half len) = OnHalf half (Cut len)
-PartOf (syncs half) = λ _ _. ⊥
+abbrev pub PartOfOrder : OrderValue → Image → Image → Type 0
+PartOfOrder (writes half at bytes) = OnHalf half (Torn at (length bytes))
+PartOfOrder (cuts half len) = OnHalf half (Cut len)
+PartOfOrder (syncs half) = λ _ _. ⊥
 
 -- after a sync a crash leaves of the half what a read gives
-abbrev pub Binds : OrderValue → Image → Image → Type 0
-Binds (syncs half) reads left = file_of half left ≡ file_of half reads
-Binds _ reads left = Unit {0}
+abbrev pub OrderBinds : OrderValue → Image → Image → Type 0
+OrderBinds (syncs half) reads left = file_of half left ≡ file_of half reads
+OrderBinds _ reads left = Unit {0}
 
 -- what it writes is bytes
 abbrev pub WritesBytes : OrderValue → Type 0
@@ -39,18 +39,18 @@ WritesBytes _ = Unit {0}
 
 abbrev pub reads_by : Image → List OrderValue → Image
 reads_by start [] = start
-reads_by start (order ∷ earlier) = reads_after order (reads_by start earlier)
+reads_by start (order ∷ earlier) = image_after order (reads_by start earlier)
 
 -- what a crash after them may leave
-abbrev pub MayLeave : Image → List OrderValue → Image → Type 0
-MayLeave start [] c = c ≡ start
-MayLeave start (order ∷ earlier) c =
-    ((d : Image) × MayLeave start earlier d × Partly (PartOf order) d c) × Binds order (reads_by start earlier) c
+abbrev pub OrdersMayLeave : Image → List OrderValue → Image → Type 0
+OrdersMayLeave start [] c = c ≡ start
+OrdersMayLeave start (order ∷ earlier) c =
+    ((d : Image) × OrdersMayLeave start earlier d × Partly (PartOfOrder order) d c) × OrderBinds order (reads_by start earlier) c
 
 -- what a crash might have left at some moment from t on: a moment is the number of orders before it
-abbrev pub LeftSince : Image → List OrderValue → ℕ → Image → Type 0
-LeftSince start [] t c = (t ≤ 0) × MayLeave start [] c
-LeftSince start (order ∷ earlier) t c = LeftSince start earlier t c ⊎ ((t ≤ length (order ∷ earlier)) × MayLeave start (order ∷ earlier) c)
+abbrev pub OrdersLeftSince : Image → List OrderValue → ℕ → Image → Type 0
+OrdersLeftSince start [] t c = (t ≤ 0) × OrdersMayLeave start [] c
+OrdersLeftSince start (order ∷ earlier) t c = OrdersLeftSince start earlier t c ⊎ ((t ≤ length (order ∷ earlier)) × OrdersMayLeave start (order ∷ earlier) c)
 
 abbrev pub AllWriteBytes : List OrderValue → Type 0
 AllWriteBytes [] = Unit {0}
@@ -82,9 +82,9 @@ ordered calls failures = record {
   honest = true;
   mixes = false;
   reads = reads_by calls.start (all_of calls);
-  may_leave = MayLeave calls.start (all_of calls);
+  may_leave = OrdersMayLeave calls.start (all_of calls);
   moment = length (all_of calls);
-  left_since = LeftSince calls.start (all_of calls);
+  left_since = OrdersLeftSince calls.start (all_of calls);
   failures = failures;
   performed = record { start = calls.start; done = calls.done };
 }

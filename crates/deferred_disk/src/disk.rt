@@ -8,7 +8,7 @@ ghost use Rattle.deferred_disk.specs.Kept.{IsKeptOf, IsWhole};
 ghost use Rattle.deferred_disk.specs.State.{AllWriteBytes, all_write-prop, holds-prop, ordered, reads_by};
 ghost use Rattle.deferred_disk.specs.Sound.{sound_ordered};
 
-use crate::kept::Kept;
+use crate::kept::KeptBytes;
 use crate::order::{Order, push};
 use crate::past::Past;
 use disk_trait::{DeviceFault, Disk, Half};
@@ -25,8 +25,8 @@ const KEPT: usize = 65_536;
 #[derive(Drop)]
 pub struct DeferredDisk {
     alloc: Global,
-    a: Kept,
-    b: Kept,
+    a: KeptBytes,
+    b: KeptBytes,
     orders: Vec<u8>,
     failures: u64,
     past: Past,
@@ -39,21 +39,21 @@ pub struct DeferredDisk {
 
 impl DeferredDisk {
     ghost use Rattle.disk_trait.specs.Disk.{file_of};
-    ghost use Rattle.deferred_disk.specs.Calls.{asked, begun, reported};
+    ghost use Rattle.deferred_disk.specs.Calls.{with_order, first_calls, reported};
     ghost use Rattle.deferred_disk.specs.Disk.{Asks, KeepsAll, calls_of, pending_of, state_of};
     ghost use Rattle.disk_trait.specs.Orders.{writes, cuts, syncs};
 
     /// Two files that hold these bytes now, of which a crash leaves just that: they were synced before they were read.
     pub fn new(alloc: Global, a: Vec<u8>, b: Vec<u8>) -> DeferredDisk
-        ensures calls { calls_of result ≡ begun a.items b.items }
+        ensures calls { calls_of result ≡ first_calls a.items b.items }
         ensures all { KeepsAll result }
         ensures failures { (state_of result).failures ≡ 0 }
     {
         let past = Past::of(&a, &b);
         DeferredDisk {
             alloc,
-            a: Kept::new(a),
-            b: Kept::new(b),
+            a: KeptBytes::new(a),
+            b: KeptBytes::new(b),
             orders: Vec::new(alloc),
             failures: 0,
             past,
@@ -74,7 +74,7 @@ impl DeferredDisk {
         self.orders().is_empty()
     }
 
-    fn kept(&self, half: Half) -> &Kept
+    fn kept(&self, half: Half) -> &KeptBytes
         ensures kept { IsKeptOf result.now (file_of half (state_of self.now).reads) }
         ensures whole { KeepsAll self.now → IsWhole result.now }
     {
@@ -138,7 +138,7 @@ fn counted(failures: &mut u64) -> DeviceFault
 }
 
 impl Disk for DeferredDisk {
-    ghost use Rattle.disk_trait.specs.Calls.{CutsFile, GivesBytes, GivesLength, IsWithin, SyncsFile, WritesBytes};
+    ghost use Rattle.disk_trait.specs.Calls.{CutsFile, GivesBytes, GivesLength, IsWithinFile, SyncsFile, WritesBytes};
     ghost use Rattle.deferred_disk.specs.Disk.{Asks, KeepsAll, calls_of, state_of};
     ghost use Rattle.disk_trait.specs.Orders.{writes, cuts, syncs};
 
@@ -181,7 +181,7 @@ impl Disk for DeferredDisk {
 
     fn write_at(&mut self, half: Half, at: u64, bytes: &[u8]) -> Result<(), DeviceFault>
         requires count { (state_of self.old).failures < 2 ^ 64 - 1 }
-        requires within { IsWithin half at (state_of self.old) }
+        requires within { IsWithinFile half at (state_of self.old) }
         ensures disk { WritesBytes half at bytes.now
             (state_of self.old) (state_of self.new) result }
         ensures asks { Asks (writes half at bytes.now) self.old self.new result }
@@ -194,7 +194,7 @@ impl Disk for DeferredDisk {
 
     fn cut(&mut self, half: Half, len: u64) -> Result<(), DeviceFault>
         requires count { (state_of self.old).failures < 2 ^ 64 - 1 }
-        requires within { IsWithin half len (state_of self.old) }
+        requires within { IsWithinFile half len (state_of self.old) }
         ensures disk { CutsFile half len (state_of self.old) (state_of self.new) result }
         ensures asks { Asks (cuts half len) self.old self.new result }
     {

@@ -7,14 +7,14 @@ use std::alloc::Global;
 
 // All of a file's bytes, or none of them; its first byte, if it has one; and its length.
 #[derive(Drop)]
-pub(crate) struct Kept {
+pub(crate) struct KeptBytes {
     bytes: Vec<u8>,
     first: u8,
     len: u64,
 }
 
-impl Kept {
-    pub(crate) fn new(bytes: Vec<u8>) -> Kept
+impl KeptBytes {
+    pub(crate) fn new(bytes: Vec<u8>) -> KeptBytes
         ensures kept { IsKeptOf result bytes.items }
         ensures whole { IsWhole result }
     {
@@ -23,7 +23,7 @@ impl Kept {
             None => 0,
         };
         let len = bytes.len() as u64;
-        Kept { bytes, first, len }
+        KeptBytes { bytes, first, len }
     }
 
     pub(crate) fn len(&self) -> u64

@@ -3,7 +3,7 @@ ghost use Rattle.std.specs.Prelude.{◌≡◌, List, [], ◌++◌, length};
 ghost use Rattle.disk_trait.specs.Disk.{Image};
 ghost use Rattle.disk_trait.specs.Orders.{OrderValue};
 ghost use Rattle.deferred_disk.specs.Disk.{calls_of, pending_of, state_of};
-ghost use Rattle.deferred_disk.specs.State.{MayLeave};
+ghost use Rattle.deferred_disk.specs.State.{OrdersMayLeave};
 ghost use Rattle.deferred_disk.specs.declared.disk.DeferredDisk.{DeferredDisk};
 
 /// A run of calls led from the old disk to the new one, say a call of a store: its clause says that what was reported done is the same
@@ -15,11 +15,11 @@ pub fn between_orders()
     ensures none_open { (old new : DeferredDisk) (first later : List OrderValue) (image : Image)
         → (state_of new).performed ≡ (state_of old).performed
         → pending_of old ≡ [] → pending_of new ≡ later ++ first
-        → MayLeave (calls_of old).start (first ++ (calls_of old).done) image
+        → OrdersMayLeave (calls_of old).start (first ++ (calls_of old).done) image
         → (state_of new).left_since (state_of old).moment image }
     ensures some_open { (old new : DeferredDisk) (first later : List OrderValue) (image : Image)
         → (state_of new).performed ≡ (state_of old).performed
         → pending_of new ≡ later ++ first
-        → MayLeave (calls_of old).start (first ++ (calls_of old).done) image
+        → OrdersMayLeave (calls_of old).start (first ++ (calls_of old).done) image
         → (state_of new).left_since (length (calls_of old).done) image }
 {}

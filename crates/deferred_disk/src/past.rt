@@ -1,7 +1,7 @@
 // What was asked of a disk since it was made. It exists only in proofs.
 ghost use Rattle.std.specs.Prelude.{◌≡◌};
 ghost use base.Fml.{ftrue};
-ghost use Rattle.deferred_disk.specs.Calls.{CallsValue, asked, begun, calls_code, reported};
+ghost use Rattle.deferred_disk.specs.Calls.{CallsValue, with_order, first_calls, calls_code, reported};
 
 use crate::order::Order;
 use std::marker::Model;
@@ -16,18 +16,18 @@ impl Model for Past {
 }
 
 impl Past {
-    ghost use Rattle.deferred_disk.specs.Noted.{order_of};
+    ghost use Rattle.deferred_disk.specs.Noted.{order_value};
 
     // Two files of these bytes, and no order.
     pub(crate) fn of(_a: &Vec<u8>, _b: &Vec<u8>) -> Past
-        ensures { result.calls ≡ begun _a.now.items _b.now.items }
+        ensures { result.calls ≡ first_calls _a.now.items _b.now.items }
     {
         Past {}
     }
 
     // One order more.
     pub(crate) fn then(&self, _order: &Order<'_>) -> Past
-        ensures { result.calls ≡ asked self.now.calls (order_of _order.now) }
+        ensures { result.calls ≡ with_order self.now.calls (order_value _order.now) }
     {
         Past {}
     }

@@ -1,6 +1,6 @@
 -- Lines and columns of a text, and what an input keeps of what it gave.
 use Rattle.std.specs.Prelude.{◌≡◌, ◌==◌, ◌+◌, ℕ, if◌then◌else◌, List, [], ◌∷◌, ◌++◌, Option, Some, length, IfSome}
-use Rattle.diagnostics.specs.declared.places.Given.{Given}
+use Rattle.diagnostics.specs.declared.places.GivenBytes.{GivenBytes}
 use Rattle.diagnostics.specs.declared.places.Spot.{Spot}
 
 -- The line after a text that begins on this line: each newline ends one.
@@ -40,5 +40,5 @@ IsMovedFrom before text later = (spot : Spot) × (before ≡ Some spot) × IsMov
 abbrev pub KeepsIn : Option Spot → (older newer : List ℕ) → List ℕ → Type 0
 KeepsIn before older newer bytes = IfSome before (λ spot. (early : List ℕ) × (bytes ≡ early ++ (older ++ newer)) × IsSpotAfter spot early)
 
-abbrev pub Keeps : Given → List ℕ → Type 0
-Keeps given bytes = KeepsIn given.before given.older.items given.newer.items bytes
+abbrev pub GivenKeeps : GivenBytes → List ℕ → Type 0
+GivenKeeps given bytes = KeepsIn given.before given.older.items given.newer.items bytes

@@ -5,7 +5,7 @@ const OPERATOR: &[u8] = b"no operator ";
 
 /// What is read of a form, as the standard readtable reads it.
 #[derive(Clone, Copy, Debug, PartialEq, Eq)]
-enum Reading {
+enum PartReading {
     Plain,
     Comment,
     Text,
@@ -23,7 +23,7 @@ struct Walk<'a> {
     name: &'a [u8],
     // whether the name is the first of a list
     is_operator: bool,
-    reading: Reading,
+    reading: PartReading,
     // where the token begins that is open
     token: Option<usize>,
     // whether the next token is the first of a list, and whether it is quoted
@@ -42,7 +42,7 @@ pub(crate) fn place_of_part(form: &[u8], text: &[u8]) -> Option<usize> {
         form,
         name,
         is_operator,
-        reading: Reading::Plain,
+        reading: PartReading::Plain,
         token: None,
         is_first: false,
         is_quoted: false,
@@ -93,33 +93,33 @@ impl Walk<'_> {
     // Takes note of a byte.
     fn step(&mut self, at: usize, byte: u8) {
         self.reading = match (self.reading, byte) {
-            (Reading::Plain, _) => self.step_plainly(at, byte),
-            (Reading::Comment, b'\n') => Reading::Plain,
-            (Reading::Text, b'"') => Reading::Plain,
-            (Reading::Text, b'\\') => Reading::EscapedText,
-            (Reading::EscapedText, _) => Reading::Text,
-            (Reading::Bars, b'|') => Reading::Plain,
-            (Reading::Escaped, _) => Reading::Plain,
+            (PartReading::Plain, _) => self.step_plainly(at, byte),
+            (PartReading::Comment, b'\n') => PartReading::Plain,
+            (PartReading::Text, b'"') => PartReading::Plain,
+            (PartReading::Text, b'\\') => PartReading::EscapedText,
+            (PartReading::EscapedText, _) => PartReading::Text,
+            (PartReading::Bars, b'|') => PartReading::Plain,
+            (PartReading::Escaped, _) => PartReading::Plain,
             (reading, _) => reading,
         };
     }
 
     // Takes note of a byte that is in no comment and in no text, and tells how to go on.
-    fn step_plainly(&mut self, at: usize, byte: u8) -> Reading {
+    fn step_plainly(&mut self, at: usize, byte: u8) -> PartReading {
         match byte {
             b' ' | b'\t' | b'\r' | b'\n' => self.end_token(at),
             b'(' | b')' | b'"' | b'\'' => self.delimit(at, byte),
             b';' => {
                 self.end_token(at);
-                return Reading::Comment;
+                return PartReading::Comment;
             }
             _ => self.begin_token(at),
         }
         match byte {
-            b'"' => Reading::Text,
-            b'|' => Reading::Bars,
-            b'\\' => Reading::Escaped,
-            _ => Reading::Plain,
+            b'"' => PartReading::Text,
+            b'|' => PartReading::Bars,
+            b'\\' => PartReading::Escaped,
+            _ => PartReading::Plain,
         }
     }
 

@@ -1,6 +1,6 @@
 // Lines and columns of an input.
 ghost use Rattle.std.specs.Prelude.{◌≡◌, ◌+◌, ◌≤◌, ℕ, List, [], ◌∷◌, ◌++◌, length, take, IfSome};
-ghost use Rattle.diagnostics.specs.Places.{IsMoved, IsMovedFrom, IsSpotAfter, Keeps};
+ghost use Rattle.diagnostics.specs.Places.{IsMoved, IsMovedFrom, IsSpotAfter, GivenKeeps};
 
 use sessions::Place;
 use std::alloc::{AllocError, Global};
@@ -51,13 +51,13 @@ pub struct Lines<'a, I> {
 /// What an input gave last, and the refusal that ended the last session that one has ended.
 #[derive(Drop)]
 pub struct History {
-    given: RefCell<Given>,
+    given: RefCell<GivenBytes>,
     refused: Cell<Option<(u16, Place)>>,
 }
 
 /// What was given: the place before the bytes that are kept, unless it is lost, and these in two parts.
 #[derive(Drop)]
-pub(crate) struct Given {
+pub(crate) struct GivenBytes {
     before: Option<Spot>,
     older: Vec<u8>,
     newer: Vec<u8>,
@@ -119,12 +119,12 @@ impl Spot {
     }
 }
 
-impl Given {
+impl GivenBytes {
     /// Nothing yet.
-    pub(crate) fn new(alloc: Global) -> Given
-        ensures { Keeps result [] }
+    pub(crate) fn new(alloc: Global) -> GivenBytes
+        ensures { GivenKeeps result [] }
     {
-        Given {
+        GivenBytes {
             before: Some(Spot::first()),
             older: Vec::new(alloc),
             newer: Vec::new(alloc),
@@ -133,7 +133,7 @@ impl Given {
 
     /// A piece more. If there is no memory for it, no place is known any more.
     pub(crate) fn note(&mut self, piece: &[u8])
-        ensures { (bytes : List ℕ) → Keeps self.old bytes → Keeps self.new (bytes ++ piece.now) }
+        ensures { (bytes : List ℕ) → GivenKeeps self.old bytes → GivenKeeps self.new (bytes ++ piece.now) }
     {
         if self.newer.len() >= KEPT {
             self.let_go();
@@ -143,7 +143,7 @@ impl Given {
 
     // Lets the older bytes go.
     fn let_go(&mut self)
-        ensures { (bytes : List ℕ) → Keeps self.old bytes → Keeps self.new bytes }
+        ensures { (bytes : List ℕ) → GivenKeeps self.old bytes → GivenKeeps self.new bytes }
     {
         self.before = passed(self.before, self.older.as_slice());
         mem::swap(&mut self.older, &mut self.newer);
@@ -152,7 +152,7 @@ impl Given {
 
     // Keeps a piece more; without memory for it nothing is known.
     fn add(&mut self, piece: &[u8])
-        ensures { (bytes : List ℕ) → Keeps self.old bytes → Keeps self.new (bytes ++ piece.now) }
+        ensures { (bytes : List ℕ) → GivenKeeps self.old bytes → GivenKeeps self.new (bytes ++ piece.now) }
     {
         match self.newer.extend_from_slice(piece) {
             Ok(()) => {}
@@ -162,7 +162,7 @@ impl Given {
 
     /// The place after so many bytes of what was given, if it is known.
     pub(crate) fn spot_at(&self, bytes: u64) -> Option<Spot>
-        ensures { (given : List ℕ) → Keeps self.now given
+        ensures { (given : List ℕ) → GivenKeeps self.now given
             → IfSome result (λ spot. (bytes ≤ length given) × IsSpotAfter spot (take bytes given)) }
     {
         let before = self.before?;
@@ -199,7 +199,7 @@ impl History {
     /// Before the first byte.
     pub fn new(alloc: Global) -> History {
         History {
-            given: RefCell::new(Given::new(alloc)),
+            given: RefCell::new(GivenBytes::new(alloc)),
             refused: Cell::new(None),
         }
     }

@@ -8,7 +8,7 @@ use Rattle.std.proofs.lemmas.Bool.{and_parts}
 use Rattle.disk_trait.specs.Replay.{FileState, settled, after_what, where_same, after_call, after_calls, MayLeave, are_bytes, writes_bytes, began_with_bytes, wrote_bytes}
 use Rattle.disk_trait.specs.ReplayBytes.{LeavesBytes, bytes_tested, bytes_what, bytes_where, settled_bytes}
 use Rattle.disk_trait.specs.ReplayLaws.{Stays, stay, stay_what, stay_where, whole_cut}
-use Rattle.disk_trait.specs.Crash.{FillsBytes, scattered, torn_after, mixed_after, cut_after, left_after, on_same, swept, left_by}
+use Rattle.disk_trait.specs.Crash.{FillsBytes, scattered, torn_after, mixed_after, cut_after, bytes_left_after, on_same, swept, left_by}
 use Rattle.disk_trait.specs.declared.call.Call.{Call}
 use Rattle.disk_trait.specs.declared.call.What.{What}
 use Rattle.disk_trait.specs.declared.call.What.TheVariants.{Looked, Wrote, WroteMixing, Shortened, Synced}
@@ -92,7 +92,7 @@ left_cut (Filled byte) len left small = inr (filled_cut len byte left small)
 left_cut (Scattered share) len left small = inl refl
 
 left_what : (kind : Crash) (what : What) (p : FileState) (left : List ℕ) → FillsBytes kind → IsTrue (writes_bytes what) → AreBytes left → Stays p → p.may_leave left
-    → (after_what what p).may_leave (left_after kind what p.reads left)
+    → (after_what what p).may_leave (bytes_left_after kind what p.reads left)
 left_what kind Looked p left small writes were stays may = ((left, may, inl refl), tt)
 left_what kind Synced p left small writes were stays may = ((p.reads, stays, inl refl), refl)
 left_what kind (Wrote at bytes) p left small writes were stays may = ((left, may, left_write kind at bytes.items left small (bytes_tested bytes.items writes) were), tt)
@@ -117,11 +117,11 @@ swept_left kind half [] p left small wrote leaves stays may = may
 swept_left kind half (call ∷ calls) p left small wrote leaves stays may =
     let parts = and_parts (writes_bytes call.what) (wrote_bytes calls) wrote in
     let next = after_call half call p in
-    let next_left = on_same half call.half (left_after kind call.what p.reads left) left in
+    let next_left = on_same half call.half (bytes_left_after kind call.what p.reads left) left in
     subst (λ (file : List ℕ). (after_calls half calls next).may_leave (swept kind half calls file next_left)) (reads_where half call.half (after_what call.what p) p)
     (swept_left kind half calls next next_left small parts.1 (bytes_where half call.half (after_what call.what p) p (bytes_what call.what p parts.0 leaves) leaves)
     (stay_where half call.half (after_what call.what p) p (stay_what call.what p stays) stays)
-    (left_where half call.half (after_what call.what p) p (left_after kind call.what p.reads left) left (left_what kind call.what p left small parts.0 (leaves left may) stays may) may))
+    (left_where half call.half (after_what call.what p) p (bytes_left_after kind call.what p.reads left) left (left_what kind call.what p left small parts.0 (leaves left may) stays may) may))
 
 left_by_may : (kind : Crash) (half : Half) (calls : List Call) (start : List ℕ) → FillsBytes kind → IsTrue (wrote_bytes calls) → AreBytes start → (after_calls half calls (settled start)).may_leave (left_by kind half calls start)
 left_by_may Kept half calls start small wrote are = stay half calls (settled start) refl

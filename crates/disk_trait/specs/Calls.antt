@@ -5,8 +5,8 @@ use Rattle.disk_trait.specs.declared.disk.DeviceFault.{DeviceFault}
 use Rattle.disk_trait.specs.declared.half.Half.{Half}
 
 -- there is a byte of the file before this offset, or the file ends there
-abbrev pub IsWithin : Half → ℕ → State → Type 0
-IsWithin half at s = IsHonest s → at ≤ length (file_of half s.reads)
+abbrev pub IsWithinFile : Half → ℕ → State → Type 0
+IsWithinFile half at s = IsHonest s → at ≤ length (file_of half s.reads)
 
 -- `len` gives the length of the file
 pub record GivesLength (half : Half) (old new : State) (result : Result ℕ DeviceFault) : Type 0 where

@@ -38,12 +38,12 @@ cut_after (Filled byte) len left = take len left ++ replicate (length left - len
 cut_after (Scattered share) len left = left
 
 -- What a crash leaves after the call, where it left this before.
-abbrev pub left_after : Crash → What → List ℕ → List ℕ → List ℕ
-left_after kind Looked file left = left
-left_after kind (Wrote at bytes) file left = torn_after kind at bytes.items left
-left_after kind (WroteMixing at bytes) file left = mixed_after kind at bytes.items left
-left_after kind (Shortened len) file left = cut_after kind len left
-left_after kind Synced file left = file
+abbrev pub bytes_left_after : Crash → What → List ℕ → List ℕ → List ℕ
+bytes_left_after kind Looked file left = left
+bytes_left_after kind (Wrote at bytes) file left = torn_after kind at bytes.items left
+bytes_left_after kind (WroteMixing at bytes) file left = mixed_after kind at bytes.items left
+bytes_left_after kind (Shortened len) file left = cut_after kind len left
+bytes_left_after kind Synced file left = file
 
 -- the first of the two where the halves are the same, else the second
 abbrev pub on_same : Half → Half → List ℕ → List ℕ → List ℕ
@@ -57,7 +57,7 @@ abbrev pub swept : Crash → Half → List Call → List ℕ → List ℕ → Li
 swept kind half [] file left = left
 swept kind half (call ∷ calls) file left = swept kind half calls
     (on_same half call.half (reads_after call.what file) file)
-    (on_same half call.half (left_after kind call.what file left) left)
+    (on_same half call.half (bytes_left_after kind call.what file left) left)
 
 abbrev pub left_by : Crash → Half → List Call → List ℕ → List ℕ
 left_by Kept half calls start = (after_calls half calls (settled start)).reads

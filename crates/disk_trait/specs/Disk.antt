@@ -130,11 +130,11 @@ pub record Tells {T E : Type 0} (is_fault : E → Bool) (old new : State) (resul
   pub failures : MatchResult result (λ _. new.failures ≡ old.failures) (λ e. Rises (is_fault e) old.failures new.failures)
 
 -- a call of the disk itself, which has no other error
-abbrev pub is_fault : DeviceFault → Bool
-is_fault fault = true
+abbrev pub is_fault_of_device : DeviceFault → Bool
+is_fault_of_device fault = true
 
 abbrev pub Counts : {T : Type 0} → State → State → Result T DeviceFault → Type 0
-Counts old new result = Tells is_fault old new result
+Counts old new result = Tells is_fault_of_device old new result
 
 -- Time goes on: a crash since t might have left what it might have left before, or what it may leave now.
 pub record Elapses (old new : State) : Type 0 where

@@ -24,15 +24,15 @@ pub record IsUndone (old new : State) : Type 0 where
   pub time : Elapses old new
 
 -- the clock has gone on by one call
-abbrev pub IsNoted : State → State → Type 0
-IsNoted old new = new.moment ≡ old.moment + 1
+abbrev pub IsNotedCall : State → State → Type 0
+IsNotedCall old new = new.moment ≡ old.moment + 1
 
 -- A call that this disk takes a record of: of a crash after it no less is left than the step allows; if it fails, it was not
 -- taken.
 pub record IsRecorded {T E : Type 0} (Leaves : Type 0) (old new : State) (result : Result T E) : Type 0 where
   pub allows : OnOk result Leaves
   pub undone : OnErr result (IsUndone old new)
-  pub noted : OnOk result (IsNoted old new)
+  pub noted : OnOk result (IsNotedCall old new)
   pub mixes : new.mixes ≡ old.mixes
 
 -- a call that takes this step
@@ -60,12 +60,12 @@ RecordsSync half old new result =
     IsRecorded ((c : Image) → old.may_leave c → file_of half c ≡ file_of half old.reads → new.may_leave c) old new result
 
 -- a write or a cut that was not refused
-pub record Takes (Tears Does : Image → Image → Type 0) (old new : State) : Type 0 where
+pub record TakesChange (Tears Does : Image → Image → Type 0) (old new : State) : Type 0 where
   pub tears : Changes Tears old new
   pub done : Does old.reads new.reads
 
 abbrev pub TakesWrite : Half → ℕ → List ℕ → State → State → Type 0
-TakesWrite half at bytes old new = Takes (OnHalf half (WriteLeaves old.mixes at bytes)) (OnHalf half (λ file next. next ≡ written at bytes file)) old new
+TakesWrite half at bytes old new = TakesChange (OnHalf half (WriteLeaves old.mixes at bytes)) (OnHalf half (λ file next. next ≡ written at bytes file)) old new
 
 abbrev pub TakesCut : Half → ℕ → State → State → Type 0
-TakesCut half len = Takes (OnHalf half (Cut len)) (OnHalf half (λ file next. next ≡ take len file))
+TakesCut half len = TakesChange (OnHalf half (Cut len)) (OnHalf half (λ file next. next ≡ take len file))

@@ -2,7 +2,7 @@
 ghost use Rattle.std.specs.Prelude.{◌≡◌, ◌+◌, ◌-◌, ◌<◌, ◌++◌, ◌*◌, ◌%◌, length, take, drop, replicate, get_or, nat_lt, if◌then◌else◌, IfOk};
 ghost use Rattle.disk_trait.specs.Disk.{written};
 ghost use Rattle.disk_trait.specs.Replay.{reads_after};
-ghost use Rattle.disk_trait.specs.Crash.{cut_after, left_after, mixed_after, scattered, swept, torn_after};
+ghost use Rattle.disk_trait.specs.Crash.{cut_after, bytes_left_after, mixed_after, scattered, swept, torn_after};
 
 use crate::Half;
 use crate::call::{Call, What};
@@ -172,7 +172,7 @@ fn next_left(
     file: &[u8],
     left: Vec<u8>,
 ) -> Result<Vec<u8>, AllocError>
-    ensures { IfOk result (λ next. next.items ≡ left_after kind what.now file.now left.items) }
+    ensures { IfOk result (λ next. next.items ≡ bytes_left_after kind what.now file.now left.items) }
 {
     match what {
         What::Looked => Ok(left),

@@ -1,6 +1,6 @@
 // A disk as the log sees it: two files of bytes, of which a crash may leave less than a read gives.
 ghost use Rattle.std.specs.Prelude.{◌≡◌, ◌<◌, ◌-◌, ◌^◌};
-ghost use Rattle.disk_trait.specs.Calls.{CutsFile, GivesBytes, GivesLength, IsWithin, SyncsFile, WritesBytes};
+ghost use Rattle.disk_trait.specs.Calls.{CutsFile, GivesBytes, GivesLength, IsWithinFile, SyncsFile, WritesBytes};
 ghost use Rattle.disk_trait.specs.Disk.{State, IsHonest, IsSound};
 
 use crate::Half;
@@ -57,13 +57,13 @@ pub trait Disk {
     /// Writes `bytes` from offset `at` on, over what is there and past the end.
     fn write_at(&mut self, half: Half, at: u64, bytes: &[u8]) -> Result<(), DeviceFault>
         requires count { (state self.old).failures < 2 ^ 64 - 1 }
-        requires within { IsWithin half at (state self.old) }
+        requires within { IsWithinFile half at (state self.old) }
         ensures { WritesBytes half at bytes.now (state self.old) (state self.new) result };
 
     /// Cuts a half's file to `len` bytes.
     fn cut(&mut self, half: Half, len: u64) -> Result<(), DeviceFault>
         requires count { (state self.old).failures < 2 ^ 64 - 1 }
-        requires within { IsWithin half len (state self.old) }
+        requires within { IsWithinFile half len (state self.old) }
         ensures { CutsFile half len (state self.old) (state self.new) result };
 
     /// After it a crash leaves of this half what a read gives.

@@ -97,7 +97,7 @@ fn pass<F: Faults>(faults: &mut F, failed: &mut u64) -> Result<(), DeviceFault>
 }
 
 impl<D: Disk, F: Faults> Disk for FaultyDisk<D, F> {
-    ghost use Rattle.disk_trait.specs.Calls.{CutsFile, GivesBytes, GivesLength, IsWithin, SyncsFile, WritesBytes};
+    ghost use Rattle.disk_trait.specs.Calls.{CutsFile, GivesBytes, GivesLength, IsWithinFile, SyncsFile, WritesBytes};
     ghost use Rattle.disk_trait.specs.Faulty.{Strikes, faulty};
 
     ghost state = { faulty D.state };
@@ -133,7 +133,7 @@ impl<D: Disk, F: Faults> Disk for FaultyDisk<D, F> {
 
     fn write_at(&mut self, half: Half, at: u64, bytes: &[u8]) -> Result<(), DeviceFault>
         requires count { (faulty D.state self.old).failures < 2 ^ 64 - 1 }
-        requires within { IsWithin half at (faulty D.state self.old) }
+        requires within { IsWithinFile half at (faulty D.state self.old) }
         ensures disk { WritesBytes half at bytes.now
             (faulty D.state self.old) (faulty D.state self.new) result }
         ensures strikes { Strikes F.fails F.after self.old self.new result }
@@ -144,7 +144,7 @@ impl<D: Disk, F: Faults> Disk for FaultyDisk<D, F> {
 
     fn cut(&mut self, half: Half, len: u64) -> Result<(), DeviceFault>
         requires count { (faulty D.state self.old).failures < 2 ^ 64 - 1 }
-        requires within { IsWithin half len (faulty D.state self.old) }
+        requires within { IsWithinFile half len (faulty D.state self.old) }
         ensures disk { CutsFile half len (faulty D.state self.old) (faulty D.state self.new) result }
         ensures strikes { Strikes F.fails F.after self.old self.new result }
     {

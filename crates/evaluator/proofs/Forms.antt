@@ -33,13 +33,13 @@ use Rattle.evaluator.specs.Operators.{count, first, value_here, computed_value}
 use Rattle.value_functions.specs.declared.functions.ValueFunction.{ValueFunction}
 use Rattle.value_functions.specs.Functions.{most_arguments, function_value, if_listed}
 use Rattle.evaluator.specs.Value.{value, values, values_at_place, values_before_place, symbol_value, action_value, unless, has_default, is_base_place, is_case_place, value_over}
-use Rattle.evaluator.specs.declared.place.Place.TheVariants.{Property, PropertyOr, Case, ReadBase}
-use Rattle.evaluator.specs.Operations.{action_of, is_ordinary, set_at, has_default_at, function_of}
+use Rattle.evaluator.specs.declared.place.PlaceForm.TheVariants.{Property, PropertyOr, Case, ReadBase}
+use Rattle.evaluator.specs.Operations.{action_of, is_ordinary, set_at, has_default_at, function_of_operation}
 use Rattle.lisp_operators.specs.Evaluated.{Answers, done}
 use Rattle.evaluator.specs.Gathered.{all_done}
-use Rattle.evaluator.specs.Gathered.{arguments_of, parts, followed, subforms, gathered, refusal_of_place, list_place, place_of, IsHead}
+use Rattle.evaluator.specs.Gathered.{arguments_of, parts, followed, subforms, gathered, refusal_of_place, list_place, place_of, IsOperatorHead}
 use Rattle.evaluator.specs.Gathered.{operation_value}
-use Rattle.evaluator.specs.declared.place.Place.{Place}
+use Rattle.evaluator.specs.declared.place.PlaceForm.{PlaceForm}
 use Rattle.evaluator.specs.declared.wanted.Wanted.{Wanted}
 use Rattle.evaluator.specs.declared.wanted.Wanted.TheVariants.{Value}
 use Rattle.evaluator.specs.Wanted.{seen}
@@ -76,12 +76,12 @@ arguments_count [] = refl
 arguments_count (x ∷ xs) = let e : count (pairs (map object_of xs) nil) ≡ length xs = count_pairs (map object_of xs) ∙ length-map xs object_of in omega arith
 
 -- the value of a list that is headed by x
-pub head_form : (names : List Name) (s : WorldState) (items xs : List Datum) (x : Datum) (operation : Operation) → xs ≡ items → 0 < length items → x ≡ get_or xs 0 x → IsHead names (object_of x) (length xs - 1) (Ok operation)
+pub head_form : (names : List Name) (s : WorldState) (items xs : List Datum) (x : Datum) (operation : Operation) → xs ≡ items → 0 < length items → x ≡ get_or xs 0 x → IsOperatorHead names (object_of x) (length xs - 1) (Ok operation)
     → value names s (list_of (map object_of items)) ≡ action_value s (action_of names operation) (arguments_of (map object_of xs)) (parts names s (arguments_of (map object_of xs)))
 head_form names s items xs x operation same some is head =
     ap (value names s) (head_at items xs x same some is) ∙ head s (arguments_of (map object_of xs)) (arguments_proper xs) (arguments_count xs)
 
-pub head_refused : (names : List Name) (s t : WorldState) (items xs : List Datum) (x : Datum) (e : EvaluationError) → xs ≡ items → 0 < length items → x ≡ get_or xs 0 x → IsHead names (object_of x) (length xs - 1) (Err e)
+pub head_refused : (names : List Name) (s t : WorldState) (items xs : List Datum) (x : Datum) (e : EvaluationError) → xs ≡ items → 0 < length items → x ≡ get_or xs 0 x → IsOperatorHead names (object_of x) (length xs - 1) (Err e)
     → Answers done (Err e) t (value names s (list_of (map object_of items)))
 head_refused names s t items xs x (Refused code) same some is head =
     ap (value names s) (head_at items xs x same some is) ∙ head s (arguments_of (map object_of xs)) (arguments_proper xs) (arguments_count xs)
@@ -90,7 +90,7 @@ head_refused names s t items xs x OutOfMemory same some is head = tt
 -- ---- operators
 
 any_place : (names : List Name) (s : WorldState) (arguments : Object) → action_value s (action_of names Setf) arguments (parts names s arguments)
-    ≡ unless (refusal_of_place Setf arguments) (and_then (gathered names s Setf arguments) (function_of names Setf (place_of Setf arguments)))
+    ≡ unless (refusal_of_place Setf arguments) (and_then (gathered names s Setf arguments) (function_of_operation names Setf (place_of Setf arguments)))
 any_place names s arguments =
     elim (is_base_place (first arguments)) as (λ b. unless (refusal_of_place Setf arguments) (and_then (values_at_place names s arguments) (cond b set_base (cond (is_case_place (first arguments)) set_case set)))
     ≡ unless (refusal_of_place Setf arguments) (and_then (values_at_place names s arguments) (λ xs t. set_at (cond b ReadBase (list_place (first arguments))) xs t))) [
@@ -113,7 +113,7 @@ changed_at operator r o true = refl
 changed_at operator r o false = refl
 
 pub ordinary_is : (names : List Name) (operation : Operation) (s : WorldState) (arguments : Object) → is_ordinary operation ≡ true → action_value s (action_of names operation) arguments (parts names s arguments)
-    ≡ unless (refusal_of_place operation arguments) (and_then (gathered names s operation arguments) (function_of names operation (place_of operation arguments)))
+    ≡ unless (refusal_of_place operation arguments) (and_then (gathered names s operation arguments) (function_of_operation names operation (place_of operation arguments)))
 ordinary_is names Quote s arguments e = absurd (false≢true e)
 ordinary_is names Progn s arguments e = absurd (false≢true e)
 ordinary_is names If s arguments e = absurd (false≢true e)
@@ -144,18 +144,18 @@ ordinary_is names (LooksUp operator) s arguments e = refl
 ordinary_is names (Changes operator) s arguments e = changed_at operator (refusal_of_place (Changes operator) arguments) (values_at_place names s arguments) (has_default (first arguments))
 ordinary_is names (Computes function) s arguments e = ap (λ f. and_then (values names s arguments) f) (bounded function (most_arguments function) e)
 
-pub performed : (wanted : Wanted) (names : List Name) (operation : Operation) (place : Place) (s t u : WorldState) (arguments : Object) (v : Values) (r : Result Evaluated EvaluationError) → is_ordinary operation ≡ true
+pub performed : (wanted : Wanted) (names : List Name) (operation : Operation) (place : PlaceForm) (s t u : WorldState) (arguments : Object) (v : Values) (r : Result Evaluated EvaluationError) → is_ordinary operation ≡ true
     → refusal_of_place operation arguments ≡ None → place ≡ place_of operation arguments → gathered names s operation arguments ≡ Ok (all_done v t)
-    → Answers done r u (also v.wrote (seen wanted (function_of names operation place (map object_of v.values.items) t))) → Answers done r u (seen wanted (operation_value names operation arguments s))
+    → Answers done r u (also v.wrote (seen wanted (function_of_operation names operation place (map object_of v.values.items) t))) → Answers done r u (seen wanted (operation_value names operation arguments s))
 performed wanted names operation place s t u arguments v r ordinary none at is h =
     let xs = map object_of v.values.items in
     let values = gathered names s operation arguments in
     subst (Answers done r u)
     (sym (ap (seen wanted) (ordinary_is names operation s arguments ordinary
-    ∙ ap (λ k. unless k (and_then values (function_of names operation (place_of operation arguments)))) none
-    ∙ ap (λ o. and_then o (function_of names operation (place_of operation arguments))) is
-    ∙ ap (λ p. also v.wrote (function_of names operation p xs t)) (sym at))
-    ∙ seen_also wanted v.wrote (function_of names operation place xs t))) h
+    ∙ ap (λ k. unless k (and_then values (function_of_operation names operation (place_of operation arguments)))) none
+    ∙ ap (λ o. and_then o (function_of_operation names operation (place_of operation arguments))) is
+    ∙ ap (λ p. also v.wrote (function_of_operation names operation p xs t)) (sym at))
+    ∙ seen_also wanted v.wrote (function_of_operation names operation place xs t))) h
 
 -- ---- what operators take
 pub gathered_in_order : (names : List Name) (s : WorldState) (operation : Operation) (arguments : Object) → (operation ≡ Setf → ⊥) → (operation ≡ Incf → ⊥) → (operation ≡ Push → ⊥) → ((operator : PlaceChange) → operation ≡ Changes operator → ⊥)

@@ -16,13 +16,13 @@ use Rattle.lisp_operators.specs.Evaluation.{Done}
 use Rattle.evaluator.specs.declared.values.Values.{Values}
 use Rattle.evaluator.specs.declared.operation.Operation.{Operation}
 use Rattle.evaluator.specs.declared.operation.Operation.TheVariants.{Setf, Incf, Push, Changes}
-use Rattle.evaluator.specs.declared.place.Place.{Place}
-use Rattle.evaluator.specs.declared.place.Place.TheVariants.{Property, PropertyOr, Case, ReadBase}
+use Rattle.evaluator.specs.declared.place.PlaceForm.{PlaceForm}
+use Rattle.evaluator.specs.declared.place.PlaceForm.TheVariants.{Property, PropertyOr, Case, ReadBase}
 use Rattle.lisp_operators.specs.Evaluation.{Evaluation, gives, also, and_then}
 use Rattle.lisp_operators.specs.Kinds.{is_true}
 use Rattle.lisp_operators.specs.Properties.{list}
 use Rattle.evaluator.specs.declared.wanted.Wanted.{Wanted}
-use Rattle.evaluator.specs.declared.wanted.Task.{Task}
+use Rattle.evaluator.specs.declared.wanted.EvaluationTask.{EvaluationTask}
 use Rattle.evaluator.specs.Wanted.{seen}
 use Rattle.evaluator.specs.Operators.{count, first}
 use Rattle.evaluator.specs.Operations.{action_of}
@@ -66,7 +66,7 @@ Evaluates names x old new result = Answers done result new (value names old x)
 abbrev pub EvaluatesFor : Wanted → List Name → Object → WorldState → WorldState → Result Evaluated EvaluationError → Type 0
 EvaluatesFor wanted names x old new result = Answers done result new (seen wanted (value names old x))
 
-abbrev pub Operates : List Name → Task → List Datum → WorldState → WorldState → Result Evaluated EvaluationError → Type 0
+abbrev pub Operates : List Name → EvaluationTask → List Datum → WorldState → WorldState → Result Evaluated EvaluationError → Type 0
 Operates names task items old new result =
     Answers done result new (seen task.wanted (operation_value names task.operation (arguments_in items) old))
 
@@ -75,8 +75,8 @@ abbrev pub sequence_value : List Name → WorldState → Object → Evaluation O
 sequence_value names s forms = and_then (values names s forms) (λ xs later. gives (last xs) later)
 
 -- the list of the values of forms
-abbrev pub list_value : List Name → WorldState → Object → Evaluation Object
-list_value names s forms = and_then (values names s forms) list
+abbrev pub list_of_values : List Name → WorldState → Object → Evaluation Object
+list_of_values names s forms = and_then (values names s forms) list
 
 abbrev pub HasValue : Object → Result Evaluated EvaluationError → Type 0
 HasValue x result = (s : WorldState) → Answers done result s (gives x s)
@@ -120,18 +120,18 @@ refusal_of_place (Changes operator) arguments = default_place_refusal (first arg
 refusal_of_place _ arguments = None
 
 -- what a list names that is a place for SETF, and what any place names
-abbrev pub list_place : Object → Place
+abbrev pub list_place : Object → PlaceForm
 list_place place = if is_case_place place then Case else Property
 
-abbrev pub setf_place : Object → Place
+abbrev pub setf_place : Object → PlaceForm
 setf_place place = if is_base_place place then ReadBase else list_place place
 
 -- a property, with a default or without
-abbrev pub property_place : Object → Place
+abbrev pub property_place : Object → PlaceForm
 property_place place = if has_default place then PropertyOr else Property
 
 -- What an operator puts a value into. All but SETF know properties alone.
-abbrev pub place_of : Operation → Object → Place
+abbrev pub place_of : Operation → Object → PlaceForm
 place_of Setf arguments = setf_place (first arguments)
 place_of (Changes operator) arguments = property_place (first arguments)
 place_of _ arguments = Property
@@ -144,12 +144,12 @@ IsRefusal refusal (Err OutOfMemory) = ⊥
 
 -- What is at the head of a form of so many arguments: an operator that takes them, or the reason for which the form has no
 -- value.
-abbrev pub IsHead : List Name → Object → ℕ → Result Operation EvaluationError → Type 0
-IsHead names head n (Ok operation) = (s : WorldState) (arguments : Object) → is_proper_list arguments ≡ true → count arguments ≡ n
+abbrev pub IsOperatorHead : List Name → Object → ℕ → Result Operation EvaluationError → Type 0
+IsOperatorHead names head n (Ok operation) = (s : WorldState) (arguments : Object) → is_proper_list arguments ≡ true → count arguments ≡ n
     → value names s (pair head arguments) ≡ action_value s (action_of names operation) arguments (parts names s arguments)
-IsHead names head n (Err (Refused code)) = (s : WorldState) (arguments : Object) → is_proper_list arguments ≡ true → count arguments ≡ n
+IsOperatorHead names head n (Err (Refused code)) = (s : WorldState) (arguments : Object) → is_proper_list arguments ≡ true → count arguments ≡ n
     → value names s (pair head arguments) ≡ Err code
-IsHead names head n (Err OutOfMemory) = ⊥
+IsOperatorHead names head n (Err OutOfMemory) = ⊥
 
 -- what is in a datum that is a clause of COND, where it is one
 abbrev pub IsClause : Datum → Option (Bor (List Datum)) → Type 0

@@ -7,8 +7,8 @@ use Rattle.package_table.specs.Table.{Name}
 use Rattle.evaluator.specs.declared.operation.Operation.{Operation}
 use Rattle.evaluator.specs.declared.operation.Operation.TheVariants.{Quote, Progn, If, MakeList, Get, Setf, Remprop, SymbolPlist, Incf, Push, MakePackage, InPackage, Export, Import, UsePackage, Intern, CopyReadtable, InReadtable, SetSyntaxFromChar, SetMacroCharacter, GetMacroCharacter, MakeDispatchMacroCharacter, SetDispatchMacroCharacter, GetDispatchMacroCharacter, ReadtableCase, Computes, Decides, LooksUp, Changes}
 use Rattle.evaluator.specs.declared.decision.Decision.TheVariants.{And, Or, Cond, When, Unless, Prog1, Assert}
-use Rattle.evaluator.specs.declared.place.Place.{Place}
-use Rattle.evaluator.specs.declared.place.Place.TheVariants.{Property, PropertyOr, Case, ReadBase}
+use Rattle.evaluator.specs.declared.place.PlaceForm.{PlaceForm}
+use Rattle.evaluator.specs.declared.place.PlaceForm.TheVariants.{Property, PropertyOr, Case, ReadBase}
 use Rattle.lisp_operators.specs.Evaluation.{Evaluation}
 use Rattle.lisp_operators.specs.Properties.{list, get, set, remove, symbol_plist, increment, push}
 use Rattle.lisp_operators.specs.Packages.{make, intern, export, import, use_package}
@@ -149,26 +149,26 @@ abbrev pub of_values : Action → List Object → WorldState → Evaluation Obje
 of_values (calls function) xs s = function xs s
 of_values _ xs s = Err ARGUMENT_KIND
 
-abbrev pub set_at : Place → List Object → WorldState → Evaluation Object
+abbrev pub set_at : PlaceForm → List Object → WorldState → Evaluation Object
 set_at Property xs s = set xs s
 set_at PropertyOr xs s = set xs s
 set_at Case xs s = set_case xs s
 set_at ReadBase xs s = set_base xs s
 
 -- whether a property has a default there
-abbrev pub has_default_at : Place → Bool
+abbrev pub has_default_at : PlaceForm → Bool
 has_default_at PropertyOr = true
 has_default_at _ = false
 
-abbrev pub function_of : List Name → Operation → Place → List Object → WorldState → Evaluation Object
-function_of names Setf place xs s = set_at place xs s
-function_of names Incf place xs s = increment xs s
-function_of names Push place xs s = push xs s
-function_of names MakeList place xs s = Err ARGUMENT_KIND
-function_of names (Computes function) place xs s = computed_value function xs s
-function_of names (Decides decision) place xs s = Err ARGUMENT_KIND
-function_of names (Changes operator) place xs s = place_changed operator (has_default_at place) xs s
-function_of names operation place xs s = of_values (action_of names operation) xs s
+abbrev pub function_of_operation : List Name → Operation → PlaceForm → List Object → WorldState → Evaluation Object
+function_of_operation names Setf place xs s = set_at place xs s
+function_of_operation names Incf place xs s = increment xs s
+function_of_operation names Push place xs s = push xs s
+function_of_operation names MakeList place xs s = Err ARGUMENT_KIND
+function_of_operation names (Computes function) place xs s = computed_value function xs s
+function_of_operation names (Decides decision) place xs s = Err ARGUMENT_KIND
+function_of_operation names (Changes operator) place xs s = place_changed operator (has_default_at place) xs s
+function_of_operation names operation place xs s = of_values (action_of names operation) xs s
 
 -- the operators of control and on data, by their names
 abbrev pub operators_on_data : List (Name × Operation)

@@ -8,13 +8,13 @@ ghost use Rattle.lisp_operators.specs.Effects.{IsTruth, Leaves};
 ghost use Rattle.lisp_operators.specs.Evaluated.{Answers, done, IsProper, IsProperValue, AreArgumentsOf, objects};
 ghost use Rattle.lisp_operators.specs.Evaluation.{Evaluation};
 ghost use Rattle.lisp_operators.specs.Readtables.{AreFunctionNames};
-ghost use Rattle.evaluator.specs.Operations.{function_of};
+ghost use Rattle.evaluator.specs.Operations.{function_of_operation};
 ghost use Rattle.evaluator.specs.Wanted.{seen};
 ghost use Rattle.evaluator.specs.declared.wanted.Wanted.TheVariants.{Truth, Nothing};
 
 use crate::operation::Operation;
 use crate::perform::carry_out;
-use crate::place::Place;
+use crate::place::PlaceForm;
 use crate::wanted::{Wanted, seen};
 use lisp_object::Datum;
 use lisp_operators::{Evaluated, EvaluationError, effects, values};
@@ -82,13 +82,13 @@ pub(crate) fn truth(
     world: &mut World,
     names: &[FnName],
     operation: Operation,
-    place: Place,
+    place: PlaceForm,
     values: Vec<Datum>,
 ) -> Result<Evaluated, EvaluationError>
     requires names { AreFunctionNames names.now }
     requires values { AreArgumentsOf world.old values.items }
     ensures gives { Answers done result world.new.0
-        (seen Truth (function_of names.now operation place (objects values.items) world.old.0)) }
+        (seen Truth (function_of_operation names.now operation place (objects values.items) world.old.0)) }
     ensures proper { IfOk result IsProperValue }
     ensures marked { world.new.1 ≡ world.old.1 }
 {
@@ -107,19 +107,19 @@ pub(crate) fn effect(
     world: &mut World,
     names: &[FnName],
     operation: Operation,
-    place: Place,
+    place: PlaceForm,
     values: Vec<Datum>,
 ) -> Result<Evaluated, EvaluationError>
     requires names { AreFunctionNames names.now }
     requires values { AreArgumentsOf world.old values.items }
     ensures gives { Answers done result world.new.0
-        (seen Nothing (function_of names.now operation place (objects values.items) world.old.0)) }
+        (seen Nothing (function_of_operation names.now operation place (objects values.items) world.old.0)) }
     ensures proper { IfOk result IsProperValue }
     ensures marked { world.new.1 ≡ world.old.1 }
 {
     match (operation, place) {
         (Operation::Get, _) => left(read(effects::get(world, values))),
-        (Operation::Setf, Place::Property) => left(effects::set(world, values)),
+        (Operation::Setf, PlaceForm::Property) => left(effects::set(world, values)),
         (Operation::Push, _) => left(effects::push(alloc, world, values)),
         _ => seen(
             carry_out(alloc, world, names, operation, place, values),

@@ -5,7 +5,7 @@ ghost use Rattle.lisp_object.specs.Datum.{object_of};
 ghost use Rattle.evaluator.specs.Value.{values_at_place, values_before_place};
 ghost use Rattle.lisp_operators.specs.Readtables.{AreFunctionNames};
 ghost use Rattle.lisp_operators.specs.Evaluated.{IsArgument, KeepsArguments, Answers, done, IsProperValue, AreArgumentsOf, objects};
-ghost use Rattle.evaluator.specs.Gathered.{all_done, arguments_in, EvaluatesFor, Operates, followed, subforms, gathered, sequence_value, list_value};
+ghost use Rattle.evaluator.specs.Gathered.{all_done, arguments_in, EvaluatesFor, Operates, followed, subforms, gathered, sequence_value, list_of_values};
 ghost use Rattle.evaluator.specs.Operations.{IsCounted, is_ordinary};
 ghost use Rattle.evaluator.specs.Wanted.{seen};
 
@@ -16,7 +16,7 @@ use crate::control::{after, atom, nothing, quoted};
 use crate::direct::{get_directly, literal_assignment, quoted_property, set_directly};
 use crate::operation::{Operation, operation_of};
 use crate::values::Values;
-use crate::wanted::{Task, Wanted, seen, wanted_for};
+use crate::wanted::{EvaluationTask, Wanted, seen, wanted_for};
 use deciding::{chosen, decided};
 use lisp_object::refusal::{ARGUMENT_KIND, NOT_A_FORM};
 use lisp_object::{Datum, Items};
@@ -94,7 +94,13 @@ fn list_form(
 {
     let items = items.as_slice();
     match operation_of(&items[0], items.len() - 1) {
-        Ok(operation) => act(alloc, world, names, Task { operation, wanted }, items),
+        Ok(operation) => act(
+            alloc,
+            world,
+            names,
+            EvaluationTask { operation, wanted },
+            items,
+        ),
         Err(error) => Err(error),
     }
 }
@@ -105,7 +111,7 @@ fn act(
     alloc: Global,
     world: &mut World,
     names: &[FnName],
-    task: Task,
+    task: EvaluationTask,
     items: &[Datum],
 ) -> Result<Evaluated, EvaluationError>
     requires counted { IsCounted task.operation (length items.now) }
@@ -147,7 +153,7 @@ fn ordinary(
     alloc: Global,
     world: &mut World,
     names: &[FnName],
-    task: Task,
+    task: EvaluationTask,
     items: &[Datum],
 ) -> Result<Evaluated, EvaluationError>
     requires ordinary { is_ordinary task.operation ≡ true }
@@ -316,7 +322,7 @@ fn listed(
     requires names { AreFunctionNames names.now }
     requires items { AreArgumentsOf world.old items.now }
     ensures gives { Answers done result world.new.0
-        (list_value names.now world.old.0 (arguments_in items.now)) }
+        (list_of_values names.now world.old.0 (arguments_in items.now)) }
     ensures proper { IfOk result IsProperValue }
     ensures marked { world.new.1 ≡ world.old.1 }
 {

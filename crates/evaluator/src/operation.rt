@@ -6,7 +6,7 @@ ghost use Rattle.lisp_object.specs.Object.{symbol};
 ghost use Rattle.package_table.specs.Table.{Name};
 ghost use Rattle.evaluator.specs.Operators.{operator_named, operator_of, function_operator, pazturrok_operator, counts, world_operator};
 ghost use Rattle.evaluator.specs.Operations.{least, most, operator, IsCounted, among, operators_on_data, operators_on_packages, operators_on_readtables, operators_that_decide};
-ghost use Rattle.evaluator.specs.Gathered.{IsHead};
+ghost use Rattle.evaluator.specs.Gathered.{IsOperatorHead};
 ghost use Rattle.value_functions.specs.Functions.{function_named};
 ghost use Rattle.lisp_operators.specs.Evaluated.{IsProper};
 
@@ -215,7 +215,7 @@ impl Operation {
 /// What is at the head of a form of so many arguments.
 pub(crate) fn operation_of(head: &Datum, number: usize) -> Result<Operation, EvaluationError>
     requires { IsProper head.now }
-    ensures head { (names : List Name) → IsHead names (object_of head.now) number result }
+    ensures head { (names : List Name) → IsOperatorHead names (object_of head.now) number result }
     ensures counted { IfOk result (λ operation. IsCounted operation (number + 1)) }
 {
     let Ok((home, name)) = kinds::symbol(head) else {

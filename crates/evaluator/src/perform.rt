@@ -2,7 +2,7 @@
 ghost use Rattle.std.specs.Prelude.{◌≡◌, IfOk};
 ghost use Rattle.lisp_operators.specs.Readtables.{AreFunctionNames};
 ghost use Rattle.lisp_operators.specs.Evaluation.{also};
-ghost use Rattle.evaluator.specs.Operations.{function_of, set_at, has_default_at};
+ghost use Rattle.evaluator.specs.Operations.{function_of_operation, set_at, has_default_at};
 ghost use Rattle.evaluator.specs.Wanted.{seen};
 ghost use Rattle.lisp_operators.specs.Evaluated.{Answers, done, IsProperValue, AreArgumentsOf, CarriesOut, objects};
 
@@ -10,9 +10,9 @@ use crate::computed::computed;
 use crate::control::after;
 use crate::effects::{effect, truth};
 use crate::operation::Operation;
-use crate::place::Place;
+use crate::place::PlaceForm;
 use crate::values::Values;
-use crate::wanted::{Task, Wanted, seen};
+use crate::wanted::{EvaluationTask, Wanted, seen};
 use lisp_object::Datum;
 use lisp_object::refusal::ARGUMENT_KIND;
 use lisp_operators::EvaluationError::Refused;
@@ -30,14 +30,14 @@ pub(crate) fn perform(
     alloc: Global,
     world: &mut World,
     names: &[FnName],
-    task: Task,
-    place: Place,
+    task: EvaluationTask,
+    place: PlaceForm,
     values: Values,
 ) -> Result<Evaluated, EvaluationError>
     requires names { AreFunctionNames names.now }
     requires values { AreArgumentsOf world.old values.values.items }
     ensures gives { Answers done result world.new.0
-        (also values.wrote (seen task.wanted (function_of names.now task.operation place (objects values.values.items) world.old.0))) }
+        (also values.wrote (seen task.wanted (function_of_operation names.now task.operation place (objects values.values.items) world.old.0))) }
     ensures proper { IfOk result IsProperValue }
     ensures marked { world.new.1 ≡ world.old.1 }
 {
@@ -63,12 +63,12 @@ pub(crate) fn carry_out(
     world: &mut World,
     names: &[FnName],
     operation: Operation,
-    place: Place,
+    place: PlaceForm,
     values: Vec<Datum>,
 ) -> Result<Evaluated, EvaluationError>
     requires names { AreFunctionNames names.now }
     requires values { AreArgumentsOf world.old values.items }
-    ensures gives { CarriesOut (function_of names.now operation place) values.items
+    ensures gives { CarriesOut (function_of_operation names.now operation place) values.items
         world.old.0 world.new.0 result }
     ensures proper { IfOk result IsProperValue }
     ensures marked { world.new.1 ≡ world.old.1 }
@@ -112,14 +112,14 @@ pub(crate) fn carry_out(
 }
 
 // Whether a property has a default there.
-fn has_default(place: Place) -> bool
+fn has_default(place: PlaceForm) -> bool
     ensures { result ≡ has_default_at place }
 {
     match place {
-        Place::PropertyOr => true,
-        Place::Property => false,
-        Place::Case => false,
-        Place::ReadBase => false,
+        PlaceForm::PropertyOr => true,
+        PlaceForm::Property => false,
+        PlaceForm::Case => false,
+        PlaceForm::ReadBase => false,
     }
 }
 
@@ -127,7 +127,7 @@ fn has_default(place: Place) -> bool
 fn put(
     alloc: Global,
     world: &mut World,
-    place: Place,
+    place: PlaceForm,
     values: Vec<Datum>,
 ) -> Result<Evaluated, EvaluationError>
     requires { AreArgumentsOf world.old values.items }
@@ -136,8 +136,8 @@ fn put(
     ensures marked { world.new.1 ≡ world.old.1 }
 {
     match place {
-        Place::Property | Place::PropertyOr => properties::set(alloc, world, values),
-        Place::Case => readtables::set_case(alloc, world, values.as_slice()),
-        Place::ReadBase => set_base(world, values.as_slice()),
+        PlaceForm::Property | PlaceForm::PropertyOr => properties::set(alloc, world, values),
+        PlaceForm::Case => readtables::set_case(alloc, world, values.as_slice()),
+        PlaceForm::ReadBase => set_base(world, values.as_slice()),
     }
 }

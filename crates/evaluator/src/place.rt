@@ -18,7 +18,7 @@ use package_table::standardized::COMMON_LISP;
 
 /// What an operator puts a value into.
 #[derive(Clone, Copy, Debug, PartialEq, Eq)]
-pub(crate) enum Place {
+pub(crate) enum PlaceForm {
     /// A property, which GET names.
     Property,
     /// The same, where GET has a default.
@@ -68,10 +68,10 @@ pub(crate) fn is_standard(datum: &Datum, name: &[u8]) -> bool
 }
 
 // That it is a place that GET names.
-fn check_property(place: &Datum) -> Result<Place, EvaluationError>
+fn check_property(place: &Datum) -> Result<PlaceForm, EvaluationError>
     requires { IsProper place.now }
     ensures refusal { IsRefusal (get_place_refusal (object_of place.now)) result }
-    ensures value { IfOk result (λ p. p ≡ Place.Property) }
+    ensures value { IfOk result (λ p. p ≡ PlaceForm.Property) }
 {
     let Some((operator, number)) = accessor(place) else {
         return Err(Refused(ARGUMENT_KIND));
@@ -82,11 +82,11 @@ fn check_property(place: &Datum) -> Result<Place, EvaluationError>
     if number != 2 {
         return Err(Refused(ARGUMENT_COUNT));
     }
-    Ok(Place::Property)
+    Ok(PlaceForm::Property)
 }
 
 // That it is a place that GET names, with a default or without.
-fn check_with_default(place: &Datum) -> Result<Place, EvaluationError>
+fn check_with_default(place: &Datum) -> Result<PlaceForm, EvaluationError>
     requires { IsProper place.now }
     ensures refusal { IsRefusal (default_place_refusal (object_of place.now)) result }
     ensures value { IfOk result (λ p. p ≡ property_place (object_of place.now)) }
@@ -98,16 +98,16 @@ fn check_with_default(place: &Datum) -> Result<Place, EvaluationError>
         return Err(Refused(ARGUMENT_KIND));
     }
     if number == 3 {
-        return Ok(Place::PropertyOr);
+        return Ok(PlaceForm::PropertyOr);
     }
     if number == 2 {
-        return Ok(Place::Property);
+        return Ok(PlaceForm::Property);
     }
     Err(Refused(ARGUMENT_COUNT))
 }
 
 // That it is a list that is a place for SETF, and what it names.
-fn check_list(place: &Datum) -> Result<Place, EvaluationError>
+fn check_list(place: &Datum) -> Result<PlaceForm, EvaluationError>
     requires { IsProper place.now }
     ensures refusal { IsRefusal (list_place_refusal (object_of place.now)) result }
     ensures value { IfOk result (λ p. p ≡ list_place (object_of place.now)) }
@@ -121,24 +121,27 @@ fn check_list(place: &Datum) -> Result<Place, EvaluationError>
     if number != 1 {
         return Err(Refused(ARGUMENT_COUNT));
     }
-    Ok(Place::Case)
+    Ok(PlaceForm::Case)
 }
 
 // That it is a place for SETF, and what it names.
-fn check_setf(place: &Datum) -> Result<Place, EvaluationError>
+fn check_setf(place: &Datum) -> Result<PlaceForm, EvaluationError>
     requires { IsProper place.now }
     ensures refusal { IsRefusal (place_refusal (object_of place.now)) result }
     ensures value { IfOk result (λ p. p ≡ setf_place (object_of place.now)) }
 {
     if is_standard(place, b"*READ-BASE*") {
-        return Ok(Place::ReadBase);
+        return Ok(PlaceForm::ReadBase);
     }
     check_list(place)
 }
 
 /// That the place of an operator, if it takes one, is a place, and what it names. The first of the items is the operator
 /// itself.
-pub(crate) fn check_place(operation: Operation, items: &[Datum]) -> Result<Place, EvaluationError>
+pub(crate) fn check_place(
+    operation: Operation,
+    items: &[Datum],
+) -> Result<PlaceForm, EvaluationError>
     requires counted { IsCounted operation (length items.now) }
     requires proper { AreProper items.now }
     ensures refusal { IsRefusal (refusal_of_place operation (arguments_in items.now)) result }
@@ -149,6 +152,6 @@ pub(crate) fn check_place(operation: Operation, items: &[Datum]) -> Result<Place
         Operation::Incf => check_property(&items[1]),
         Operation::Push => check_property(&items[2]),
         Operation::Changes(_) => check_with_default(&items[1]),
-        _ => Ok(Place::Property),
+        _ => Ok(PlaceForm::Property),
     }
 }

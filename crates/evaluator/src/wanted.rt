@@ -29,7 +29,7 @@ pub(crate) enum Wanted {
 
 /// An operator, and what is asked of the value of its form.
 #[derive(Clone, Copy, Debug, PartialEq, Eq)]
-pub(crate) struct Task {
+pub(crate) struct EvaluationTask {
     pub operation: Operation,
     pub wanted: Wanted,
 }

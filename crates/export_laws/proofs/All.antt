@@ -21,7 +21,7 @@ use Rattle.plist_state.specs.Sound.{IsSound, IsSymbol, IsPlist, IsValue}
 use Rattle.plist_state.specs.State.{WorldState}
 use Rattle.plist_state.proofs.Orders.{symbol_total}
 use Rattle.snapshot_text.specs.Built.{with_each, with_packages_of, with_properties, with_properties_of}
-use Rattle.snapshot_text.specs.Rows.{symbol_at, IsUpTo}
+use Rattle.snapshot_text.specs.Rows.{row_symbol_at, IsUpTo}
 use Rattle.snapshot_text.proofs.PropertyParts.{at_first, at_last, each_is_list, next_up_to, row_at}
 use Rattle.export_laws.specs.Objects.{after_each, property_object, property_objects}
 use Rattle.export_laws.proofs.There.{value_there}
@@ -89,8 +89,8 @@ module _ (s : WorldState) where
         let few : n < length (symbols_with_properties s) = omega (arith, all) in
         let at = front (symbols_with_properties s) n x xs rest in
         let row = row_at s sound n now so_far few in
-        let is : with_each now x (plist s x) ≡ with_properties now (with_list now.properties (symbol_at s n) (plist s (symbol_at s n))) =
-        ap (λ y. with_each now y (plist s y)) (sym at.0) ∙ each_is_list now (symbol_at s n) (plist s (symbol_at s n)) row.may_be.some row.may_be.apart row.absent in
+        let is : with_each now x (plist s x) ≡ with_properties now (with_list now.properties (row_symbol_at s n) (plist s (row_symbol_at s n))) =
+        ap (λ y. with_each now y (plist s y)) (sym at.0) ∙ each_is_list now (row_symbol_at s n) (plist s (row_symbol_at s n)) row.may_be.some row.may_be.apart row.absent in
         let one : n + 1 ≡ suc n = omega arith in
         from (suc n) xs (with_each now x (plist s x)) at.1 (omega (arith, all))
         (subst (λ k. IsUpTo s k (with_each now x (plist s x))) one (next_up_to s sound n now (with_each now x (plist s x)) so_far few is))

@@ -15,7 +15,7 @@ use Rattle.lisp_reading.specs.Reading.{Outcome, attempt, empty, form, outcome, r
 use Rattle.lisp_reading.proofs.Forms.{reads_is}
 use Rattle.session_words.specs.declared.mode.Mode.TheVariants.{Current}
 use Rattle.prevalence_store.specs.meaning.Acceptance.{form_limits, read_in, transacted}
-use Rattle.sessions.specs.Answers.{Progress, after_forms, begun as before_forms, evaluated, one_form, one_form_more, onward}
+use Rattle.sessions.specs.Answers.{Progress, after_forms, first_progress as before_forms, evaluated, one_form, one_form_more, onward}
 use Rattle.world_text.proofs.Begun.{newline_begun}
 use Rattle.export_laws.specs.Texts.{Makes, ReadsAsExported}
 

@@ -16,7 +16,7 @@ use Rattle.lisp_reading.specs.Reading.{form, outcome, reads, reads_at}
 use Rattle.lisp_reading.proofs.Forms.{drop_front, reads_is}
 use Rattle.session_words.specs.declared.mode.Mode.TheVariants.{Current}
 use Rattle.prevalence_store.specs.meaning.Acceptance.{between, form_limits, read_in, transacted}
-use Rattle.sessions.specs.Answers.{begun as before_forms, evaluated, one_form, one_form_more, onward}
+use Rattle.sessions.specs.Answers.{first_progress as before_forms, evaluated, one_form, one_form_more, onward}
 use Rattle.world_text.proofs.Begun.{begun, newline_begun}
 use Rattle.world_forms.specs.Properties.{form_setting}
 use Rattle.wider_functions.proofs.Keeping.{none_are_among}

@@ -28,7 +28,7 @@ use Rattle.snapshot_text.proofs.PackageLists.{external_among, externals_are, imp
 use Rattle.snapshot_text.proofs.PartFinds.{external_entry, present_package}
 use Rattle.snapshot_text.proofs.PartSame.{first_part}
 use Rattle.snapshot_text.proofs.PartSteps.{after_used, export_goes, export_part, export_there, import_goes, import_part, import_there, not_locked, use_goes, use_part, use_there}
-use Rattle.world_forms.specs.Packages.{change_line, export_line, import_line, own_lines, package_line, package_lines, shown_lines, use_line, use_lines}
+use Rattle.world_forms.specs.Packages.{change_line, export_form_line, import_line, own_lines, package_line, package_lines, shown_lines, use_line, use_lines}
 use Rattle.world_forms.specs.Tokens.{call_text, line}
 use Rattle.export_laws.specs.Objects.{call}
 use Rattle.export_laws.specs.Texts.{ReadsAsExported}
@@ -100,7 +100,7 @@ module _ (functions : Functions) (first : WorldState) (whole : List ℕ) (base :
     present_last t u grows all = (own_last t u grows all.0, symbols_grown t u s p all.1 grows)
 
     export_step : (n : Name) (t : Table) (more : List ℕ) → IsExternal s p n → HasPresent t → Way t
-        → Before t (export_line p n ++ more) → Reached (λ u. IsExternal u p n) t more
+        → Before t (export_form_line p n ++ more) → Reached (λ u. IsExternal u p n) t more
     unfolding change_line
     export_step n t more shown all way made =
         let e = external_entry s p n shown in
@@ -131,15 +131,15 @@ module _ (functions : Functions) (first : WorldState) (whole : List ℕ) (base :
     }
 
     shown_open : (t : Table) (more : List ℕ) → HasOwnNames t → Way t
-        → Before t ((flat_map (import_line p) (imports s p) ++ flat_map (export_line p) (external_names s p)) ++ more) → Reached (λ u. HasSymbols u s p × HasExternals u s p) t more
+        → Before t ((flat_map (import_line p) (imports s p) ++ flat_map (export_form_line p) (external_names s p)) ++ more) → Reached (λ u. HasSymbols u s p × HasExternals u s p) t more
     shown_open t more own way made =
-        let later = flat_map (export_line p) (external_names s p) ++ more in
+        let later = flat_map (export_form_line p) (external_names s p) ++ more in
         let one = every_line functions first whole base as_exported s (import_line p) (λ r. IsPresent s p r.0 r.1 × (r.1 ≢ p)) HasOwnNames (λ r u. IsPresent u p r.0 r.1) own_last
         (λ r t u grows here. grows.homes p r.0 r.1 here) import_step (imports s p) t later (imports_are s p) own way
-        (subst (λ cs. Before t cs) (append_assoc (flat_map (import_line p) (imports s p)) (flat_map (export_line p) (external_names s p)) more) made) in
+        (subst (λ cs. Before t cs) (append_assoc (flat_map (import_line p) (imports s p)) (flat_map (export_form_line p) (external_names s p)) more) made) in
         let own_then = own_last t one.there one.grows own in
         let symbols = all_present one.there own_then one.has in
-        let two = every_line functions first whole base as_exported s (export_line p) (λ n. IsExternal s p n) HasPresent (λ n u. IsExternal u p n) present_last
+        let two = every_line functions first whole base as_exported s (export_form_line p) (λ n. IsExternal s p n) HasPresent (λ n u. IsExternal u p n) present_last
         (λ n t u grows here. grows.externals p n here) export_step (external_names s p) one.there more (externals_are s p) (own_then, symbols) one.way one.made in
         record {
           there = two.there;
@@ -181,7 +181,7 @@ module _ (functions : Functions) (first : WorldState) (whole : List ℕ) (base :
       nothing has made = nothing_more functions first whole base as_exported s (λ u. HasShown u p) t more way has made
 
       by_kind : (a b : Bool) → bytes_eq p common_lisp ≡ a → bytes_eq p keyword ≡ b
-          → Before t ((if a || b then [] else flat_map (import_line p) (imports s p) ++ flat_map (export_line p) (external_names s p)) ++ more) → Reached (λ u. HasShown u p) t more
+          → Before t ((if a || b then [] else flat_map (import_line p) (imports s p) ++ flat_map (export_form_line p) (external_names s p)) ++ more) → Reached (λ u. HasShown u p) t more
       by_kind true b e f made = nothing (subst (λ q. HasShown t q) (sym (equal_names p common_lisp e)) (lisp_shown t way)) made
       by_kind false true e f made = nothing (subst (λ q. HasShown t q) (sym (equal_names p keyword f)) (keyword_shown t own way)) made
       by_kind false false e f made = shown_open p there (unequal_names p common_lisp e) (unequal_names p keyword f) t more own way made

@@ -17,7 +17,7 @@ use Rattle.canon_printer.specs.Written.{is_escaped_in_text, printed_text}
 use Rattle.lisp_reading.specs.declared.found.Found.TheVariants.{One as one}
 use Rattle.prevalence_store.specs.meaning.Acceptance.{form_limits}
 use Rattle.world_text.proofs.Spelling.{IsAscii}
-use Rattle.world_forms.specs.Tokens.{call_text, is_plain, is_too_long, name_text, prefix_length, symbol_text, text_argument, value_text}
+use Rattle.world_forms.specs.Tokens.{call_text, is_portable_name, is_too_long, name_text, prefix_length, symbol_text, text_argument, value_text}
 use Rattle.export_laws.specs.Objects.{call}
 use Rattle.export_laws.proofs.OneForm.{IsForm}
 use Rattle.export_laws.proofs.PartsRead.{AreRead, IsRead, deeper, list_read, listed_is_read, no_more, one_more, quoted_is_read}
@@ -51,7 +51,7 @@ arguments_short (n ∷ ns) short =
 pub name_short : (n : Name) → length (name_text n) ≤ 2 + 2 * length n
 name_short n =
     let body = escaped is_escaped_in_bars n in
-    elim (is_plain n) as (λ b. length (if b then n else codes "|" ++ body ++ codes "|") ≤ 2 + 2 * length n) [
+    elim (is_portable_name n) as (λ b. length (if b then n else codes "|" ++ body ++ codes "|") ≤ 2 + 2 * length n) [
       | true ↦ omega arith
       | false ↦ omega (arith, escaped_short is_escaped_in_bars n, length-append body (codes "|"))
     ]

@@ -34,7 +34,7 @@ use Rattle.world_text.proofs.Characters.{by_table}
 use Rattle.world_text.proofs.Marked.{name_marks, plain_marks, quoted_marks}
 use Rattle.world_text.proofs.Sizes.{barred_count, count_both, name_count, plain_count}
 use Rattle.world_text.proofs.Spelling.{IsAscii, first, others}
-use Rattle.world_forms.specs.Tokens.{call_text, is_plain, is_plain_after, is_too_long, name_text, prefix_length, quoted_text, symbol_text, text_argument, value_text}
+use Rattle.world_forms.specs.Tokens.{call_text, is_portable_name, is_plain_after, is_too_long, name_text, prefix_length, quoted_text, symbol_text, text_argument, value_text}
 use Rattle.export_laws.specs.Objects.{call, symbol_form}
 use Rattle.export_laws.proofs.PartsRead.{AreRead, IsRead, listed_is_read, no_more, object_is_read, one_more, quoted_is_read, token_is_read}
 
@@ -53,7 +53,7 @@ all_plain (c ∷ cs) ascii e =
     let both = and_parts (is_plain_after c) (list_all is_plain_after cs) e in
     and_from (names.goes_on_plain c) (list_all names.goes_on_plain cs) (after_plain c (first c cs ascii) both.0) (all_plain cs (others c cs ascii) both.1)
 
-plain_printed : (name : Name) → IsAscii name → is_plain name ≡ true → names.is_plain name ≡ true
+plain_printed : (name : Name) → IsAscii name → is_portable_name name ≡ true → names.is_plain name ≡ true
 plain_printed [] ascii e = absurd cc
 plain_printed (c ∷ cs) ascii e =
     let both = and_parts (is_ascii_uppercase c) (list_all is_plain_after cs) e in
@@ -61,12 +61,12 @@ plain_printed (c ∷ cs) ascii e =
 
 -- the marks of a name in the token of a symbol
 abbrev text_marks : Name → List Mark
-text_marks name = if is_plain name then plain_marks name else Bar ∷ (quoted_marks name ++ Bar ∷ [])
+text_marks name = if is_portable_name name then plain_marks name else Bar ∷ (quoted_marks name ++ Bar ∷ [])
 
 name_is_text : (name : Name) → IsAscii name → IsNameText name (name_text name) (text_marks name)
 name_is_text name ascii =
-    elim (is_plain name)
-    as (λ b. is_plain name ≡ b → IsNameText name (if b then name else codes "|" ++ escaped is_escaped_in_bars name ++ codes "|") (if b then plain_marks name else Bar ∷ (quoted_marks name ++ Bar ∷ []))) [
+    elim (is_portable_name name)
+    as (λ b. is_portable_name name ≡ b → IsNameText name (if b then name else codes "|" ++ escaped is_escaped_in_bars name ++ codes "|") (if b then plain_marks name else Bar ∷ (quoted_marks name ++ Bar ∷ []))) [
       | true ↦ λ e. subst (λ b. IsNameText name (if b then name else codes "|" ++ escaped is_escaped_in_bars name ++ codes "|") (if b then plain_marks name else Bar ∷ (quoted_marks name ++ Bar ∷ [])))
           (plain_printed name ascii e) (printed_name_text name ascii)
       | false ↦ λ _. barred_text name ascii
@@ -74,7 +74,7 @@ name_is_text name ascii =
 
 text_count : (name : Name) → character_count (text_marks name) ≡ length name
 text_count name =
-    elim (is_plain name) as (λ b. character_count (if b then plain_marks name else Bar ∷ (quoted_marks name ++ Bar ∷ [])) ≡ length name) [
+    elim (is_portable_name name) as (λ b. character_count (if b then plain_marks name else Bar ∷ (quoted_marks name ++ Bar ∷ [])) ≡ length name) [
       | true ↦ plain_count name
       | false ↦ barred_count name
     ]

@@ -3,7 +3,7 @@ use Rattle.std.proofs.Common.{◌≡◌, ◌⊎◌, inl, inr, ℕ, List, [], ◌
 use Rattle.std.specs.List.{AllByRecursion}
 use Rattle.disk_trait.specs.Disk.{Image, State, IsHonest}
 use Rattle.gate_log.specs.Layout.{LogRecord}
-use Rattle.feeding_laws.specs.Feeding.{AreHanded, ArePlaced, FeedsAgain, Handing, IsFirst, account_after, request_of, rounds_of}
+use Rattle.feeding_laws.specs.Feeding.{AreHanded, ArePlaced, FeedsAgain, FrameHanding, IsFirst, account_after_frames, request_of, rounds_of_frames}
 use Rattle.feeding_laws.proofs.Stands.{Stands, alike, fed_later, first_stands, stands_after}
 use Rattle.message_frames.specs.Frames.{IsFrame, Sent}
 use Rattle.message_session.specs.Account.{Account, AreLogged, AreNext, AreStored, AreUnderWay, round_after, with_frames}
@@ -17,7 +17,7 @@ use Rattle.prevalence_store.specs.calls.Store.{StoreView}
 use Rattle.messages.specs.declared.request.Request.{Request}
 use Rattle.prevalence_store.specs.meaning.Acceptance.{after}
 use Rattle.prevalence_store.specs.meaning.Files.{MeansWorld}
-use Rattle.messages.specs.Answers.{Round, answered, begun, closed}
+use Rattle.messages.specs.Answers.{Round, answered, first_round, closed}
 use Rattle.messages.specs.Calls.{entries_by, left_after}
 use Rattle.prevalence_store.proofs.Surviving.{one_world}
 use Rattle.store_laws.specs.Rounds.{Place, after_rounds, begun_from, with_round}
@@ -41,7 +41,7 @@ records_at functions account frames = entries_by (round_after functions account 
 module _ (functions : Functions) {D : Type 0} where
   round_at : (place : Place) (account : Account D) → ArePlaced place account → (frames : List Sent) → answered functions (begun_from place) (map request_of frames) ≡ round_after functions account frames
   round_at place account placed frames =
-      ap closed (same_rounds functions (map request_of frames) frames (begun_from place) (alike frames)) ∙ (λ i. closed (each_frame functions (begun (placed.last i) (placed.world i)) frames))
+      ap closed (same_rounds functions (map request_of frames) frames (begun_from place) (alike frames)) ∙ (λ i. closed (each_frame functions (first_round (placed.last i) (placed.world i)) frames))
 
 -- How it stands with an account: the frames that were answered, and what a crash leaves.
 pub record IsAt (functions : Functions) {D : Type 0} (state : D → State) (first_last : ℕ) (first : WorldState) (account : Account D) : Type 0 where
@@ -85,24 +85,24 @@ module _ (functions : Functions) {D : Type 0} (state : D → State) where
 module _ (functions : Functions) {D R : Type 0} (state : D → State) where
   -- ---- one more
 
-  pub handed_further : (handings : List (Handing D R)) (account : Account D) (last : Handing D R) → AreHanded functions state account handings
-      → AreStored functions state (account_after functions account handings) last.store last.frames last.bytes → AreHanded functions state account (handings ++ last ∷ [])
+  pub handed_further : (handings : List (FrameHanding D R)) (account : Account D) (last : FrameHanding D R) → AreHanded functions state account handings
+      → AreStored functions state (account_after_frames functions account handings) last.store last.frames last.bytes → AreHanded functions state account (handings ++ last ∷ [])
   handed_further [] account last handed stored = (stored, tt)
   handed_further (one ∷ more) account last handed stored = (handed.0, handed_further more (with_frames functions one.frames one.store account) last handed.1 stored)
 
-  pub account_further : (handings : List (Handing D R)) (account : Account D) (last : Handing D R)
-      → account_after functions account (handings ++ last ∷ []) ≡ with_frames functions last.frames last.store (account_after functions account handings)
+  pub account_further : (handings : List (FrameHanding D R)) (account : Account D) (last : FrameHanding D R)
+      → account_after_frames functions account (handings ++ last ∷ []) ≡ with_frames functions last.frames last.store (account_after_frames functions account handings)
   account_further [] account last = refl
   account_further (one ∷ more) account last = account_further more (with_frames functions one.frames one.store account) last
 
   -- ---- as rounds
 
   -- the world of an account after frames that were stored
-  now_after : (account : Account D) (one : Handing D R) → AreStored functions state account one.store one.frames one.bytes
+  now_after : (account : Account D) (one : FrameHanding D R) → AreStored functions state account one.store one.frames one.bytes
       → (with_frames functions one.frames one.store account).now ≡ left_at functions account one.frames
   now_after account one stored = ap (λ o. unwrap_or o account.now) stored.known
 
-  one_placed : (place : Place) (account : Account D) → ArePlaced place account → (one : Handing D R) → AreStored functions state account one.store one.frames one.bytes
+  one_placed : (place : Place) (account : Account D) → ArePlaced place account → (one : FrameHanding D R) → AreStored functions state account one.store one.frames one.bytes
       → ArePlaced (with_round place (answered functions (begun_from place) (map request_of one.frames))) (with_frames functions one.frames one.store account)
   one_placed place account placed one stored =
       let same = round_at functions place account placed one.frames in
@@ -111,8 +111,8 @@ module _ (functions : Functions) {D R : Type 0} (state : D → State) where
         last = ap (λ (r : Round). r.last) same;
       }
 
-  pub placed_after : (handings : List (Handing D R)) (place : Place) (account : Account D) → ArePlaced place account → AreHanded functions state account handings
-      → ArePlaced (after_rounds functions place (rounds_of handings)) (account_after functions account handings)
+  pub placed_after : (handings : List (FrameHanding D R)) (place : Place) (account : Account D) → ArePlaced place account → AreHanded functions state account handings
+      → ArePlaced (after_rounds functions place (rounds_of_frames handings)) (account_after_frames functions account handings)
   placed_after [] place account placed handed = placed
   placed_after (one ∷ more) place account placed handed =
       placed_after more (with_round place (answered functions (begun_from place) (map request_of one.frames))) (with_frames functions one.frames one.store account)
@@ -121,7 +121,7 @@ module _ (functions : Functions) {D R : Type 0} (state : D → State) where
   -- ---- fed again
 
   module _ (first_last : ℕ) (first : WorldState) where
-    at_next : (account : Account D) → IsAt functions state first_last first account → (one : Handing D R) → AreStored functions state account one.store one.frames one.bytes
+    at_next : (account : Account D) → IsAt functions state first_last first account → (one : FrameHanding D R) → AreStored functions state account one.store one.frames one.bytes
         → IsAt functions state first_last first (with_frames functions one.frames one.store account)
     at_next account at one stored =
         let survives = stored.stored.survives at.honest in
@@ -133,27 +133,27 @@ module _ (functions : Functions) {D R : Type 0} (state : D → State) where
           keeps = subst (Keeps functions (state one.store.disk)) (sym now) (survives.kept (left_at functions account one.frames) stored.known);
         }
 
-    at_after : (handings : List (Handing D R)) (account : Account D) → IsAt functions state first_last first account → AreHanded functions state account handings → IsAt functions state first_last first (account_after functions account handings)
+    at_after : (handings : List (FrameHanding D R)) (account : Account D) → IsAt functions state first_last first account → AreHanded functions state account handings → IsAt functions state first_last first (account_after_frames functions account handings)
     at_after [] account at handed = at
     at_after (one ∷ more) account at handed = at_after more (with_frames functions one.frames one.store account) (at_next account at one handed.0) handed.1
 
-  module _ (account : Account D) (handings : List (Handing D R)) (more : List Sent) (image : Image) (now : WorldState) (first : IsFirst account)
+  module _ (account : Account D) (handings : List (FrameHanding D R)) (more : List Sent) (image : Image) (now : WorldState) (first : IsFirst account)
       (honest : IsHonest (state account.disk)) (keeps : Keeps functions (state account.disk) account.now) (handed : AreHanded functions state account handings) where
-    here : IsAt functions state account.last account.now (account_after functions account handings)
+    here : IsAt functions state account.last account.now (account_after_frames functions account handings)
     here = at_after account.last account.now handings account (at_first functions state account first honest keeps) handed
 
-    pub while_stored : (one : Handing D R) (stored : AreStored functions state (account_after functions account handings) one.store one.frames one.bytes)
-        → (state one.store.disk).left_since (state (account_after functions account handings).disk).moment image → MeansWorld functions image now
-        → FeedsAgain functions account.last account.now ((account_after functions account handings).answered ++ (one.frames ++ more)) now
+    pub while_stored : (one : FrameHanding D R) (stored : AreStored functions state (account_after_frames functions account handings) one.store one.frames one.bytes)
+        → (state one.store.disk).left_since (state (account_after_frames functions account handings).disk).moment image → MeansWorld functions image now
+        → FeedsAgain functions account.last account.now ((account_after_frames functions account handings).answered ++ (one.frames ++ more)) now
     while_stored one stored left means =
-        let far = account_after functions account handings in
+        let far = account_after_frames functions account handings in
         fed_by_image functions state account.last account.now far here one.frames stored.next
         ((stored.stored.survives here.honest).after_all (left_at functions far one.frames) stored.known) more image now means
         ((stored.stored.all_or_none here.honest).each image left)
 
-    pub while_ended : (store : StoreView D R) (since : AreUnderWay functions state (account_after functions account handings) store)
-        → (state store.disk).left_since (state (account_after functions account handings).disk).moment image → MeansWorld functions image now
-        → FeedsAgain functions account.last account.now ((account_after functions account handings).answered ++ (since.frames ++ more)) now
+    pub while_ended : (store : StoreView D R) (since : AreUnderWay functions state (account_after_frames functions account handings) store)
+        → (state store.disk).left_since (state (account_after_frames functions account handings).disk).moment image → MeansWorld functions image now
+        → FeedsAgain functions account.last account.now ((account_after_frames functions account handings).answered ++ (since.frames ++ more)) now
     while_ended store since left means =
-        fed_by_image functions state account.last account.now (account_after functions account handings) here since.frames since.next (since.made here.honest) more image now means
+        fed_by_image functions state account.last account.now (account_after_frames functions account handings) here since.frames since.next (since.made here.honest) more image now means
         ((since.logged.all_or_none here.honest).each image left)

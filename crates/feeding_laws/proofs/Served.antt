@@ -6,7 +6,7 @@ use Rattle.std.specs.Option.{option_and_then}
 use Rattle.std.proofs.lemmas.List.{append-nil}
 use Rattle.disk_trait.specs.Disk.{State}
 use Rattle.feeding_laws.specs.Feeding.{AreAnsweredAgain, FeedsAgain, is_over, over, told_position}
-use Rattle.message_frames.specs.Frames.{AreFrames, IsBegun, IsFrame, Sent, answer_bytes, frame_bytes, position_bytes}
+use Rattle.message_frames.specs.Frames.{AreFrames, IsBegunFrame, IsFrame, Sent, answer_bytes, frame_bytes, position_bytes}
 use Rattle.message_frames.specs.Lists.{SplitsOneWay}
 use Rattle.message_laws.specs.Near.{Near}
 use Rattle.message_session.specs.Answers.{answers_of, each_frame, session_bytes}
@@ -18,9 +18,9 @@ use Rattle.feeding_laws.proofs.Stands.{near_back}
 use Rattle.plist_state.specs.State.{WorldState}
 use Rattle.prevalence_store.specs.calls.Store.{StoreView}
 use Rattle.sessions.specs.Streams.{Writes}
-use Rattle.messages.specs.Answers.{Round, begun}
+use Rattle.messages.specs.Answers.{Round, first_round}
 use Rattle.messages.specs.Calls.{BeginsMessages}
-use Rattle.messages.specs.Position.{number_in, position}
+use Rattle.messages.specs.Position.{number_of_object, position}
 use Rattle.user_macros.specs.Functions.{Functions}
 
 -- those over a number are frames too
@@ -48,7 +48,7 @@ module _ (functions : Functions) {D R : Type 0} (state : D → State) (one_way :
         let worlds : Some begun_in ≡ Some now = sym begins.known ∙ ap (λ (s : StoreView D R). s.world) there.1 ∙ begins.same in
         ((let same : number ≡ p = cc in same), (let same : begun_in ≡ now = cc in same))
     by (inr set) =
-        let none : None ≡ Some p = sym (ap (λ o. option_and_then number_in o) set.1) ∙ told in
+        let none : None ≡ Some p = sym (ap (λ o. option_and_then number_of_object o) set.1) ∙ told in
         absurd (cc)
 
   again : told_position now ≡ p
@@ -56,16 +56,16 @@ module _ (functions : Functions) {D R : Type 0} (state : D → State) (one_way :
 
   record Feeds : Type 0 where
     answers : answers_of functions p now (over p frames) ≡ over p (answers_of functions last first frames)
-    near : Near (each_frame functions (begun p now) (over p frames)) (each_frame functions (begun last first) frames)
+    near : Near (each_frame functions (first_round p now) (over p frames)) (each_frame functions (first_round last first) frames)
 
   fed : Feeds
   fed = record {
     answers = subst (λ n. answers_of functions n now (over n frames) ≡ over n (answers_of functions last first frames)) again feeds.answers;
-    near = subst (λ n. Near (each_frame functions (begun n now) (over n frames)) (each_frame functions (begun last first) frames)) again feeds.near;
+    near = subst (λ n. Near (each_frame functions (first_round n now) (over n frames)) (each_frame functions (first_round last first) frames)) again feeds.near;
   }
 
   module _ (served : List Sent) (rest read : List ℕ) (parts : AreFrames text_limit served rest read) (is_read : read ≡ flat_map frame_bytes (over p frames)) where
-    pub all_served : IsBegun text_limit rest → served ≡ over p frames
+    pub all_served : IsBegunFrame text_limit rest → served ≡ over p frames
     all_served begun =
         (one_way text_limit (omega arith) (flat_map frame_bytes (over p frames)) served (over p frames) rest []
         (record { parts = subst (AreFrames text_limit served rest) is_read parts; whole = inl begun })
@@ -87,6 +87,6 @@ module _ (functions : Functions) {D R : Type 0} (state : D → State) (one_way :
         left = after.left;
         known = after.known;
         near = near_on functions _ _ _
-            (near_back _ _ (subst (λ (r : Round). Near r (begun ends.2 after.left)) (λ i. each_frame functions (begun (so.0 i) (so.1 i)) (all i)) after.near))
+            (near_back _ _ (subst (λ (r : Round). Near r (first_round ends.2 after.left)) (λ i. each_frame functions (first_round (so.0 i) (so.1 i)) (all i)) after.near))
             fed.near;
       }

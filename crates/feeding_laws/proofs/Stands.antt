@@ -11,7 +11,7 @@ use Rattle.lisp_object.specs.Object.{Object, integer, rational, character, text,
 use Rattle.feeding_laws.specs.Feeding.{FeedsAgain, IsFirst, over, request_of, told_position}
 use Rattle.feeding_laws.proofs.Over.{AreUpTo, Fed, are_up, bound_round, each_fed, each_least, none_over, none_told, over_append, up_both, up_to_round}
 use Rattle.message_frames.specs.Frames.{IsFrame, Sent}
-use Rattle.message_laws.specs.Batches.{Progress}
+use Rattle.message_laws.specs.Batches.{BatchProgress}
 use Rattle.message_laws.specs.Near.{IsTidy, Near}
 use Rattle.message_laws.proofs.Tidy.{sound_tidy}
 use Rattle.message_laws.proofs.Together.{StandsAt, near_itself, one_stands, stands_first}
@@ -20,9 +20,9 @@ use Rattle.message_session.specs.Answers.{AskAlike, answers_of, answers_to, each
 use Rattle.message_session.specs.Sessions.{text_limit}
 use Rattle.message_session.proofs.Rounds.{answers_append, both_rounds, same_rounds}
 use Rattle.plist_state.specs.State.{WorldState}
-use Rattle.messages.specs.Answers.{Round, begun, closed, each_request}
+use Rattle.messages.specs.Answers.{Round, first_round, closed, each_request}
 use Rattle.messages.specs.Calls.{left_after}
-use Rattle.messages.specs.Position.{number_in, position_property}
+use Rattle.messages.specs.Position.{number_of_object, position_property}
 use Rattle.store_laws.proofs.MessagesDone.{closed_at}
 use Rattle.user_macros.specs.Functions.{Functions}
 
@@ -35,7 +35,7 @@ alike [] = refl
 alike (frame ∷ frames) = ap (λ l. parts_of_frame frame ∷ l) (alike frames)
 
 -- what is told as a position has 64 bits
-number_bound : (x : Object) → unwrap_or (number_in x) 0 < 2 ^ 64
+number_bound : (x : Object) → unwrap_or (number_of_object x) 0 < 2 ^ 64
 number_bound (integer (pos n)) = by (nat_lt n (2 ^ 64)) refl where
   by : (b : Bool) → nat_lt n (2 ^ 64) ≡ b → unwrap_or (if b then Some n else None) 0 < 2 ^ 64
   by true is = omega (arith, ltb-true n (2 ^ 64) is)
@@ -49,14 +49,14 @@ number_bound (uninterned name) = omega arith
 number_bound (pair a b) = omega arith
 number_bound (vector xs) = omega arith
 
-told_bound : (o : Option Object) → unwrap_or (option_and_then number_in o) 0 < 2 ^ 64
+told_bound : (o : Option Object) → unwrap_or (option_and_then number_of_object o) 0 < 2 ^ 64
 told_bound None = omega arith
 told_bound (Some x) = number_bound x
 
 -- a position of 64 bits that is there is told
 told_there : (n : ℕ) → n < 2 ^ 64 → (w : WorldState) → position_property w ≡ Some (integer (pos n)) → told_position w ≡ n
 told_there n small w there =
-    ap (λ o. unwrap_or (option_and_then number_in o) 0) there ∙ ap (λ b. unwrap_or (if b then Some n else None) 0) (lt-ltb n (2 ^ 64) small)
+    ap (λ o. unwrap_or (option_and_then number_of_object o) 0) there ∙ ap (λ b. unwrap_or (if b then Some n else None) 0) (lt-ltb n (2 ^ 64) small)
 
 -- ---- a round that is closed
 
@@ -76,10 +76,10 @@ closed_wrote round = wrote_of round.wrote _ round refl
 
 module _ (functions : Functions) (first_last : ℕ) (first : WorldState) where
   abbrev all_of : List Sent → Round
-  all_of frames = each_frame functions (begun first_last first) frames
+  all_of frames = each_frame functions (first_round first_last first) frames
 
   abbrev again : WorldState → List Sent → Round
-  again now frames = each_frame functions (begun (told_position now) now) frames
+  again now frames = each_frame functions (first_round (told_position now) now) frames
 
   -- of these frames those over the position of a world may be fed again
   pub record AreFed (frames : List Sent) (now : WorldState) : Type 0 where
@@ -89,9 +89,9 @@ module _ (functions : Functions) (first_last : ℕ) (first : WorldState) where
 
   -- They were answered; the number of the last message is this one, and this the world.
   pub record Stands (frames : List Sent) (last : ℕ) (now : WorldState) : Type 0 where
-    pub small : (begun last now).last < 2 ^ 64
-    pub near : Near (all_of frames) (begun last now)
-    pub up_to : AreUpTo functions (begun last now).last frames
+    pub small : (first_round last now).last < 2 ^ 64
+    pub near : Near (all_of frames) (first_round last now)
+    pub up_to : AreUpTo functions (first_round last now).last frames
     pub fed : AreFed frames now
 
   module _ (frames : List Sent) (last : ℕ) (now : WorldState) (stands : Stands frames last now) (more : List Sent) where
@@ -104,10 +104,10 @@ module _ (functions : Functions) (first_last : ℕ) (first : WorldState) where
     over_both = over_append (told_position now) frames more
 
     again_both : again now (over (told_position now) (frames ++ more)) ≡ each_frame functions (again now (over (told_position now) frames)) (over (told_position now) more)
-    again_both = ap (again now) over_both ∙ both_rounds functions (over (told_position now) frames) (over (told_position now) more) (begun (told_position now) now)
+    again_both = ap (again now) over_both ∙ both_rounds functions (over (told_position now) frames) (over (told_position now) more) (first_round (told_position now) now)
 
     all_both : all_of (frames ++ more) ≡ each_frame functions (all_of frames) more
-    all_both = both_rounds functions frames more (begun first_last first)
+    all_both = both_rounds functions frames more (first_round first_last first)
 
     pub fed_later : AreFed (frames ++ more) now
     fed_later = record {
@@ -139,54 +139,54 @@ module _ (functions : Functions) (first_last : ℕ) (first : WorldState) where
     -- ---- they were answered together
 
     abbrev closing : Round
-    closing = closed (each_frame functions (begun last now) more)
+    closing = closed (each_frame functions (first_round last now) more)
 
     abbrev left : WorldState
     left = left_after closing.wrote now closing.left
 
-    raised : (begun (begun last now).last now).last ≡ (begun last now).last
+    raised : (first_round (first_round last now).last now).last ≡ (first_round last now).last
     raised = (stands_first functions last now stands.near.other_tidy).raised
 
-    same_begun : begun (begun last now).last now ≡ begun last now
+    same_begun : first_round (first_round last now).last now ≡ first_round last now
     same_begun = λ i. record { told = []; last = raised i; left = now; entries = []; wrote = false }
 
     record Closes (x y : Round) : Type 0 where
-      near : Near x (begun (closed y).last (left_after (closed y).wrote now (closed y).left))
-      raised : (begun (closed y).last (left_after (closed y).wrote now (closed y).left)).last ≡ (closed y).last
+      near : Near x (first_round (closed y).last (left_after (closed y).wrote now (closed y).left))
+      raised : (first_round (closed y).last (left_after (closed y).wrote now (closed y).left)).last ≡ (closed y).last
 
-    by_requests : Closes (each_request functions (all_of frames) (map request_of more)) (each_request functions (begun (begun last now).last now) (map request_of more))
+    by_requests : Closes (each_request functions (all_of frames) (map request_of more)) (each_request functions (first_round (first_round last now).last now) (map request_of more))
     by_requests =
-        let at : StandsAt functions (all_of frames) (record { told = (all_of frames).told; last = (begun last now).last; world = now }) = record {
+        let at : StandsAt functions (all_of frames) (record { told = (all_of frames).told; last = (first_round last now).last; world = now }) = record {
           told = refl;
           near = subst (Near (all_of frames)) (sym same_begun) stands.near;
           raised = raised;
         } in
-        let one = one_stands functions (map request_of more) (all_of frames) (record { told = (all_of frames).told; last = (begun last now).last; world = now }) at in
+        let one = one_stands functions (map request_of more) (all_of frames) (record { told = (all_of frames).told; last = (first_round last now).last; world = now }) at in
         record { near = one.near; raised = one.raised }
 
-    closes : Closes (all_of (frames ++ more)) (each_frame functions (begun last now) more)
+    closes : Closes (all_of (frames ++ more)) (each_frame functions (first_round last now) more)
     closes =
-        subst (λ (x : Round). Closes x (each_frame functions (begun last now) more))
+        subst (λ (x : Round). Closes x (each_frame functions (first_round last now) more))
         (same_rounds functions (map request_of more) more (all_of frames) (alike more) ∙ sym all_both)
         (subst (Closes (each_request functions (all_of frames) (map request_of more)))
-        (ap (λ (r : Round). each_request functions r (map request_of more)) same_begun ∙ same_rounds functions (map request_of more) more (begun last now) (alike more))
+        (ap (λ (r : Round). each_request functions r (map request_of more)) same_begun ∙ same_rounds functions (map request_of more) more (first_round last now) (alike more))
         by_requests)
 
     module _ (each : AllByRecursion (IsFrame text_limit) more) where
-      small_after : (closed (each_frame functions (begun last now) more)).last < 2 ^ 64
+      small_after : (closed (each_frame functions (first_round last now) more)).last < 2 ^ 64
       small_after =
-          omega (arith, closed_last (each_frame functions (begun last now) more), bound_round functions text_limit more (begun last now) each stands.small)
+          omega (arith, closed_last (each_frame functions (first_round last now) more), bound_round functions text_limit more (first_round last now) each stands.small)
 
-      up_after : (m : ℕ) → (each_frame functions (begun last now) more).last ≤ m → AreUpTo functions m (frames ++ more)
+      up_after : (m : ℕ) → (each_frame functions (first_round last now) more).last ≤ m → AreUpTo functions m (frames ++ more)
       up_after m least =
           up_both functions m frames more
-          (are_up functions (begun last now).last m (omega (arith, least, each_least functions more (begun last now))) frames stands.up_to)
-          (are_up functions (each_frame functions (begun last now) more).last m least more (up_to_round functions more (begun last now)))
+          (are_up functions (first_round last now).last m (omega (arith, least, each_least functions more (first_round last now))) frames stands.up_to)
+          (are_up functions (each_frame functions (first_round last now) more).last m least more (up_to_round functions more (first_round last now)))
 
       -- a message of them wrote: none is over the position then
-      fed_written : (each_frame functions (begun last now) more).wrote ≡ true → AreFed (frames ++ more) left
+      fed_written : (each_frame functions (first_round last now) more).wrote ≡ true → AreFed (frames ++ more) left
       fed_written wrote =
-          let round = each_frame functions (begun last now) more in
+          let round = each_frame functions (first_round last now) more in
           let here : (closed round).wrote ≡ true = closed_wrote round ∙ wrote in
           let there : position_property left ≡ Some (integer (pos (closed round).last)) =
           ap (λ b. position_property (left_after b now (closed round).left)) here ∙ closed_at round round.wrote refl here in
@@ -197,30 +197,30 @@ module _ (functions : Functions) (first_last : ℕ) (first : WorldState) where
             count = fed_later.count;
             count_again = subst (λ fs. length (again left fs).told ≡ length fs) (sym none) refl;
             feeds = record {
-              no_less = omega (arith, stands.fed.feeds.no_less, told, closed_last round, each_least functions more (begun last now));
+              no_less = omega (arith, stands.fed.feeds.no_less, told, closed_last round, each_least functions more (first_round last now));
               answers = ap (answers_of functions (told_position left) left) none ∙ sym (none_told functions (told_position left) (frames ++ more) (all_of (frames ++ more)).told up);
               near = subst (λ fs. Near (again left fs) (all_of (frames ++ more))) (sym none)
-                  (subst (λ m. Near (begun m left) (all_of (frames ++ more))) (sym told) (near_back (all_of (frames ++ more)) _ closes.near));
+                  (subst (λ m. Near (first_round m left) (all_of (frames ++ more))) (sym told) (near_back (all_of (frames ++ more)) _ closes.near));
             };
           }
 
       -- none did: the world is as it was
-      fed_silent : (each_frame functions (begun last now) more).wrote ≡ false → AreFed (frames ++ more) left
+      fed_silent : (each_frame functions (first_round last now) more).wrote ≡ false → AreFed (frames ++ more) left
       fed_silent none =
-          let round = each_frame functions (begun last now) more in
+          let round = each_frame functions (first_round last now) more in
           subst (AreFed (frames ++ more)) (sym (ap (λ b. left_after b now (closed round).left) (closed_wrote round ∙ none))) fed_later
 
-      fed_after : (wrote : Bool) → (each_frame functions (begun last now) more).wrote ≡ wrote → AreFed (frames ++ more) left
+      fed_after : (wrote : Bool) → (each_frame functions (first_round last now) more).wrote ≡ wrote → AreFed (frames ++ more) left
       fed_after true is = fed_written is
       fed_after false is = fed_silent is
 
-      pub stands_after : Stands (frames ++ more) (closed (each_frame functions (begun last now) more)).last
-          (left_after (closed (each_frame functions (begun last now) more)).wrote now (closed (each_frame functions (begun last now) more)).left)
+      pub stands_after : Stands (frames ++ more) (closed (each_frame functions (first_round last now) more)).last
+          (left_after (closed (each_frame functions (first_round last now) more)).wrote now (closed (each_frame functions (first_round last now) more)).left)
       stands_after = record {
         small = omega (arith, closes.raised, small_after);
         near = closes.near;
-        up_to = up_after _ (omega (arith, closes.raised, closed_last (each_frame functions (begun last now) more)));
-        fed = fed_after (each_frame functions (begun last now) more).wrote refl;
+        up_to = up_after _ (omega (arith, closes.raised, closed_last (each_frame functions (first_round last now) more)));
+        fed = fed_after (each_frame functions (first_round last now) more).wrote refl;
       }
 
 -- before the first frame
@@ -229,7 +229,7 @@ first_stands functions account first =
     let tidy : IsTidy account.now.properties = sound_tidy account.now first.sound in
     record {
       small = omega (arith, first.told, told_bound (position_property account.now));
-      near = near_itself functions (begun account.last account.now) tidy;
+      near = near_itself functions (first_round account.last account.now) tidy;
       up_to = tt;
       fed = record {
         count = refl;

@@ -10,7 +10,7 @@ use Rattle.message_frames.specs.declared.frame.Kind.TheVariants.{Do, Ask}
 use Rattle.message_laws.specs.Near.{Near}
 use Rattle.message_session.specs.Answers.{answers_of, each_frame}
 use Rattle.plist_state.specs.State.{WorldState}
-use Rattle.messages.specs.Answers.{Round, begun}
+use Rattle.messages.specs.Answers.{Round, first_round}
 use Rattle.user_macros.specs.Functions.{Functions}
 
 near_on : (a b c : Round) → Near a b → Near b c → Near a c
@@ -40,5 +40,5 @@ fed_on functions last first middle now frames before after =
     record {
       no_less = omega (arith, before.no_less, after.no_less);
       answers = ap (answers_of functions q now) (sym (twice frames)) ∙ after.answers ∙ ap (over q) before.answers ∙ twice (answers_of functions last first frames);
-      near = near_on _ _ _ (subst (λ fs. Near (each_frame functions (begun q now) fs) (each_frame functions (begun p middle) (over p frames))) (twice frames) after.near) before.near;
+      near = near_on _ _ _ (subst (λ fs. Near (each_frame functions (first_round q now) fs) (each_frame functions (first_round p middle) (over p frames))) (twice frames) after.near) before.near;
     }

@@ -13,7 +13,7 @@ use Rattle.plist_state.specs.State.{WorldState}
 use Rattle.prevalence_store.specs.calls.Store.{StoreView}
 use Rattle.sessions.specs.Streams.{Writes}
 use Rattle.messages.specs.declared.request.Request.{Request}
-use Rattle.messages.specs.Answers.{begun}
+use Rattle.messages.specs.Answers.{first_round}
 use Rattle.messages.specs.Position.{position}
 use Rattle.store_laws.specs.Rounds.{Place}
 use Rattle.user_macros.specs.Functions.{Functions}
@@ -21,18 +21,18 @@ use Rattle.user_macros.specs.Functions.{Functions}
 -- ---- what was handed on
 
 -- the answers to these frames, and the store as they were handed on
-pub record Handing (D R : Type 0) : Type 0 where
+pub record FrameHanding (D R : Type 0) : Type 0 where
   pub store : StoreView D R
   pub bytes : List ℕ
   pub frames : List Sent
 
 -- the account after them
-abbrev pub account_after : Functions → {D R : Type 0} → Account D → List (Handing D R) → Account D
-account_after functions account [] = account
-account_after functions account (one ∷ more) = account_after functions (with_frames functions one.frames one.store account) more
+abbrev pub account_after_frames : Functions → {D R : Type 0} → Account D → List (FrameHanding D R) → Account D
+account_after_frames functions account [] = account
+account_after_frames functions account (one ∷ more) = account_after_frames functions (with_frames functions one.frames one.store account) more
 
 -- each as the recipient asks
-abbrev pub AreHanded : Functions → {D R : Type 0} → (D → State) → Account D → List (Handing D R) → Type 0
+abbrev pub AreHanded : Functions → {D R : Type 0} → (D → State) → Account D → List (FrameHanding D R) → Type 0
 AreHanded functions state account [] = Unit {0}
 AreHanded functions state account (one ∷ more) =
     AreStored functions state account one.store one.frames one.bytes × AreHanded functions state (with_frames functions one.frames one.store account) more
@@ -49,8 +49,8 @@ pub record IsFirst {D : Type 0} (account : Account D) : Type 0 where
 abbrev pub request_of : Sent → Request
 request_of frame = record { number = message_number frame.0; text = record { ref_ptr = (0, 0); now = frame.1 } }
 
-abbrev pub rounds_of : {D R : Type 0} → List (Handing D R) → List (List Request)
-rounds_of handings = map (λ one. map request_of one.frames) handings
+abbrev pub rounds_of_frames : {D R : Type 0} → List (FrameHanding D R) → List (List Request)
+rounds_of_frames handings = map (λ one. map request_of one.frames) handings
 
 -- the account tells of this place
 pub record ArePlaced {D : Type 0} (place : Place) (account : Account D) : Type 0 where
@@ -79,7 +79,7 @@ told_position world = unwrap_or (position world) 0
 pub record FeedsAgain (functions : Functions) (last : ℕ) (first : WorldState) (frames : List Sent) (now : WorldState) : Type 0 where
   pub no_less : told_position first ≤ told_position now
   pub answers : answers_of functions (told_position now) now (over (told_position now) frames) ≡ over (told_position now) (answers_of functions last first frames)
-  pub near : Near (each_frame functions (begun (told_position now) now) (over (told_position now) frames)) (each_frame functions (begun last first) frames)
+  pub near : Near (each_frame functions (first_round (told_position now) now) (over (told_position now) frames)) (each_frame functions (first_round last first) frames)
 
 -- ---- by a session
 
@@ -91,4 +91,4 @@ module _ (functions : Functions) {D R : Type 0} (store : StoreView D R) (last : 
     pub now_last : ℕ
     pub left : WorldState
     pub known : store.world ≡ Some left
-    pub near : Near (begun now_last left) (each_frame functions (begun last first) frames)
+    pub near : Near (first_round now_last left) (each_frame functions (first_round last first) frames)

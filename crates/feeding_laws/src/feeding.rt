@@ -2,7 +2,7 @@
 ghost use Rattle.std.specs.Prelude.{◌≡◌, ℕ, List, [], ◌∷◌, ◌++◌, Option, Some};
 ghost use Rattle.std.specs.List.{AllByRecursion, flat_map};
 ghost use Rattle.disk_trait.specs.Disk.{Image, IsHonest};
-ghost use Rattle.feeding_laws.specs.Feeding.{AreAnsweredAgain, AreHanded, ArePlaced, FeedsAgain, Handing, IsFirst, account_after, over, rounds_of, told_position};
+ghost use Rattle.feeding_laws.specs.Feeding.{AreAnsweredAgain, AreHanded, ArePlaced, FeedsAgain, FrameHanding, IsFirst, account_after_frames, over, rounds_of_frames, told_position};
 ghost use Rattle.message_frames.specs.Frames.{IsFrame, Sent, frame_bytes};
 ghost use Rattle.message_session.specs.Account.{Account, AreStored, AreUnderWay, with_frames};
 ghost use Rattle.message_session.specs.Sessions.{ServesMessages, text_limit};
@@ -28,28 +28,28 @@ use message_session::Ended;
 ///   answers that they have among all frames, and then the last number and the world are those after all, but for the position.
 /// - `while_ended`: so it is at any moment up to the end of the session.
 pub fn feeding_again<D: Disk, R>()
-    ensures further { (functions : Functions) (account : Account D) (handings : List (Handing D R)) (last : Handing D R)
+    ensures further { (functions : Functions) (account : Account D) (handings : List (FrameHanding D R)) (last : FrameHanding D R)
         → AreHanded functions D.state account handings
-        → AreStored functions D.state (account_after functions account handings) last.store last.frames last.bytes
+        → AreStored functions D.state (account_after_frames functions account handings) last.store last.frames last.bytes
         → AreHanded functions D.state account (handings ++ last ∷ [])
-        × (account_after functions account (handings ++ last ∷ []) ≡ with_frames functions last.frames last.store (account_after functions account handings)) }
-    ensures in_rounds { (functions : Functions) (account : Account D) (handings : List (Handing D R))
+        × (account_after_frames functions account (handings ++ last ∷ []) ≡ with_frames functions last.frames last.store (account_after_frames functions account handings)) }
+    ensures in_rounds { (functions : Functions) (account : Account D) (handings : List (FrameHanding D R))
         → AreHanded functions D.state account handings
-        → ArePlaced (after_rounds functions (place_at account.last account.now) (rounds_of handings)) (account_after functions account handings) }
-    ensures while_stored { (functions : Functions) (account : Account D) (handings : List (Handing D R)) (one : Handing D R)
+        → ArePlaced (after_rounds functions (place_at account.last account.now) (rounds_of_frames handings)) (account_after_frames functions account handings) }
+    ensures while_stored { (functions : Functions) (account : Account D) (handings : List (FrameHanding D R)) (one : FrameHanding D R)
         → (more : List Sent) (image : Image) (now : WorldState)
         → IsFirst account → IsHonest (D.state account.disk) → Keeps functions (D.state account.disk) account.now
         → AreHanded functions D.state account handings
-        → AreStored functions D.state (account_after functions account handings) one.store one.frames one.bytes
-        → (D.state one.store.disk).left_since (D.state (account_after functions account handings).disk).moment image → MeansWorld functions image now
-        → FeedsAgain functions account.last account.now ((account_after functions account handings).answered ++ (one.frames ++ more)) now }
-    ensures while_ended { (functions : Functions) (account : Account D) (handings : List (Handing D R)) (store : StoreView D R)
+        → AreStored functions D.state (account_after_frames functions account handings) one.store one.frames one.bytes
+        → (D.state one.store.disk).left_since (D.state (account_after_frames functions account handings).disk).moment image → MeansWorld functions image now
+        → FeedsAgain functions account.last account.now ((account_after_frames functions account handings).answered ++ (one.frames ++ more)) now }
+    ensures while_ended { (functions : Functions) (account : Account D) (handings : List (FrameHanding D R)) (store : StoreView D R)
         → (more : List Sent) (image : Image) (now : WorldState)
         → IsFirst account → IsHonest (D.state account.disk) → Keeps functions (D.state account.disk) account.now
         → AreHanded functions D.state account handings
-        → (since : AreUnderWay functions D.state (account_after functions account handings) store)
-        → (D.state store.disk).left_since (D.state (account_after functions account handings).disk).moment image → MeansWorld functions image now
-        → FeedsAgain functions account.last account.now ((account_after functions account handings).answered ++ (since.frames ++ more)) now }
+        → (since : AreUnderWay functions D.state (account_after_frames functions account handings) store)
+        → (D.state store.disk).left_since (D.state (account_after_frames functions account handings).disk).moment image → MeansWorld functions image now
+        → FeedsAgain functions account.last account.now ((account_after_frames functions account handings).answered ++ (since.frames ++ more)) now }
 {}
 
 /// A session over a store that has a position, whose input are the messages over it, of all these frames, and no more: where they may be fed

@@ -14,7 +14,7 @@ use Rattle.form_reader.specs.declared.reader.Advance.{Advance}
 use Rattle.form_reader.specs.declared.reader.Advance.TheVariants.{More as AdvanceMore, Form as AdvanceForm, Refused as AdvanceRefused}
 use Rattle.form_reader.specs.declared.reader.ReadOutcome.{ReadOutcome}
 use Rattle.form_reader.specs.declared.reader.ReadOutcome.TheVariants as outcomes
-use Rattle.form_reader.specs.Reader.{begun, Feeds, HasBegun, IsAfter, IsOutcome, RefusesFrom, Steps, StepsBegun}
+use Rattle.form_reader.specs.Reader.{begun, FeedsReader, HasBegun, IsAfter, IsOutcome, RefusesFrom, Steps, StepsBegun}
 use Rattle.form_check.specs.Checking.{IsBeginning, ending}
 use Rattle.form_check.specs.declared.begin.Beginning.TheVariants as begins
 
@@ -25,7 +25,7 @@ FormsFit = (setting : Setting) (text : List ℕ) (x : Object) (start «end» nex
 abbrev pub RefusalsFit : Type 0
 RefusalsFit = (setting : Setting) (text : List ℕ) (number offset : ℕ) → reads setting text ≡ refused number offset → offset ≤ length text
 
-pub form_begins : (setting : Setting) (new : FormReader) (text : List ℕ) (count : ℕ) (step : Advance) → Feeds setting new [] text count step
+pub form_begins : (setting : Setting) (new : FormReader) (text : List ℕ) (count : ℕ) (step : Advance) → FeedsReader setting new [] text count step
     → (datum : Datum) (start «end» next : ℕ) → step ≡ AdvanceForm datum start «end» next → FormsFit → IsBeginning setting text (begins.Form next)
 form_begins setting new text count step feeds datum start «end» next is fit =
     let steps : Steps setting new (take count text) (AdvanceForm datum start «end» next) = subst (Steps setting new (take count text)) is feeds.steps in
@@ -33,7 +33,7 @@ form_begins setting new text count step feeds datum start «end» next is fit =
     subst (λ (t : List ℕ). reads setting t ≡ form (object_of datum) start «end» next) (take-append-drop count text) (steps.0 (drop count text)) in
     (object_of datum, start, «end», read, fit setting text (object_of datum) start «end» next read)
 
-pub refusal_begins : (setting : Setting) (new : FormReader) (text : List ℕ) (count : ℕ) (step : Advance) → count ≤ length text → Feeds setting new [] text count step
+pub refusal_begins : (setting : Setting) (new : FormReader) (text : List ℕ) (count : ℕ) (step : Advance) → count ≤ length text → FeedsReader setting new [] text count step
     → StepsBegun setting new (take count text) step → (number at : ℕ) → step ≡ AdvanceRefused number at → RefusalsFit
     → (start : ℕ) → start ≡ begun new → IsBeginning setting text (begins.Refused number start at)
 refusal_begins setting new text count step within feeds has number at is fit start same =
@@ -47,7 +47,7 @@ refusal_begins setting new text count step within feeds has number at is fit sta
     (read, from ∙ sym same, omega (arith, far, size, within, same), fit setting text number at read)
 
 -- where all of the text was fed, it is after it
-pub whole_fed : (setting : Setting) (new : FormReader) (text : List ℕ) (count : ℕ) (step : Advance) → Feeds setting new [] text count step
+pub whole_fed : (setting : Setting) (new : FormReader) (text : List ℕ) (count : ℕ) (step : Advance) → FeedsReader setting new [] text count step
     → step ≡ AdvanceMore → count ≡ length text → IsAfter setting new text
 whole_fed setting new text count step feeds is all =
     let steps : Steps setting new (take count text) AdvanceMore = subst (Steps setting new (take count text)) is feeds.steps in

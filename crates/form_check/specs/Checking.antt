@@ -15,11 +15,11 @@ use Rattle.form_check.specs.declared.begin.Beginning.TheVariants as begins
 use Rattle.form_check.specs.declared.checking.Unreadable.{Unreadable}
 
 -- the limits of a form
-abbrev pub form_limits : Limits
-form_limits = record { text = 1048576; token = 4096; nesting = 100 }
+abbrev pub checked_limits : Limits
+checked_limits = record { text = 1048576; token = 4096; nesting = 100 }
 
 abbrev pub setting_under : Table → ℕ → Packages → Name → Functions → Setting
-setting_under table base packages current functions = setting_of form_limits table base packages current functions
+setting_under table base packages current functions = setting_of checked_limits table base packages current functions
 
 -- what comes after the first end of a line
 unfoldable pub after_line : List ℕ → List ℕ

@@ -9,7 +9,7 @@ use Rattle.std.proofs.Common.{◌≡◌, ◌≤◌, ℕ, Bool, true, false, List
 use Rattle.lisp_object.specs.Object.{Object}
 use Rattle.package_table.specs.declared.error.PackageError.{PackageError}
 use Rattle.package_table.specs.Table.{Name, Table}
-use Rattle.package_table.specs.Errors.{number_of}
+use Rattle.package_table.specs.Errors.{package_error_number}
 use Rattle.package_table.specs.Changes.{after_intern, intern_changes}
 use Rattle.plist_state.specs.Properties.{Symbol}
 use Rattle.plist_state.specs.State.{WorldState}
@@ -88,7 +88,7 @@ module _ (names : List Name) where
       → (accepted_by true names s r x ≡ Ok d) × (d.state.read_base ≡ s.read_base)
   with_symbols_without_base s (Ok p) x d is =
       also_without_base s p.1 (value_by false names (with_packages s p.0) x) (value_by true names (with_packages s p.0) x) d (λ e. value_without_base names (with_packages s p.0) x e) is
-  with_symbols_without_base s (Err e) x d is = absurd (let no : Err (number_of e) ≡ Ok d = is in cc)
+  with_symbols_without_base s (Err e) x d is = absurd (let no : Err (package_error_number e) ≡ Ok d = is in cc)
 
   pub accepted_without_base : (s : WorldState) (x : Object) (d : Done Object) → accept_by false names s x ≡ Ok d → (accept_by true names s x ≡ Ok d) × (d.state.read_base ≡ s.read_base)
   accepted_without_base s x d is = with_symbols_without_base s (with_symbols s.packages (symbols x)) x d is
@@ -102,7 +102,7 @@ module _ (based : Bool) (fewer more : OperatorTable) (wider : (s : WorldState) (
   with_symbols_too : (s : WorldState) (r : Result (Table × Bool) PackageError) (x : Object) (d : Done Object) → accepted_over based fewer s r x ≡ Ok d → accepted_over based more s r x ≡ Ok d
   with_symbols_too s (Ok p) x d is =
       also_too p.1 (value_over based fewer (with_packages s p.0) x) (value_over based more (with_packages s p.0) x) d (wider (with_packages s p.0) x) is
-  with_symbols_too s (Err e) x d is = absurd (let no : Err (number_of e) ≡ Ok d = is in cc)
+  with_symbols_too s (Err e) x d is = absurd (let no : Err (package_error_number e) ≡ Ok d = is in cc)
 
   pub accepted_with_values : (s : WorldState) (x : Object) (d : Done Object) → accept_over based fewer s x ≡ Ok d → accept_over based more s x ≡ Ok d
   accepted_with_values s x d is = with_symbols_too s (with_symbols s.packages (symbols x)) x d is

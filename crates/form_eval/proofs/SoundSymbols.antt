@@ -31,7 +31,7 @@ use Rattle.evaluator.specs.Value.{value}
 use Rattle.package_table.specs.Symbols.{symbols}
 use Rattle.form_eval.specs.Acceptance.{table_of, after_symbol, with_symbols, accepted_by, accept}
 use Rattle.lisp_operators.specs.Readtables.{AreFunctionNames}
-use Rattle.form_eval.specs.Laws.{Fits, IsForm, IsSoundAfter}
+use Rattle.form_eval.specs.Laws.{FitsTable, IsForm, IsSoundAfter}
 use Rattle.lisp_operators.proofs.Good.{Goods, goods_also}
 use Rattle.lisp_operators.proofs.Unmoved.{passed, same_ok}
 use Rattle.evaluator.proofs.SoundForms.{value_safe}
@@ -122,7 +122,7 @@ all_interned u wrote (y ∷ ys) sound all =
     ] refl
 
 -- ---- the symbols of an object
-pub symbols_can : (u : Table) (x : Object) → object.IsSound x → AllAtoms (Fits u) x → All (CanIntern u) (symbols x)
+pub symbols_can : (u : Table) (x : Object) → object.IsSound x → AllAtoms (FitsTable u) x → All (CanIntern u) (symbols x)
 symbols_can u (symbol home name) sound fits = All-cons (CanIntern u) (home, name) [] (record { fits = fits; ascii = sound.1 }) (All-nil (CanIntern u))
 symbols_can u (pair a b) sound fits = All-append (CanIntern u) (symbols a) (symbols b) (symbols_can u a sound.0 fits.0) (symbols_can u b sound.1 fits.1)
 symbols_can u (vector xs) sound fits = symbols_can u xs sound.0 fits
@@ -138,7 +138,7 @@ both_parts P (x ∷ xs) ys all =
     let later = both_parts P xs ys (All-tail P x (xs ++ ys) all) in
     (All-cons P x xs (All-head P x (xs ++ ys) all) later.0, later.1)
 
-pub known_from : (u v : Table) (x : Object) → AllAtoms (Fits u) x → All (IsSymbol v) (symbols x) → AllAtoms (IsKnown v) x
+pub known_from : (u v : Table) (x : Object) → AllAtoms (FitsTable u) x → All (IsSymbol v) (symbols x) → AllAtoms (IsKnown v) x
 known_from u v (symbol home name) fits all = All-head (IsSymbol v) (home, name) [] all
 known_from u v (pair a b) fits all =
     let both = both_parts (IsSymbol v) (symbols a) (symbols b) all in

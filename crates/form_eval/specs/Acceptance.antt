@@ -3,7 +3,7 @@ use Rattle.std.specs.Prelude.{Bool, true, false, List, Result, Ok, Err}
 use Rattle.lisp_object.specs.Object.{Object}
 use Rattle.package_table.specs.declared.error.PackageError.{PackageError}
 use Rattle.package_table.specs.Table.{Name, Table}
-use Rattle.package_table.specs.Errors.{number_of}
+use Rattle.package_table.specs.Errors.{package_error_number}
 use Rattle.package_table.specs.Symbols.{symbols}
 use Rattle.package_table.specs.Changes.{after_intern, intern_changes}
 use Rattle.plist_state.specs.Properties.{Symbol}
@@ -37,7 +37,7 @@ with_symbols packages xs = one_by_one after_symbol is_new packages false xs
 -- test in front is whether *READ-BASE* is a variable, as it is for `accept`. A table says which objects are operators.
 abbrev pub accepted_over : Bool → OperatorTable → WorldState → Result (Table × Bool) PackageError → Object → Evaluation Object
 accepted_over based table s (Ok p) x = also p.1 (value_over based table (with_packages s p.0) x)
-accepted_over based table s (Err e) x = Err (number_of e)
+accepted_over based table s (Err e) x = Err (package_error_number e)
 
 abbrev pub accept_over : Bool → OperatorTable → WorldState → Object → Evaluation Object
 accept_over based table s x = accepted_over based table s (with_symbols s.packages (symbols x)) x
@@ -60,7 +60,7 @@ Transacts names x old new result = Answers done result new (accept names old x)
 -- there as it is evaluated. That one of them is new does not count.
 abbrev pub asked_with : List Name → WorldState → Result (Table × Bool) PackageError → Object → Evaluation Object
 asked_with names s (Ok p) x = value names (with_packages s p.0) x
-asked_with names s (Err e) x = Err (number_of e)
+asked_with names s (Err e) x = Err (package_error_number e)
 
 abbrev pub asked : List Name → WorldState → Object → Evaluation Object
 asked names s x = asked_with names s (with_symbols s.packages (symbols x)) x

@@ -15,16 +15,16 @@ use Rattle.lisp_operators.specs.Evaluation.{Done}
 
 -- The home of an interned symbol finds no other symbol by its name, and the name of an uninterned one has at most 4,096
 -- characters.
-abbrev pub Fits : Table → Object → Type 0
-Fits t (symbol home name) = (h : Name) → found t home name ≡ Some h → h ≡ home
-Fits t (uninterned name) = length name ≤ 4096
-Fits t _ = Unit {0}
+abbrev pub FitsTable : Table → Object → Type 0
+FitsTable t (symbol home name) = (h : Name) → found t home name ≡ Some h → h ≡ home
+FitsTable t (uninterned name) = length name ≤ 4096
+FitsTable t _ = Unit {0}
 
 -- a form: an object of depth at most 100 whose symbols fit
 pub record IsForm (t : Table) (x : Object) : Type 0 where
   pub object : object.IsSound x
   pub depth : object_depth x ≤ 100
-  pub symbols : AllAtoms (Fits t) x
+  pub symbols : AllAtoms (FitsTable t) x
 
 -- A form that was read may be evaluated in these packages. Where its symbols are known to be there, they are.
 pub record MayEvaluate (t : Table) (read : ReadForm) : Type 0 where

@@ -24,7 +24,7 @@ use Rattle.form_reader.specs.declared.state.State.TheVariants.{Object as AtObjec
 use Rattle.form_reader.specs.declared.step.Change.{Change}
 use Rattle.form_reader.specs.declared.step.Change.TheVariants.{Goes, Form as ChangeForm, Refused as ChangeRefused}
 use Rattle.std.specs.declared.alloc.AllocError.{AllocError}
-use Rattle.form_reader.specs.Step.{is_space, outcome_of, start_of, verdict_of, ChangesTo, BeginsAnew, EndsBefore, Starts}
+use Rattle.form_reader.specs.Step.{is_space, outcome_of, start_of, verdict_of, ChangesTo, BeginsAnew, AttemptEndsBefore, Starts}
 use Rattle.form_reader.specs.State.{state_gives}
 use Rattle.form_reader.specs.EndOfText.{RefusesIn}
 use Rattle.form_reader.specs.declared.reader.ReadOutcome.{ReadOutcome}
@@ -211,7 +211,7 @@ module _ (setting : Setting) (old : FormReader) (state : State) (bytes : List �
       ap (is_whitespace setting.table) (sym same) ∙ other (has.between (omega (arith, after.0, here))) some)
 
   -- it came to nothing before the byte
-  ended_begins : EndsBefore setting old.stack state old.at byte → BeginsAt setting (bytes ++ byte ∷ []) (old.start + old.at)
+  ended_begins : AttemptEndsBefore setting old.stack state old.at byte → BeginsAt setting (bytes ++ byte ∷ []) (old.start + old.at)
   ended_begins ends =
       let at_end = ended_there setting old.stack old.at byte (nothing ends.token) state (ends.found []) in
       let none : reads setting bytes ≡ empty =
@@ -251,7 +251,7 @@ module _ (setting : Setting) (old : FormReader) (state : State) (bytes : List �
       has_begun begins =
           record { goes_on = (there, takes.4); begins = subst (BeginsAt setting (bytes ++ byte ∷ [])) (sym takes.1) begins; between = between; decides = decides }
 
-      later : IsOther → 0 < at → (start ≡ old.start) ⊎ ((at ≡ 0) ⊎ ((start ≡ old.start + old.at) × EndsBefore setting old.stack state old.at byte))
+      later : IsOther → 0 < at → (start ≡ old.start) ⊎ ((at ≡ 0) ⊎ ((start ≡ old.start + old.at) × AttemptEndsBefore setting old.stack state old.at byte))
           → HasBegun setting new (bytes ++ byte ∷ [])
       later other some (inl stays) = has_begun (subst (BeginsAt setting (bytes ++ byte ∷ [])) (sym stays) (stays_begun other))
       later other some (inr (inl none)) = absurd (omega (arith, some, none))
@@ -274,7 +274,7 @@ module _ (setting : Setting) (old : FormReader) (state : State) (bytes : List �
       other : IsOther
       other = other_than (ChangeRefused from code offset) passes (λ is. cc)
 
-      by : (from ≡ old.start) ⊎ ((from ≡ old.start + old.at) × EndsBefore setting old.stack state old.at byte) → BeginsAt setting (bytes ++ byte ∷ []) from
+      by : (from ≡ old.start) ⊎ ((from ≡ old.start + old.at) × AttemptEndsBefore setting old.stack state old.at byte) → BeginsAt setting (bytes ++ byte ∷ []) from
       by (inl stays) = subst (BeginsAt setting (bytes ++ byte ∷ [])) (sym stays) (stays_begun other)
       by (inr here) = subst (BeginsAt setting (bytes ++ byte ∷ [])) (sym here.0) (ended_begins here.1)
 

@@ -10,7 +10,7 @@ use Rattle.token_scan.specs.declared.mark.Mark.{Mark}
 use Rattle.token_scan.specs.declared.refusal.ScanRefusal.TheVariants.{InvalidCharacter}
 use Rattle.token_scan.specs.declared.stage.Stage.{Stage as ScanStage}
 use Rattle.token_scan.specs.declared.stage.Stage.TheVariants.{Outside, Inside, EscapedOutside, EscapedInside, Refused as ScanRefused}
-use Rattle.token_scan.specs.Tokens.{Scanned, fault as scan_fault, with_front, one_more, quoted, kind, typed, outside, inside}
+use Rattle.token_scan.specs.Tokens.{Scanned, fault_of_scan as scan_fault, with_front, one_more, quoted, kind, typed, outside, inside}
 use Rattle.token_scan.specs.Scans.{Scan, from_stage}
 use Rattle.readtable_core.specs.declared.characters.Syntax.TheVariants.{Invalid}
 use Rattle.token_scan.proofs.Steps.{outside_invalid, inside_invalid}
@@ -29,7 +29,7 @@ use Rattle.lisp_reading.specs.Gathering.{text_turn, kept, line_turn, block_turn}
 use Rattle.lisp_reading.specs.Reading.{Piece, Outcome, form, empty, refused, piece_of, closed, or_closed, next_item_turn, next_item, stands_alone, alone, inner, attempt, reads, number_after, sub_there, dispatched}
 use Rattle.form_reader.specs.State.{IsStateAt, inner_at, state_gives}
 use Rattle.form_reader.specs.Reader.{MayGoOn, DecideNothing}
-use Rattle.form_reader.specs.Step.{outcome_of, rest_of}
+use Rattle.form_reader.specs.Step.{outcome_of, rest_of_attempt}
 use Rattle.form_reader.proofs.Tokens.{cut, refused_cut}
 use Rattle.lisp_reading.proofs.Fed.{number_ends}
 use Rattle.lisp_reading.proofs.Following.{form_follows}
@@ -226,7 +226,7 @@ may_go_on_by setting bytes c code (refused number offset) e next =
 
 -- The byte that is no character is refused at its own offset.
 next_refused : (setting : Setting) (stack : List Frame) (state : State) (start at : ℕ) (bytes : List ℕ) → IsStateAt at state → at ≤ setting.limits.text → start + at ≡ length bytes
-    → ((cs : List ℕ) → reads setting (bytes ++ cs) ≡ rest_of setting stack state start at cs)
+    → ((cs : List ℕ) → reads setting (bytes ++ cs) ≡ rest_of_attempt setting stack state start at cs)
     → (c : ℕ) × ((code : ℕ) × (reads setting (bytes ++ c ∷ []) ≡ refused code (length bytes)) × (blames_byte code ≡ true))
 next_refused setting stack state start at bytes stands le count rest =
     let c = 128 + length setting.table.entries + unwrap_or (close_of_stack stack) 0 + 1 in
@@ -234,19 +234,19 @@ next_refused setting stack state start at bytes stands le count rest =
     (c, (h.0, rest (c ∷ []) ∙ ap (outcome_of setting start) h.1 ∙ ap (λ (n : ℕ). refused h.0 n) count, h.2))
 
 pub decide_nothing : (setting : Setting) (stack : List Frame) (state : State) (start at : ℕ) (bytes : List ℕ) → IsStateAt at state → at ≤ setting.limits.text → start + at ≡ length bytes
-    → ((cs : List ℕ) → reads setting (bytes ++ cs) ≡ rest_of setting stack state start at cs) → DecideNothing setting bytes
+    → ((cs : List ℕ) → reads setting (bytes ++ cs) ≡ rest_of_attempt setting stack state start at cs) → DecideNothing setting bytes
 decide_nothing setting stack state start at bytes stands le count rest =
     let next = next_refused setting stack state start at bytes stands le count rest in
-    let last : reads setting bytes ≡ rest_of setting stack state start at [] = sym (ap (reads setting) (append-nil bytes)) ∙ rest [] in
+    let last : reads setting bytes ≡ rest_of_attempt setting stack state start at [] = sym (ap (reads setting) (append-nil bytes)) ∙ rest [] in
     let unlike : reads setting bytes ≡ refused next.1.0 (length bytes) → ⊥ = λ e.
     let blameless : blames_byte next.1.0 ≡ false =
-    last_refused (rest_of setting stack state start at []) next.1.0 (length bytes) (sym last ∙ e)
+    last_refused (rest_of_attempt setting stack state start at []) next.1.0 (length bytes) (sym last ∙ e)
     (last_blames setting start (state_gives setting stack state at []) (state_last setting stack at le state stands)) in
     false≢true (sym blameless ∙ next.1.2) in
     (next.0, (next.1.0, next.1.1, unlike))
 
 pub may_go_on : (setting : Setting) (stack : List Frame) (state : State) (start at : ℕ) (bytes : List ℕ) → IsStateAt at state → at ≤ setting.limits.text → start + at ≡ length bytes
-    → ((cs : List ℕ) → reads setting (bytes ++ cs) ≡ rest_of setting stack state start at cs) → MayGoOn bytes (reads setting bytes)
+    → ((cs : List ℕ) → reads setting (bytes ++ cs) ≡ rest_of_attempt setting stack state start at cs) → MayGoOn bytes (reads setting bytes)
 may_go_on setting stack state start at bytes stands le count rest =
     let next = next_refused setting stack state start at bytes stands le count rest in
     may_go_on_by setting bytes next.0 next.1.0 (reads setting bytes) refl next.1.1

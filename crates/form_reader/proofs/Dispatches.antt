@@ -4,7 +4,7 @@ use Rattle.std.specs.declared.alloc.AllocError.{AllocError}
 use Rattle.lisp_object.specs.declared.refusal.TheConstants.{TOO_DEEP, OUT_OF_PROFILE, FORM_TOO_LONG, INVALID_CHARACTER, NO_DISPATCH}
 use Rattle.token_scan.specs.declared.mark.Mark.{Mark}
 use Rattle.token_scan.specs.Tokens.{Scanned, ScannedBytes, with_front, typed_text, in_bytes, token, escaped_token}
-use Rattle.token_scan.specs.Scans.{Scan, begun, begun_escaped}
+use Rattle.token_scan.specs.Scans.{Scan, first_scan, begun_escaped}
 use Rattle.std_macros.specs.Values.{marked, nothing as no_material}
 use Rattle.form_reader.specs.declared.call.CallValue.{CallValue}
 use Rattle.form_reader.specs.declared.call.CallValue.TheVariants.{Refused}
@@ -23,7 +23,7 @@ use Rattle.form_reader.specs.Call.{plan_of}
 use Rattle.form_reader.specs.Token.{token_read, TokenFeeds}
 use Rattle.form_reader.specs.Stack.{outer_plan, between, plan_gives, token_goes_on}
 use Rattle.form_reader.specs.State.{inner_at, Brings}
-use Rattle.form_reader.specs.Dispatch.{Begins, Gathers, has_no_object, way_of_part}
+use Rattle.form_reader.specs.Dispatch.{CallBegins, CallGathers, has_no_object, way_of_part}
 use Rattle.form_reader.proofs.Stacks.{given_moves, given_fault, list_is, until_is, gathering_ends}
 use Rattle.readtable_core.specs.Names.{is_dispatch_name}
 use Rattle.form_reader.specs.declared.gather.LineByte.{LineByte}
@@ -101,7 +101,7 @@ scanned_is setting stack plan on at cs (Err f) e = given_fault setting stack pla
 
 pub token_begins : (setting : Setting) (stack : List Frame) (limit : ℕ) (on : List Mark → Plan Found) (at : ℕ) (cs : List ℕ)
     → run setting.table setting.limits (outer_plan setting stack (scans false limit on)) at cs
-    ≡ token_goes_on setting stack on (token_read setting.table setting.limits (begun limit) at cs)
+    ≡ token_goes_on setting stack on (token_read setting.table setting.limits (first_scan limit) at cs)
 unfolding run
 token_begins setting stack limit on at cs =
     scanned_is setting stack (scans false limit on) on at cs (limited setting.limits.text (scanned false setting.table limit at cs) (λ p. p.1)) refl
@@ -123,15 +123,15 @@ module _ (setting : Setting) (stack : List Frame) (call : InvokedCall) (way : Wa
   abbrev opened_so : Way → Read Found
   opened_so w = OpensWith setting stack call w (inner_at setting (length stack)) at cs
 
-  pub opened_at : (after : List Frame) (known : Way) (result : Result Event AllocError) → way ≡ known → IfOk result (λ event. Gathers setting after stack call known at cs event)
-      → IfOk result (λ event. Gathers setting after stack call way at cs event)
-  opened_at after known result e gathers = subst (λ (w : Way). IfOk result (λ event. Gathers setting after stack call w at cs event)) (sym e) gathers
+  pub opened_at : (after : List Frame) (known : Way) (result : Result Event AllocError) → way ≡ known → IfOk result (λ event. CallGathers setting after stack call known at cs event)
+      → IfOk result (λ event. CallGathers setting after stack call way at cs event)
+  opened_at after known result e gathers = subst (λ (w : Way). IfOk result (λ event. CallGathers setting after stack call w at cs event)) (sym e) gathers
 
   abbrev call_token : Scan → Read Found
   call_token scan =
       token_goes_on setting stack (λ marks. completed setting (length stack) call true false (marked marks)) (token_read setting.table setting.limits scan at cs)
 
-  pub token_at : (scan : Scan) → way ≡ Token → scan ≡ begun setting.limits.token → opened_so way ≡ call_token scan
+  pub token_at : (scan : Scan) → way ≡ Token → scan ≡ first_scan setting.limits.token → opened_so way ≡ call_token scan
   token_at scan e p =
       ap opened_so e ∙ token_begins setting stack setting.limits.token (λ marks. completed setting (length stack) call true false (marked marks)) at cs
       ∙ ap call_token (sym p)
@@ -143,7 +143,7 @@ module _ (setting : Setting) (stack : List Frame) (call : InvokedCall) (way : Wa
 
   pub nothing_at : (result : Result Event AllocError) → way ≡ Nothing
       → IfOk result (λ event. Brings setting stack at cs event (plan_gives setting stack (completed setting (length stack) call false false no_material) at cs))
-      → IfOk result (λ event. Gathers setting stack stack call way at cs event)
+      → IfOk result (λ event. CallGathers setting stack stack call way at cs event)
   nothing_at result e brings = subst (λ (r : Read Found). IfOk result (λ event. Brings setting stack at cs event r)) (sym (ap opened_so e)) brings
 
 pub none_begins : (setting : Setting) (stack : List Frame) (call : InvokedCall) (at offset : ℕ) (cs : List ℕ) → way_in setting call ≡ None → offset ≡ at - 1
@@ -181,7 +181,7 @@ module _ (setting : Setting) (stack : List Frame) (c at : ℕ) (cs : List ℕ) w
 
   pub character_called : (after : List Frame) (function : Option (List ℕ)) (name : List ℕ) (f : Function) (call : InvokedCall) (result : Result Event AllocError)
       → function ≡ Some name → is_dispatch_name name ≡ false → f ≡ function_of name → call ≡ of_character f
-      → IfOk result (λ event. Begins setting after stack call at cs event) → IfOk result (λ event. Brings setting after at cs event (macro_gives function))
+      → IfOk result (λ event. CallBegins setting after stack call at cs event) → IfOk result (λ event. Brings setting after at cs event (macro_gives function))
   character_called after function name f call result e dispatch same is begins =
       let whole : call_gives call ≡ macro_gives function =
       ap call_gives (is ∙ ap of_character same) ∙ sym (named_gives name dispatch) ∙ sym (ap macro_gives e) in
@@ -231,7 +231,7 @@ module _ (setting : Setting) (stack : List Frame) (character at c : ℕ) (number
 
   pub sub_some : (after : List Frame) (name : List ℕ) (f : Function) (sub : ℕ) (n : Option ℕ) (call : InvokedCall) (result : Result Event AllocError)
       → at < setting.limits.text → c < 128 → dispatch_at setting.table character c ≡ Some name → f ≡ function_of name → sub ≡ upper_case c → n ≡ number
-      → call ≡ of_sub f sub n → IfOk result (λ event. Begins setting after stack call (at + 1) cs event)
+      → call ≡ of_sub f sub n → IfOk result (λ event. CallBegins setting after stack call (at + 1) cs event)
       → IfOk result (λ event. Brings setting after (at + 1) cs event sub_gives)
   sub_some after name f sub n call result lt ascii e same upper digits is begins =
       let whole : sub_call_gives call ≡ sub_gives =

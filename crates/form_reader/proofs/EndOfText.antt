@@ -40,7 +40,7 @@ use Rattle.token_scan.specs.declared.mark.Mark.TheVariants.{Plain, Quoted, Bar}
 use Rattle.token_scan.specs.declared.stage.Stage.{Stage as ScanStage}
 use Rattle.token_scan.specs.declared.stage.Stage.TheVariants.{Outside, Inside, EscapedOutside, EscapedInside, Refused as ScanRefused}
 use Rattle.token_scan.specs.Tokens.{TypedByte, Scanned, kind, is_character, with_front, quoted, escaped, outside, inside, escaped_outside, escaped_inside, typed, typed_text}
-use Rattle.token_scan.specs.Spelling.{is_plain, ends_tokens}
+use Rattle.token_scan.specs.Spelling.{is_plain_syntax, ends_tokens}
 use Rattle.token_scan.proofs.Steps.{outside_ends, outside_plain, outside_escape, outside_bar, outside_invalid, inside_between, inside_escape, inside_bar, inside_invalid}
 use Rattle.token_scan.proofs.Forwards.{Forwards, forwards}
 use Rattle.token_meaning.specs.Results.{scan_refusal_number}
@@ -204,7 +204,7 @@ module _ (x : TypedByte) (left at : ℕ) where
   unfolding outside
   ends_outside same = refl
 
-  plain_there : IsTrue (is_plain (kind x)) → EndsThere at (outside left at (x ∷ [])) (outside left at [])
+  plain_there : IsTrue (is_plain_syntax (kind x)) → EndsThere at (outside left at (x ∷ [])) (outside left at [])
   plain_there is =
       rw (outside_plain x [] left at is) (chosen_there (left == 0) at _ _ (outside left at []) tt
       (chosen_there (has_invalid_trait x.byte) at _ _ (outside left at []) tt (after_outside at (outside left at []) (Plain x.byte ∷ []) (left - 1))))
@@ -212,13 +212,13 @@ module _ (x : TypedByte) (left at : ℕ) where
   outside_there : (k : Syntax) → kind x ≡ k → EndsThere at (outside left at (x ∷ [])) (outside left at [])
   outside_there Whitespace e = rw (outside_ends x [] left at (ap ends_tokens e)) ends_outside
   outside_there TerminatingMacro e = rw (outside_ends x [] left at (ap ends_tokens e)) ends_outside
-  outside_there Constituent e = plain_there (ap is_plain e)
-  outside_there NonTerminatingMacro e = plain_there (ap is_plain e)
+  outside_there Constituent e = plain_there (ap is_plain_syntax e)
+  outside_there NonTerminatingMacro e = plain_there (ap is_plain_syntax e)
   outside_there SingleEscape e = rw (outside_escape x [] left at e) (after_escape at (outside left at []) left)
   outside_there MultipleEscape e = rw (outside_bar x [] left at e) (after_inside at (outside left at []) (Bar ∷ []) left)
   outside_there Invalid e = rw (outside_invalid x [] left at e) tt
 
-  between_there : IsTrue (is_plain (kind x) || ends_tokens (kind x)) → EndsThere at (inside left at (x ∷ [])) (inside left at [])
+  between_there : IsTrue (is_plain_syntax (kind x) || ends_tokens (kind x)) → EndsThere at (inside left at (x ∷ [])) (inside left at [])
   between_there is =
       rw (inside_between x [] left at is)
       (chosen_there (left == 0) at _ _ (inside left at []) tt (after_inside at (inside left at []) (Quoted x.byte ∷ []) (left - 1)))
@@ -227,10 +227,10 @@ module _ (x : TypedByte) (left at : ℕ) where
   inside_there SingleEscape e = rw (inside_escape x [] left at e) (after_escape_inside at (inside left at []) left)
   inside_there MultipleEscape e = rw (inside_bar x [] left at e) (after_outside at (inside left at []) (Bar ∷ []) left)
   inside_there Invalid e = rw (inside_invalid x [] left at e) tt
-  inside_there Whitespace e = between_there (ap (λ k. is_plain k || ends_tokens k) e)
-  inside_there TerminatingMacro e = between_there (ap (λ k. is_plain k || ends_tokens k) e)
-  inside_there Constituent e = between_there (ap (λ k. is_plain k || ends_tokens k) e)
-  inside_there NonTerminatingMacro e = between_there (ap (λ k. is_plain k || ends_tokens k) e)
+  inside_there Whitespace e = between_there (ap (λ k. is_plain_syntax k || ends_tokens k) e)
+  inside_there TerminatingMacro e = between_there (ap (λ k. is_plain_syntax k || ends_tokens k) e)
+  inside_there Constituent e = between_there (ap (λ k. is_plain_syntax k || ends_tokens k) e)
+  inside_there NonTerminatingMacro e = between_there (ap (λ k. is_plain_syntax k || ends_tokens k) e)
 
   escaped_there : (more : ℕ → Scanned) (last : Scanned) → EndsThere at (quoted x.byte (more (left - 1))) last → EndsThere at (escaped x left at more) last
   escaped_there more last h = chosen_there (is_character x) at _ _ last (chosen_there (left == 0) at _ _ last tt h) tt

@@ -5,7 +5,7 @@ use Rattle.form_reader.specs.declared.reader.FormReader.{FormReader}
 use Rattle.form_reader.specs.declared.reader.Advance.{Advance}
 use Rattle.form_reader.specs.declared.reader.Advance.TheVariants.{More as AdvanceMore, Form as AdvanceForm, Refused as AdvanceRefused}
 use Rattle.lisp_reading.specs.Setting.{Setting}
-use Rattle.form_reader.specs.Reader.{fed, begun, DecideNothing, IsAfter, HasBegun, Steps, StepsBegun, BeginsLater, Counts, Feeds, Advances, is_more, IsSoundStep, IsOutcome}
+use Rattle.form_reader.specs.Reader.{fed, begun, DecideNothing, IsAfter, HasBegun, Steps, StepsBegun, BeginsLater, Counts, FeedsReader, Advances, is_more, IsSoundStep, IsOutcome}
 use Rattle.std.proofs.lemmas.List.{take-append-drop}
 use Rattle.std.specs.Prelude.{◌&&◌}
 use Rattle.std.specs.List.{list_all}
@@ -59,7 +59,7 @@ module _ (setting : Setting) (old middle new : FormReader) (bytes : List ℕ) (k
 
   -- it is the last step
   pub feeds_last : ((before : List ℕ) → IsAfter setting old before → 0 < k → Steps setting middle (before ++ take k bytes) AdvanceMore)
-      → (before : List ℕ) → IsAfter setting old before → Feeds setting new before bytes (k + 1) step
+      → (before : List ℕ) → IsAfter setting old before → FeedsReader setting new before bytes (k + 1) step
   feeds_last first before a = record {
     steps = then_steps before a;
     undecided = λ other lt.
@@ -80,7 +80,7 @@ module _ (setting : Setting) (old middle new : FormReader) (bytes : List ℕ) (k
 -- all are taken, and more decide
 pub feeds_whole : (setting : Setting) (old new : FormReader) (bytes : List ℕ) (k : ℕ) → 0 < k
     → ((before : List ℕ) → IsAfter setting old before → 0 < k → Steps setting new (before ++ take k bytes) AdvanceMore)
-    → (before : List ℕ) → IsAfter setting old before → Feeds setting new before bytes k AdvanceMore
+    → (before : List ℕ) → IsAfter setting old before → FeedsReader setting new before bytes k AdvanceMore
 feeds_whole setting old new bytes k some steps before a = record {
   steps = steps before a some;
   undecided = λ other lt. let never : true ≡ false = other in cc;
@@ -117,7 +117,7 @@ each_holds p (b ∷ bs) zero c rest all is = let same : b ≡ c = cc in ap p (sy
 each_holds p (b ∷ bs) (suc k) c rest all is = each_holds p bs k c rest (rest_holds (p b) (list_all p bs) all) is
 
 module _ (under : Limits → Setting) (held handed : Limits) (reader : FormReader) (bytes : List ℕ) (k : ℕ) (step : Advance) (same : held ≡ handed)
-    (feeds : Feeds (under held) reader [] bytes k step) where
+    (feeds : FeedsReader (under held) reader [] bytes k step) where
   steps_now : Steps (under handed) reader (take k bytes) step
   steps_now = subst (λ (l : Limits). Steps (under l) reader (take k bytes) step) same feeds.steps
 

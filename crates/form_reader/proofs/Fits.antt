@@ -21,7 +21,7 @@ use Rattle.lisp_reading.specs.declared.found.Found.{Found}
 use Rattle.lisp_reading.specs.declared.found.Found.TheVariants.{One as one}
 use Rattle.lisp_reading.specs.Plans.{Plan, gives, refuses}
 use Rattle.lisp_reading.specs.Answering.{are_known, may_be_answered}
-use Rattle.lisp_reading.specs.Reading.{answered}
+use Rattle.lisp_reading.specs.Reading.{plan_after_answer}
 use Rattle.form_reader.specs.Fits.{Fits, FitsEnd, end_size}
 use Rattle.form_reader.proofs.Calls.{known_pairs}
 
@@ -190,7 +190,7 @@ module _ (packages : Packages) (nesting depth' : ℕ) (d : Datum) where
 
   module _ (token spaced : Bool) where
     abbrev comes : Bool → Plan Found
-    comes proper = answered packages nesting depth' token spaced (if proper then value (object_of d) else improper)
+    comes proper = plan_after_answer packages nesting depth' token spaced (if proper then value (object_of d) else improper)
 
     abbrev standing : Bool → Plan Found
     standing b = elim b [
@@ -198,12 +198,12 @@ module _ (packages : Packages) (nesting depth' : ℕ) (d : Datum) where
       | false ↦ refuses MACRO_ANSWER 0
     ]
 
-    pub answered_one : (is_proper d && stands) ≡ true → answered packages nesting depth' token spaced (answer_of (One d)) ≡ gives (one token (object_of d))
+    pub answered_one : (is_proper d && stands) ≡ true → plan_after_answer packages nesting depth' token spaced (answer_of (One d)) ≡ gives (one token (object_of d))
     answered_one e = let a = and_parts (is_proper d) stands e in ap comes a.0 ∙ ap standing a.1
 
     not_answered : (proper : Bool) → (proper && stands) ≡ false → comes proper ≡ refuses MACRO_ANSWER 0
     not_answered true e = ap standing e
     not_answered false e = refl
 
-    pub answered_not : (is_proper d && stands) ≡ false → answered packages nesting depth' token spaced (answer_of (One d)) ≡ refuses MACRO_ANSWER 0
+    pub answered_not : (is_proper d && stands) ≡ false → plan_after_answer packages nesting depth' token spaced (answer_of (One d)) ≡ refuses MACRO_ANSWER 0
     answered_not e = not_answered (is_proper d) e

@@ -8,7 +8,7 @@ use Rattle.std.proofs.Math.ListN.{get_or-eq_default}
 use Rattle.readtable_core.specs.declared.characters.Syntax.{Syntax}
 use Rattle.readtable_core.specs.declared.characters.Syntax.TheVariants.{Whitespace, TerminatingMacro, NonTerminatingMacro, Invalid, Constituent, SingleEscape, MultipleEscape}
 use Rattle.readtable_core.specs.Tables.{Table, CharacterEntry, entry_at, no_entry}
-use Rattle.token_scan.specs.Scans.{begun, Scan}
+use Rattle.token_scan.specs.Scans.{first_scan, Scan}
 use Rattle.lisp_reading.specs.declared.limits.Limits.{Limits}
 use Rattle.lisp_reading.specs.declared.found.Found.{Found}
 use Rattle.form_reader.specs.declared.stack.Frame.{Frame}
@@ -32,7 +32,7 @@ use Rattle.form_reader.specs.declared.token.FirstByte.{FirstByte}
 use Rattle.lisp_reading.specs.declared.told.Told.{Told}
 use Rattle.lisp_reading.specs.declared.told.TellError.{TellError}
 use Rattle.lisp_reading.specs.declared.told.TellError.TheVariants.{Refused as TellRefused}
-use Rattle.lisp_reading.specs.Naming.{told, told_of, Tells}
+use Rattle.lisp_reading.specs.Naming.{told, told_meaning, TellsMeaning}
 use Rattle.token_meaning.specs.Meanings.{meaning_of}
 use Rattle.token_meaning.specs.Folding.{folded}
 use Rattle.readtable_core.specs.declared.table.Case.{Case}
@@ -139,7 +139,7 @@ module _ (setting : Setting) (at c : ℕ) (cs : List ℕ) where
   -- all others begin one
   pub attempt_token : (stack : List Frame) → length stack ≤ setting.limits.nesting → stands_alone (entry_at setting.table c).syntax ≡ false
       → run setting.table setting.limits (outer_plan setting stack (attempt_at setting (length stack))) at (c ∷ cs)
-      ≡ token_goes_on setting stack (token_found setting) (token_read setting.table setting.limits (begun setting.limits.token) at (c ∷ cs))
+      ≡ token_goes_on setting stack (token_found setting) (token_read setting.table setting.limits (first_scan setting.limits.token) at (c ∷ cs))
   attempt_token stack le e =
       round_is stack le
       ∙ given_moves setting stack _ _ at at (c ∷ cs) (c ∷ cs)
@@ -206,7 +206,7 @@ begins_token table c e = no_end (nat_lt c 128) (entry_at table c).syntax e
 -- what the token gives is what its attempt comes to
 pub token_goes : (setting : Setting) (at c : ℕ) (cs : List ℕ) (stack : List Frame) (read : Read (List Mark))
     → length stack ≤ setting.limits.nesting → stands_alone (entry_at setting.table c).syntax ≡ false
-    → token_read setting.table setting.limits (begun setting.limits.token) at (c ∷ cs) ≡ read
+    → token_read setting.table setting.limits (first_scan setting.limits.token) at (c ∷ cs) ≡ read
     → run setting.table setting.limits (outer_plan setting stack (attempt_at setting (length stack))) at (c ∷ cs) ≡ token_goes_on setting stack (token_found setting) read
 token_goes setting at c cs stack read le e same =
     attempt_token setting at c cs stack le e ∙ ap (token_goes_on setting stack (token_found setting)) same
@@ -220,10 +220,10 @@ first_told table limits at cs read fed known e h = subst (λ (f : FirstByte). Fi
 
 -- the number of its refusal
 pub refused_told : (setting : Setting) (letters : Case) (marks : List Mark) (e : TellError) (code : ℕ) → letters ≡ setting.table.letters → e ≡ TellRefused code
-    → Tells (Err e) (told_of setting.packages setting.current (meaning_of setting.base (folded letters marks))) → told setting marks ≡ Err code
+    → TellsMeaning (Err e) (told_meaning setting.packages setting.current (meaning_of setting.base (folded letters marks))) → told setting marks ≡ Err code
 refused_told setting letters marks e code same is tells =
-    subst (λ (e : TellError). Tells (Err e) (told setting marks)) is
-    (subst (λ (letters : Case). Tells (Err e) (told_of setting.packages setting.current (meaning_of setting.base (folded letters marks)))) same tells)
+    subst (λ (e : TellError). TellsMeaning (Err e) (told setting marks)) is
+    (subst (λ (letters : Case). TellsMeaning (Err e) (told_meaning setting.packages setting.current (meaning_of setting.base (folded letters marks)))) same tells)
 
 module _ (setting : Setting) (stack : List Frame) (at : ℕ) (cs : List ℕ) where
   abbrev comes : Plan Found → Read Found

@@ -17,7 +17,7 @@ use Rattle.lisp_reading.specs.Plans.{Read, fault, gives}
 use Rattle.std.specs.declared.alloc.AllocError.{AllocError}
 use Rattle.form_reader.specs.declared.step.object.Passed.{Passed}
 use Rattle.form_reader.specs.declared.step.object.Passed.TheVariants.{Done as PassedDone}
-use Rattle.form_reader.specs.Step.{Passes, outcome_of, rest_of, verdict_of, ChangesTo, IsReadyChange, Settles, BeginsAnew}
+use Rattle.form_reader.specs.Step.{Passes, outcome_of, rest_of_attempt, verdict_of, ChangesTo, IsReadyChange, Settles, BeginsAnew}
 use Rattle.form_reader.specs.State.{state_gives, Brings}
 use Rattle.lisp_reading.specs.Setting.{Setting}
 use Rattle.lisp_reading.specs.Reading.{form, refused, reads, Outcome, empty, reads_at}
@@ -30,20 +30,20 @@ use Rattle.form_reader.specs.Stack.{plan_gives}
 use Rattle.form_reader.proofs.EndOfText.{none_waits}
 
 -- a reader that was fed nothing is after no bytes
-pub new_rest : (setting : Setting) (stack : List Frame) → stack ≡ [] → (cs : List ℕ) → reads setting cs ≡ rest_of setting stack AtObject 0 0 cs
+pub new_rest : (setting : Setting) (stack : List Frame) → stack ≡ [] → (cs : List ℕ) → reads setting cs ≡ rest_of_attempt setting stack AtObject 0 0 cs
 unfolding reads
-new_rest setting stack none cs = reads_is setting 0 cs ∙ ap (λ (fs : List Frame). rest_of setting fs AtObject 0 0 cs) (sym none)
+new_rest setting stack none cs = reads_is setting 0 cs ∙ ap (λ (fs : List Frame). rest_of_attempt setting fs AtObject 0 0 cs) (sym none)
 
 pub new_after : (setting : Setting) (reader : FormReader) → IsNew reader → IsAfter setting reader []
 new_after setting reader n =
     subst (λ (s : ReaderState). IsAfterIn setting reader s []) (sym n.state)
-    (omega (arith, n.start, n.at), λ cs. new_rest setting reader.stack n.stack cs ∙ (λ i. rest_of setting reader.stack AtObject (sym n.start i) (sym n.at i) cs))
+    (omega (arith, n.start, n.at), λ cs. new_rest setting reader.stack n.stack cs ∙ (λ i. rest_of_attempt setting reader.stack AtObject (sym n.start i) (sym n.at i) cs))
 
 module _ (setting : Setting) (old mid new : FormReader) (state : State) (bytes : List ℕ) (byte : ℕ) (after : List Frame) where
   abbrev fed_now : List ℕ
   fed_now = bytes ++ byte ∷ []
 
-  one_more : IsAfterIn setting old (Open state) bytes → (cs : List ℕ) → reads setting (fed_now ++ cs) ≡ rest_of setting old.stack state old.start old.at (byte ∷ cs)
+  one_more : IsAfterIn setting old (Open state) bytes → (cs : List ℕ) → reads setting (fed_now ++ cs) ≡ rest_of_attempt setting old.stack state old.start old.at (byte ∷ cs)
   one_more a cs = ap (reads setting) (append_assoc bytes (byte ∷ []) cs) ∙ a.1 (byte ∷ cs)
 
   pub stepped : (change : Change) (step : Advance) → IsAfterIn setting old (Open state) bytes
@@ -51,8 +51,8 @@ module _ (setting : Setting) (old mid new : FormReader) (state : State) (bytes :
       → IsReadyChange setting.limits after (old.start + old.at + 1) change → Becomes change mid new step → mid.stack ≡ after → Steps setting new fed_now step
   stepped (Goes start at st) step a turns ready takes same =
       let many : length fed_now ≡ length bytes + 1 = length-append bytes (byte ∷ []) in
-      let rest : (cs : List ℕ) → reads setting (fed_now ++ cs) ≡ rest_of setting new.stack st new.start new.at cs =
-      λ cs. one_more a cs ∙ (λ i. (turns cs i).0) ∙ (λ i. rest_of setting ((sym same ∙ sym takes.3) i) st (sym takes.1 i) (sym takes.2 i) cs) in
+      let rest : (cs : List ℕ) → reads setting (fed_now ++ cs) ≡ rest_of_attempt setting new.stack st new.start new.at cs =
+      λ cs. one_more a cs ∙ (λ i. (turns cs i).0) ∙ (λ i. rest_of_attempt setting ((sym same ∙ sym takes.3) i) st (sym takes.1 i) (sym takes.2 i) cs) in
       subst (λ (s : Advance). Steps setting new fed_now s) (sym takes.0) (
         subst (λ (s : ReaderState). IsAfterIn setting new s fed_now) (sym takes.4) (omega (arith, many, takes.1, takes.2, ready.1, a.0), rest),
         omega (arith, many, takes.1, takes.2, ready.1, a.0),
@@ -154,11 +154,11 @@ ok_change change known e = cc
 -- ---- what is read where a reader is between forms
 
 between_rest : (setting : Setting) (reader : FormReader) (bytes more : List ℕ) → IsAfter setting reader bytes → IsBetween reader
-    → reads setting (bytes ++ more) ≡ rest_of setting [] AtObject (length bytes) 0 more
+    → reads setting (bytes ++ more) ≡ rest_of_attempt setting [] AtObject (length bytes) 0 more
 between_rest setting reader bytes more after between =
     let here : IsAfterIn setting reader (Open AtObject) bytes = subst (λ (s : ReaderState). IsAfterIn setting reader s bytes) between.state after in
     let start : reader.start ≡ length bytes = omega (arith, here.0, between.at) in
-    here.1 more ∙ (λ i. rest_of setting (between.stack i) AtObject (start i) (between.at i) more)
+    here.1 more ∙ (λ i. rest_of_attempt setting (between.stack i) AtObject (start i) (between.at i) more)
 
 pub between_reads : (setting : Setting) (reader : FormReader) (bytes more : List ℕ) → IsAfter setting reader bytes → IsBetween reader
     → reads setting (bytes ++ more) ≡ reads_at setting (length bytes) more

@@ -14,7 +14,7 @@ use Rattle.lisp_reading.specs.Setting.{Setting}
 use Rattle.std.specs.declared.alloc.AllocError.{AllocError}
 use Rattle.form_reader.specs.declared.step.object.Passed.{Passed}
 use Rattle.form_reader.specs.declared.step.object.Passed.TheVariants.{Done as PassedDone}
-use Rattle.form_reader.specs.Step.{Passes, verdict_of, Settles, ChangesTo, IsReadySettled, IsReadyChange, is_space, StartsAt, StartsWith, StartsAfter, EndsBefore, Starts}
+use Rattle.form_reader.specs.Step.{Passes, verdict_of, Settles, ChangesTo, IsReadySettled, IsReadyChange, is_space, StartsAt, StartsWith, StartsAfter, AttemptEndsBefore, Starts}
 use Rattle.form_reader.specs.Stack.{outer_plan}
 use Rattle.lisp_reading.specs.Reading.{Outcome, is_blank, is_whitespace, stands_alone}
 use Rattle.std.proofs.lemmas.Bool.{ltb-true, and_parts}
@@ -145,7 +145,7 @@ module _ (setting : Setting) (stack : List Frame) (state : State) (start at c : 
       told : (cs : List ℕ) → Passes setting after at c cs (PassedDone found) (state_gives setting stack state at (c ∷ cs))
       told = λ cs. subst (λ (p : Passed). Passes setting after at c cs p (state_gives setting stack state at (c ∷ cs))) is (passes cs)
 
-      before : (token : Bool) → found ≡ nothing token → is_space setting c ≡ false → EndsBefore setting stack state at c
+      before : (token : Bool) → found ≡ nothing token → is_space setting c ≡ false → AttemptEndsBefore setting stack state at c
       before token e other = record { token = token; found = λ cs. (told cs).0 ∙ ap (λ (f : Found). Ok (f, at, c ∷ cs)) e; other = other }
 
       by : (result : Result Change AllocError) → IfOk result (StartsAfter setting found start at c) → IfOk result (Starts setting stack state start at c)

@@ -10,7 +10,7 @@ use Rattle.lisp_object.specs.declared.refusal.TheConstants.{END_OF_FILE, DOT_CON
 use Rattle.readtable_core.specs.Tables.{Table}
 use Rattle.package_table.specs.declared.error.PackageError.{PackageError}
 use Rattle.package_table.specs.declared.error.PackageError.TheVariants.{NoPackage, NotExternal, LockedPackage}
-use Rattle.package_table.specs.Errors.{number_of}
+use Rattle.package_table.specs.Errors.{package_error_number}
 use Rattle.package_table.specs.Lookup.{found, external_home}
 use Rattle.package_table.specs.Resolving.{Resolution, found_at, new_in, resolution, external_resolution, internal_resolution}
 use Rattle.package_table.specs.Table.{Name, Table as Packages, common_lisp, package_named}
@@ -47,11 +47,11 @@ use Rattle.lisp_reading.specs.Plans.{Plan, gives, refuses, then_plan, next_byte,
 use Rattle.lisp_reading.specs.Calls.{InvokedCall, keep_of}
 use Rattle.lisp_reading.specs.Setting.{Setting, macro_call}
 use Rattle.lisp_reading.specs.Gathering.{text_turn, line_turn, block_turn, number_turn}
-use Rattle.lisp_reading.specs.Naming.{symbol_in, symbol_at, named, told_of, told}
+use Rattle.lisp_reading.specs.Naming.{symbol_in, symbol_at, named, told_meaning, told}
 use Rattle.lisp_reading.specs.Answering.{may_be_answered}
 use Rattle.form_reader.specs.Token.{is_going}
 use Rattle.form_reader.specs.Stack.{next_item_in, part_gives, call_in, outer_plan, between, token_goes_on}
-use Rattle.lisp_reading.specs.Reading.{Piece, item, dot, closed, is_whitespace, without_space, piece_of, or_closed, next_item_turn, next_item, Items, items_step, items_turn, items_after, undotted, after_tail, after_dot, list_end, bytes_back, finished, answered, completed_by, completed, text_to, line_after, block_after, number_after, sub_there, dispatched, told_found, token_found, attempt, Outcome, form, empty, refused}
+use Rattle.lisp_reading.specs.Reading.{Piece, item, dot, closed, is_whitespace, without_space, piece_of, or_closed, next_item_turn, next_item, Items, items_step, items_turn, items_after, undotted, after_tail, after_dot, list_end, bytes_back, finished, plan_after_answer, completed_by, completed, text_to, line_after, block_after, number_after, sub_there, dispatched, told_found, token_found, attempt, Outcome, form, empty, refused}
 use Rattle.form_reader.specs.State.{IsStateAt, inner_at, state_gives}
 use Rattle.form_reader.specs.Step.{outcome_of}
 use Rattle.form_reader.proofs.Tokens.{cut, refused_cut}
@@ -82,7 +82,7 @@ finished_at_end token (Ok (Some x)) = gives_at_end Whatever (one token x) tt
 finished_at_end token (Ok None) = gives_at_end Whatever (nothing false) tt
 finished_at_end token (Err refusal) = refuses_at_end Whatever (std_refusal_number refusal) (bytes_back refusal) (standard_blames refusal)
 
-answered_at_end : (packages : Packages) (nesting depth : ℕ) (token spaced : Bool) (answer : MacroAnswer) → AtEnd Whatever (answered packages nesting depth token spaced answer)
+answered_at_end : (packages : Packages) (nesting depth : ℕ) (token spaced : Bool) (answer : MacroAnswer) → AtEnd Whatever (plan_after_answer packages nesting depth token spaced answer)
 answered_at_end packages nesting depth token spaced (value x) =
     elim (may_be_answered packages x && nat_le (object_depth x + depth) nesting) as (λ b. AtEnd Whatever (elim b [ true ↦ gives (one token x) | false ↦ refuses MACRO_ANSWER 0 ])) [
       | true ↦ gives_at_end Whatever (one token x) tt
@@ -106,7 +106,7 @@ completed_at_end setting depth call token spaced material = completed_by_at_end 
 -- ---- tokens
 
 abbrev Resolved : {A : Type 0} → Result A PackageError → Type 0
-Resolved r = IfErr r (λ e. blames_byte (number_of e) ≡ false)
+Resolved r = IfErr r (λ e. blames_byte (package_error_number e) ≡ false)
 
 resolved_by : (p : Name) (o : Option Name) → Resolved {A = Resolution} (option_map_or (λ h. Ok (found_at h)) o (if bytes_eq p common_lisp then Err LockedPackage else Ok (new_in p)))
 resolved_by p (Some h) = tt
@@ -146,7 +146,7 @@ named_blames packages current (Keyword own) = tt
 named_blames packages current (External prefix own) = symbol_at_blames own (external_resolution packages prefix own) (external_blames packages prefix own)
 named_blames packages current (Internal prefix own) = symbol_in_blames own (internal_resolution packages prefix own) (internal_blames packages prefix own)
 
-told_blames : (packages : Packages) (current : Name) (meaning : Result Meaning MeaningRefusal) → Blameless (told_of packages current meaning)
+told_blames : (packages : Packages) (current : Name) (meaning : Result Meaning MeaningRefusal) → Blameless (told_meaning packages current meaning)
 told_blames packages current (Ok (number x)) = tt
 told_blames packages current (Ok a_dot) = tt
 told_blames packages current (Ok (name own)) = named_blames packages current own

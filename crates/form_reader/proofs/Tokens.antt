@@ -8,9 +8,9 @@ use Rattle.readtable_core.specs.declared.characters.Syntax.{Syntax}
 use Rattle.token_scan.specs.declared.mark.Mark.{Mark}
 use Rattle.token_scan.specs.declared.refusal.ScanRefusal.{ScanRefusal}
 use Rattle.token_scan.specs.declared.refusal.ScanRefusal.TheVariants.{EndOfFile, InvalidCharacter, InvalidTrait, TokenTooLong}
-use Rattle.token_scan.specs.declared.scan.Fed.{Fed}
-use Rattle.token_scan.specs.declared.scan.Fed.TheVariants.{More, Ended, Refused as FedRefused}
-use Rattle.token_scan.specs.Tokens.{TypedByte, met, Scanned, typed, typed_text, in_bytes, kind, is_character, fault as token_fault, with_front, outside, inside}
+use Rattle.token_scan.specs.declared.scan.FedByte.{FedByte}
+use Rattle.token_scan.specs.declared.scan.FedByte.TheVariants.{More, Ended, Refused as FedRefused}
+use Rattle.token_scan.specs.Tokens.{TypedByte, met, Scanned, typed, typed_text, in_bytes, kind, is_character, fault_of_scan as token_fault, with_front, outside, inside}
 use Rattle.token_scan.specs.Scans.{Scan, token_from, fed_gives, from_stage}
 use Rattle.token_scan.proofs.Standing.{bytes_typed}
 use Rattle.token_scan.proofs.Forwards.{forwards}
@@ -23,7 +23,7 @@ use Rattle.readtable_core.specs.declared.characters.Syntax.TheVariants.{Whitespa
 use Rattle.token_scan.specs.declared.mark.Mark.TheVariants.{Plain, Quoted, Bar}
 use Rattle.token_scan.specs.declared.stage.Stage.{Stage}
 use Rattle.token_scan.specs.declared.stage.Stage.TheVariants.{Outside, Inside, EscapedOutside, EscapedInside, Refused}
-use Rattle.token_scan.specs.Spelling.{is_plain, ends_tokens}
+use Rattle.token_scan.specs.Spelling.{is_plain_syntax, ends_tokens}
 use Rattle.token_scan.proofs.Steps.{outside_ends, outside_plain, outside_escape, outside_bar, outside_invalid, inside_between, inside_escape, inside_bar, inside_invalid}
 
 abbrev pub cut : ℕ → Scanned → Read (List Mark)
@@ -100,13 +100,13 @@ token_over_by table limits old new at c cs full e =
 
 -- ---- the same from what `feed` says
 
-fed_is : (table : Table) (old new : Scan) (at c : ℕ) (cs : List ℕ) (s : Syntax) (fed known : Fed) → s ≡ (entry_at table c).syntax → fed ≡ known
+fed_is : (table : Table) (old new : Scan) (at c : ℕ) (cs : List ℕ) (s : Syntax) (fed known : FedByte) → s ≡ (entry_at table c).syntax → fed ≡ known
     → token_from old at (met s c ∷ typed_text table cs) ≡ fed_gives fed new at (met s c) (typed_text table cs)
     → token_from old at (typed_text table (c ∷ cs)) ≡ fed_gives known new at (typed table c) (typed_text table cs)
 fed_is table old new at c cs s fed known p q e =
     (λ i. token_from old at (met (sym p i) c ∷ typed_text table cs)) ∙ e ∙ (λ i. fed_gives (q i) new at (met (p i) c) (typed_text table cs))
 
-module _ (table : Table) (limits : Limits) (old new : Scan) (at c : ℕ) (cs : List ℕ) (s : Syntax) (fed : Fed) where
+module _ (table : Table) (limits : Limits) (old new : Scan) (at c : ℕ) (cs : List ℕ) (s : Syntax) (fed : FedByte) where
   pub token_more : s ≡ (entry_at table c).syntax → fed ≡ More
       → token_from old at (met s c ∷ typed_text table cs) ≡ fed_gives fed new at (met s c) (typed_text table cs)
       → token_read table limits old at (c ∷ cs) ≡ token_read table limits new (at + 1) cs
@@ -180,12 +180,12 @@ put_after : (refusal : ScanRefusal) (front : List Mark) (stage : Stage) (left : 
 put_after refusal front stage left going h = next refusal stage left going (λ more. behind refusal front (from_stage stage left 1 more) (h more))
 
 module _ (refusal : ScanRefusal) (x : TypedByte) (left : ℕ) where
-  plain_next : IsTrue (is_plain (kind x)) → Fixed refusal (λ more. outside left 0 (x ∷ more)) → ⊥
+  plain_next : IsTrue (is_plain_syntax (kind x)) → Fixed refusal (λ more. outside left 0 (x ∷ more)) → ⊥
   plain_next is h =
       chosen refusal _ (left == 0) _ (λ g. chosen refusal _ (has_invalid_trait x.byte) _ (put_after refusal (Plain x.byte ∷ []) Outside (left - 1) refl) g)
       (λ more. sym (outside_plain x more left 0 is) ∙ h more)
 
-  between_next : IsTrue (is_plain (kind x) || ends_tokens (kind x)) → Fixed refusal (λ more. inside left 0 (x ∷ more)) → ⊥
+  between_next : IsTrue (is_plain_syntax (kind x) || ends_tokens (kind x)) → Fixed refusal (λ more. inside left 0 (x ∷ more)) → ⊥
   between_next is h =
       chosen refusal _ (left == 0) _ (put_after refusal (Quoted x.byte ∷ []) Inside (left - 1) refl)
       (λ more. sym (inside_between x more left 0 is) ∙ h more)
@@ -193,8 +193,8 @@ module _ (refusal : ScanRefusal) (x : TypedByte) (left : ℕ) where
   outside_next : (k : Syntax) → kind x ≡ k → Fixed refusal (λ more. outside left 0 (x ∷ more)) → ⊥
   outside_next Whitespace e h = let same : Ok ([], 0, x ∷ []) ≡ token_fault refusal 1 = sym (outside_ends x [] left 0 (ap ends_tokens e)) ∙ h [] in cc
   outside_next TerminatingMacro e h = let same : Ok ([], 0, x ∷ []) ≡ token_fault refusal 1 = sym (outside_ends x [] left 0 (ap ends_tokens e)) ∙ h [] in cc
-  outside_next Constituent e h = plain_next (ap is_plain e) h
-  outside_next NonTerminatingMacro e h = plain_next (ap is_plain e) h
+  outside_next Constituent e h = plain_next (ap is_plain_syntax e) h
+  outside_next NonTerminatingMacro e h = plain_next (ap is_plain_syntax e) h
   outside_next SingleEscape e h = next refusal EscapedOutside left refl (λ more. sym (outside_escape x more left 0 e) ∙ h more)
   outside_next MultipleEscape e h = put_after refusal (Bar ∷ []) Inside left refl (λ more. sym (outside_bar x more left 0 e) ∙ h more)
   outside_next Invalid e h = at_once refusal InvalidCharacter (sym (outside_invalid x [] left 0 e) ∙ h [])
@@ -221,7 +221,7 @@ module _ (refusal : ScanRefusal) (x : TypedByte) (left : ℕ) where
   stage_next EscapedInside h = escaped_next Inside refl h
   stage_next (Refused other) h = at_once refusal other (h [])
 
-pub taken_goes : (old new : Scan) (s : Syntax) (c : ℕ) (fed : Fed) → fed ≡ More
+pub taken_goes : (old new : Scan) (s : Syntax) (c : ℕ) (fed : FedByte) → fed ≡ More
     → ((at : ℕ) (more : List TypedByte) → token_from old at (met s c ∷ more) ≡ fed_gives fed new at (met s c) more) → IsTrue (is_going new.stage)
 taken_goes old new s c fed e gives = by new.stage refl
   where

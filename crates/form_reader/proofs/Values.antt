@@ -17,7 +17,7 @@ use Rattle.lisp_reading.specs.Calls.{InvokedCall}
 use Rattle.lisp_reading.specs.Setting.{Setting}
 use Rattle.lisp_reading.specs.Reading.{next_item, without_space, items_after, undotted, after_tail, list_end, completed}
 use Rattle.form_reader.specs.Call.{plan_of}
-use Rattle.form_reader.specs.Value.{Takes, Shortens, Returns}
+use Rattle.form_reader.specs.Value.{AttemptTakes, Shortens, Returns}
 use Rattle.form_reader.specs.Stack.{attempt_in, next_item_in, call_in, outer_plan, between, next_item_gives, with_object, with_dot, with_found, calls_with, is_next, is_waiting, plan_gives}
 use Rattle.form_reader.proofs.Stacks.{space_given, list_is, until_is}
 use Rattle.lisp_reading.proofs.Turns.{space_same}
@@ -236,18 +236,18 @@ module _ (setting : Setting) (at : ℕ) (cs : List ℕ) where
   -- it waited for its one object
   pub next_comes : (old stack : List Frame) (call : InvokedCall) (token : Bool) (x y : Object) (depth : ℕ) (done : CallValue) (received : Return) → old ≡ record { call = call; part = InNext } ∷ stack
       → depth ≡ length stack → y ≡ x → completed setting depth call token token (one_object y) ≡ plan_of done
-      → Takes setting stack at cs received (run setting.table setting.limits (outer_plan setting stack (plan_of done)) at cs)
-      → Takes setting stack at cs received (found_in old (one token x))
+      → AttemptTakes setting stack at cs received (run setting.table setting.limits (outer_plan setting stack (plan_of done)) at cs)
+      → AttemptTakes setting stack at cs received (found_in old (one token x))
   next_comes old stack call token x y depth done received is open_calls same comes takes =
       let whole : found_in old (one token x) ≡ run setting.table setting.limits (outer_plan setting stack (plan_of done)) at cs =
       ap (λ (fs : List Frame). found_in fs (one token x)) is ∙ one_in_next setting stack call at cs token x
       ∙ ap (λ (plan : Plan Found). run setting.table setting.limits (outer_plan setting stack plan) at cs)
       ((λ i. completed setting (sym open_calls i) call token token (one_object (sym same i))) ∙ comes) in
-      subst (λ (r : Read Found). Takes setting stack at cs received r) (sym whole) takes
+      subst (λ (r : Read Found). AttemptTakes setting stack at cs received r) (sym whole) takes
 
-  pub found_dot : (stack after : List Frame) (found : Found) (received : Return) → found ≡ lone_dot → Takes setting after at cs received (found_in stack lone_dot)
-      → Takes setting after at cs received (found_in stack found)
-  found_dot stack after found received e takes = subst (λ (f : Found). Takes setting after at cs received (found_in stack f)) (sym e) takes
+  pub found_dot : (stack after : List Frame) (found : Found) (received : Return) → found ≡ lone_dot → AttemptTakes setting after at cs received (found_in stack lone_dot)
+      → AttemptTakes setting after at cs received (found_in stack found)
+  found_dot stack after found received e takes = subst (λ (f : Found). AttemptTakes setting after at cs received (found_in stack f)) (sym e) takes
 
 -- as many calls are open
 pub as_many : (stack after : List Frame) (found : Found) → calls_with stack found ≡ Some after → length after ≡ length stack

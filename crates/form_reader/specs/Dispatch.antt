@@ -28,11 +28,11 @@ has_no_object (InUntil close []) = true
 has_no_object _ = false
 
 -- a call begins in these open calls, after which there are those
-abbrev pub Begins : Setting → List Frame → List Frame → InvokedCall → ℕ → List ℕ → Event → Type 0
-Begins setting after stack call at cs event =
+abbrev pub CallBegins : Setting → List Frame → List Frame → InvokedCall → ℕ → List ℕ → Event → Type 0
+CallBegins setting after stack call at cs event =
     Brings setting after at cs event (plan_gives setting stack (called setting (length stack) (inner_at setting (length stack)) call) at cs)
 
 -- it gathers in this way
-abbrev pub Gathers : Setting → List Frame → List Frame → InvokedCall → Way → ℕ → List ℕ → Event → Type 0
-Gathers setting after stack call way at cs event =
+abbrev pub CallGathers : Setting → List Frame → List Frame → InvokedCall → Way → ℕ → List ℕ → Event → Type 0
+CallGathers setting after stack call way at cs event =
     Brings setting after at cs event (plan_gives setting stack (gathered setting (length stack) (inner_at setting (length stack)) call way) at cs)

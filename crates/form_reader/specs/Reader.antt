@@ -18,7 +18,7 @@ use Rattle.lisp_reading.specs.Setting.{Setting}
 use Rattle.lisp_reading.specs.Deciding.{decided_from}
 use Rattle.lisp_reading.specs.Reading.{Outcome, form, empty, refused, is_whitespace, reads}
 use Rattle.form_reader.specs.State.{state_gives}
-use Rattle.form_reader.specs.Step.{rest_of, start_of}
+use Rattle.form_reader.specs.Step.{rest_of_attempt, start_of}
 
 -- the limits under which it reads
 abbrev pub limits_of : FormReader → Limits
@@ -37,8 +37,8 @@ abbrev pub HasRefused : FormReader → ℕ → ℕ → Type 0
 HasRefused reader number offset = reader.state ≡ Refused number offset
 
 -- it is in a form, or between forms
-abbrev pub IsOpen : FormReader → Type 0
-IsOpen reader = (state : State) × (reader.state ≡ Open state)
+abbrev pub IsOpenReader : FormReader → Type 0
+IsOpenReader reader = (state : State) × (reader.state ≡ Open state)
 
 -- it ran out of memory
 abbrev pub HasNoMemory : FormReader → Type 0
@@ -79,7 +79,7 @@ LeavesBetween new _ = Unit {0}
 abbrev pub IsAfterIn : Setting → FormReader → ReaderState → List ℕ → Type 0
 IsAfterIn setting reader (Open state) bytes =
     (fed reader ≡ length bytes)
-    × ((cs : List ℕ) → reads setting (bytes ++ cs) ≡ rest_of setting reader.stack state reader.start reader.at cs)
+    × ((cs : List ℕ) → reads setting (bytes ++ cs) ≡ rest_of_attempt setting reader.stack state reader.start reader.at cs)
 IsAfterIn setting reader (Refused number offset) bytes = (cs : List ℕ) → reads setting (bytes ++ cs) ≡ refused number offset
 IsAfterIn setting reader OutOfMemory bytes = ⊥
 
@@ -127,7 +127,7 @@ IsDecidedFrom setting bytes from = (cs : List ℕ) → decided_from setting (byt
 -- It goes on after these bytes, and what it has open began where it says; where that has no byte, it is between forms. What decides the
 -- text begins where the attempt that it is in says.
 pub record HasBegun (setting : Setting) (reader : FormReader) (bytes : List ℕ) : Type 0 where
-  pub goes_on : IsOpen reader
+  pub goes_on : IsOpenReader reader
   pub begins : BeginsAt setting bytes (begun reader)
   pub between : begun reader ≡ fed reader → IsBetween reader
   pub decides : (state : State) → reader.state ≡ Open state
@@ -181,7 +181,7 @@ is_more _ = false
 
 -- So many of the bytes are taken, one step after the other, after the bytes before: the last step answers this, and where it decides,
 -- those before it had decided nothing.
-pub record Feeds (setting : Setting) (reader : FormReader) (before bytes : List ℕ) (count : ℕ) (step : Advance) : Type 0 where
+pub record FeedsReader (setting : Setting) (reader : FormReader) (before bytes : List ℕ) (count : ℕ) (step : Advance) : Type 0 where
   pub steps : Steps setting reader (before ++ take count bytes) step
   pub undecided : is_more step ≡ false → 1 < count → DecideNothing setting (before ++ take (count - 1) bytes)
 

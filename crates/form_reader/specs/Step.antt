@@ -23,8 +23,8 @@ abbrev pub outcome_of : Setting → ℕ → Read Found → Outcome
 outcome_of setting start read = outcome setting.table start (λ next cs. reads_at setting next cs) read
 
 -- the same, where the attempt is in this state, so many bytes after it began, and these bytes follow
-abbrev pub rest_of : Setting → List Frame → State → ℕ → ℕ → List ℕ → Outcome
-rest_of setting stack state start at cs = outcome_of setting start (state_gives setting stack state at cs)
+abbrev pub rest_of_attempt : Setting → List Frame → State → ℕ → ℕ → List ℕ → Outcome
+rest_of_attempt setting stack state start at cs = outcome_of setting start (state_gives setting stack state at cs)
 
 -- where the attempt begins that decides the text, where the attempt that began at start comes to this
 abbrev pub start_of : Setting → ℕ → Read Found → ℕ
@@ -111,7 +111,7 @@ StartsAfter setting found start at c (Refused from number offset) =
     (from ≡ start) ⊎ ((from ≡ start + at) × (is_space setting c ≡ false) × ((token : Bool) × (found ≡ nothing token)))
 
 -- An attempt that has so many bytes comes to nothing before this byte, which is not discarded where an attempt begins.
-pub record EndsBefore (setting : Setting) (stack : List Frame) (state : State) (at c : ℕ) : Type 0 where
+pub record AttemptEndsBefore (setting : Setting) (stack : List Frame) (state : State) (at c : ℕ) : Type 0 where
   pub token : Bool
   pub found : (cs : List ℕ) → state_gives setting stack state at (c ∷ cs) ≡ Ok (nothing token, at, c ∷ cs)
   pub other : is_space setting c ≡ false
@@ -119,7 +119,7 @@ pub record EndsBefore (setting : Setting) (stack : List Frame) (state : State) (
 -- where the attempt began in which this byte is taken; or nothing is open; or at this byte, before which that attempt ended
 abbrev pub Starts : Setting → List Frame → State → ℕ → ℕ → ℕ → Change → Type 0
 Starts setting stack state start at c (Goes next count there) =
-    (next ≡ start) ⊎ ((count ≡ 0) ⊎ ((next ≡ start + at) × EndsBefore setting stack state at c))
+    (next ≡ start) ⊎ ((count ≡ 0) ⊎ ((next ≡ start + at) × AttemptEndsBefore setting stack state at c))
 Starts setting stack state start at c (Form x from «end» next) = Unit {0}
 Starts setting stack state start at c (Refused from number offset) =
-    (from ≡ start) ⊎ ((from ≡ start + at) × EndsBefore setting stack state at c)
+    (from ≡ start) ⊎ ((from ≡ start + at) × AttemptEndsBefore setting stack state at c)

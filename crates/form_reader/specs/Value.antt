@@ -11,10 +11,10 @@ use Rattle.form_reader.specs.State.{space, lookahead}
 
 -- What the innermost makes of it, after which these calls are open: it goes on, perhaps after one whitespace character; or it
 -- comes to this; or it is refused.
-abbrev pub Takes : Setting → List Frame → ℕ → List ℕ → Return → Read Found → Type 0
-Takes setting stack at cs (Waits token) read = read ≡ next_item_gives setting token stack at cs
-Takes setting stack at cs (ReturnGives found) read = read ≡ plan_gives setting stack (gives found) at cs
-Takes setting stack at cs (ReturnRefused number offset) read = read ≡ fault number offset
+abbrev pub AttemptTakes : Setting → List Frame → ℕ → List ℕ → Return → Read Found → Type 0
+AttemptTakes setting stack at cs (Waits token) read = read ≡ next_item_gives setting token stack at cs
+AttemptTakes setting stack at cs (ReturnGives found) read = read ≡ plan_gives setting stack (gives found) at cs
+AttemptTakes setting stack at cs (ReturnRefused number offset) read = read ≡ fault number offset
 
 -- No more calls are open after it, and fewer where the innermost ended.
 abbrev pub Shortens : List Frame → List Frame → Return → Type 0

@@ -9,7 +9,7 @@ ghost use Rattle.std_macros.specs.Results.{view_gathered, IsProperGathered};
 ghost use Rattle.lisp_reading.specs.Answering.{may_be_answered};
 ghost use Rattle.lisp_reading.specs.Setting.{macro_call, user_material, Setting};
 ghost use Rattle.form_reader.specs.Context.{setting};
-ghost use Rattle.lisp_reading.specs.Reading.{bytes_back, finished, answered, completed, gathered, closed};
+ghost use Rattle.lisp_reading.specs.Reading.{bytes_back, finished, plan_after_answer, completed, gathered, closed};
 ghost use Rattle.form_reader.specs.Call.{plan_of, value_lookahead, ComesTo};
 ghost use Rattle.form_reader.specs.State.{space, Brings, IsReady, IsEnd};
 ghost use Rattle.form_reader.specs.declared.stack.Frame.{Frame};
@@ -128,7 +128,7 @@ fn user_value(
     spaced: bool,
     answer: Answer,
 ) -> CallValue
-    ensures gives { answered packages.now.0 nesting depth token spaced (answer_of answer)
+    ensures gives { plan_after_answer packages.now.0 nesting depth token spaced (answer_of answer)
         ≡ plan_of result }
     ensures ends { value_lookahead result ≤ space (token || spaced) }
 {

@@ -8,7 +8,7 @@ ghost use Rattle.form_reader.specs.Stack.{plan_gives};
 ghost use Rattle.form_reader.specs.State.{inner_at, Brings, state_gives, IsReady};
 ghost use Rattle.form_reader.specs.declared.stack.Frame.{Frame};
 ghost use Rattle.form_reader.specs.declared.state.State.TheVariants.{Number as AtNumber};
-ghost use Rattle.form_reader.specs.Dispatch.{Begins, Gathers, has_no_object, way_of_part};
+ghost use Rattle.form_reader.specs.Dispatch.{CallBegins, CallGathers, has_no_object, way_of_part};
 
 use crate::call::end_call;
 use crate::context::Context;
@@ -133,7 +133,7 @@ pub(crate) fn begin_call<R: MacroFunctions>(
     requires within { at ≤ with.now.limits.text }
     requires nesting { length stack.old ≤ with.now.limits.nesting }
     ensures begins { let setting = setting R.functions with.now in
-        (cs : List ℕ) → IfOk result (λ event. Begins setting stack.new stack.old call at cs event) }
+        (cs : List ℕ) → IfOk result (λ event. CallBegins setting stack.new stack.old call at cs event) }
     ensures ready { IfOk result (IsReady with.now.limits at) }
     ensures nesting { IfOk result (λ _. length stack.new ≤ with.now.limits.nesting) }
 {
@@ -159,7 +159,7 @@ fn gather<R: MacroFunctions>(
     requires within { at ≤ with.now.limits.text }
     requires nesting { length stack.old ≤ with.now.limits.nesting }
     ensures gathers { let setting = setting R.functions with.now in
-        (cs : List ℕ) → IfOk result (λ event. Gathers setting stack.new stack.old call way at cs event) }
+        (cs : List ℕ) → IfOk result (λ event. CallGathers setting stack.new stack.old call way at cs event) }
     ensures ready { IfOk result (IsReady with.now.limits at) }
     ensures nesting { IfOk result (λ _. length stack.new ≤ with.now.limits.nesting) }
 {
@@ -213,7 +213,7 @@ fn open_call<R: MacroFunctions>(
     requires within { at ≤ with.now.limits.text }
     requires nesting { length stack.old ≤ with.now.limits.nesting }
     ensures gathers { let setting = setting R.functions with.now in
-        (cs : List ℕ) → IfOk result (λ event. Gathers setting stack.new stack.old frame.call (way_of_part frame.part) at cs event) }
+        (cs : List ℕ) → IfOk result (λ event. CallGathers setting stack.new stack.old frame.call (way_of_part frame.part) at cs event) }
     ensures ready { IfOk result (IsReady with.now.limits at) }
     ensures nesting { IfOk result (λ _. length stack.new ≤ with.now.limits.nesting) }
 {

@@ -10,7 +10,7 @@ ghost use Rattle.lisp_reading.specs.declared.found.Found.TheVariants.{TheEnd as 
 ghost use Rattle.form_reader.specs.declared.state.Event.TheVariants.{Open as IsAt};
 ghost use Rattle.form_reader.specs.declared.state.Event.TheVariants.{Gives as IsDone};
 ghost use Rattle.form_reader.specs.State.{Brings, state_gives};
-ghost use Rattle.form_reader.specs.Step.{outcome_of, rest_of, Settles};
+ghost use Rattle.form_reader.specs.Step.{outcome_of, rest_of_attempt, Settles};
 ghost use Rattle.form_reader.specs.EndOfText.{TokenStops, RefusesIn, IsLastEvent, IsLastSettled};
 ghost use Rattle.form_reader.specs.Reader.{IsOutcome};
 
@@ -209,7 +209,7 @@ pub(crate) fn last_outcome<R: MacroFunctions>(
     requires within { at ≤ with.now.limits.text }
     requires count { start + at ≤ 2 ^ 63 }
     ensures outcome { let setting = setting R.functions with.now in
-        IfOk result (λ outcome. IsOutcome outcome (rest_of setting stack.old state start at [])) }
+        IfOk result (λ outcome. IsOutcome outcome (rest_of_attempt setting stack.old state start at [])) }
     ensures refuses { let setting = setting R.functions with.now in
         IfOk result (RefusesIn setting start (state_gives setting stack.old state at [])) }
     ensures between { stack.old ≡ [] → state ≡ AtObject → result ≡ Ok IsEmpty }

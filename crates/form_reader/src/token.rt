@@ -2,7 +2,7 @@
 ghost use Rattle.std.specs.Prelude.{◌≡◌, ◌≤◌, ◌<◌, ℕ, List, ◌∷◌, IfOk, IsTrue, IsFalse, Ok, nat_lt, if◌then◌else◌, ◌+◌, length, true, false};
 ghost use Rattle.token_scan.specs.Tokens.{kind, typed};
 ghost use Rattle.token_scan.specs.Spelling.{ends_tokens};
-ghost use Rattle.token_scan.specs.Scans.{Scan, begun, has_begun};
+ghost use Rattle.token_scan.specs.Scans.{Scan, first_scan, has_begun};
 ghost use Rattle.form_reader.specs.Token.{TokenFeeds, is_going, token_read, BegunFeeds, FirstFeeds, IsBegunByte, refused_number};
 ghost use Rattle.form_reader.specs.declared.gather.LineByte.TheVariants.{Ended as LineEnded, More as LineMore};
 ghost use Rattle.form_reader.specs.declared.token.BegunByte.TheVariants.{More as BegunMore};
@@ -31,7 +31,7 @@ use readtable_core::Readtable;
 use std::alloc::{AllocError, Global};
 use std::marker::Model;
 use std_macros::StdGathered;
-use token_scan::{Fed, Marks, ScanRefusal, TokenScan};
+use token_scan::{FedByte, Marks, ScanRefusal, TokenScan};
 use user_macros::MacroFunctions;
 
 /// A token of which a byte was taken: where it ends it has a mark.
@@ -82,7 +82,7 @@ pub(crate) fn first_byte(
     requires within { at ≤ limits.now.text }
     requires begins { IsFalse (ends_tokens (kind (typed readtable.now c))) }
     ensures feeds { (cs : List ℕ) → IfOk result (λ fed.
-        FirstFeeds readtable.now limits.now at cs fed (token_read readtable.now limits.now (begun limits.now.token) at (c ∷ cs))) }
+        FirstFeeds readtable.now limits.now at cs fed (token_read readtable.now limits.now (first_scan limits.now.token) at (c ∷ cs))) }
     ensures going { (scan : Scan) → result ≡ Ok (FirstMore scan) → IsTrue (is_going scan.stage) }
     ensures below { (scan : Scan) → result ≡ Ok (FirstMore scan) → at < limits.now.text }
 {
@@ -151,15 +151,15 @@ pub(crate) fn token_byte(
 {
     match scan.feed(readtable.syntax(c), c)? {
         // The byte is not taken, so it is not asked whether it is one too many.
-        Fed::Ended => Ok(LineByte::Ended),
-        Fed::More => {
+        FedByte::Ended => Ok(LineByte::Ended),
+        FedByte::More => {
             if at >= limits.text {
                 Ok(LineByte::Refused(FORM_TOO_LONG))
             } else {
                 Ok(LineByte::More)
             }
         }
-        Fed::Refused(refusal) => Ok(LineByte::Refused(refusal_number(limits, refusal, at))),
+        FedByte::Refused(refusal) => Ok(LineByte::Refused(refusal_number(limits, refusal, at))),
     }
 }
 

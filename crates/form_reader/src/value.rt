@@ -7,7 +7,7 @@ ghost use Rattle.form_reader.specs.Call.{plan_of, value_lookahead};
 ghost use Rattle.lisp_reading.specs.Setting.{Setting};
 ghost use Rattle.form_reader.specs.Context.{setting};
 ghost use Rattle.form_reader.specs.Stack.{plan_gives};
-ghost use Rattle.form_reader.specs.Value.{Takes, Shortens, Returns, IsReturnAt};
+ghost use Rattle.form_reader.specs.Value.{AttemptTakes, Shortens, Returns, IsReturnAt};
 ghost use Rattle.form_reader.specs.State.{space, lookahead};
 
 use crate::call::{CallValue, call_value};
@@ -41,7 +41,7 @@ fn take<R: MacroFunctions>(
     requires within { at ≤ with.now.limits.text }
     requires open { 0 < length stack.old }
     ensures takes { let setting = setting R.functions with.now in
-        (cs : List ℕ) → IfOk result (λ received. Takes setting stack.new at cs received
+        (cs : List ℕ) → IfOk result (λ received. AttemptTakes setting stack.new at cs received
         (plan_gives setting stack.old (gives found) at cs)) }
     ensures leaves { IfOk result (IsReturnAt (lookahead found) at) }
     ensures shorter { IfOk result (Shortens stack.old stack.new) }
@@ -66,7 +66,7 @@ fn take_one<R: MacroFunctions>(
     requires within { at ≤ with.now.limits.text }
     requires open { 0 < length stack.old }
     ensures takes { let setting = setting R.functions with.now in
-        (cs : List ℕ) → IfOk result (λ received. Takes setting stack.new at cs received
+        (cs : List ℕ) → IfOk result (λ received. AttemptTakes setting stack.new at cs received
         (plan_gives setting stack.old (gives (one token x)) at cs)) }
     ensures leaves { IfOk result (IsReturnAt (space token) at) }
     ensures shorter { IfOk result (Shortens stack.old stack.new) }
@@ -91,7 +91,7 @@ fn take_one<R: MacroFunctions>(
 fn take_dot(stack: &mut Stack, at: usize) -> Return
     requires open { 0 < length stack.old }
     ensures takes { (setting : Setting) (cs : List ℕ) → at ≤ setting.limits.text
-        → Takes setting stack.new at cs result
+        → AttemptTakes setting stack.new at cs result
         (plan_gives setting stack.old (gives lone_dot) at cs) }
     ensures leaves { IsReturnAt 1 at result }
     ensures shorter { Shortens stack.old stack.new result }
@@ -106,7 +106,7 @@ fn take_dot(stack: &mut Stack, at: usize) -> Return
 /// What an open call that ends at `at` comes to.
 fn return_of(completed: CallValue, at: usize) -> Return
     ensures takes { (setting : Setting) (stack : List Frame) (cs : List ℕ)
-        → Takes setting stack at cs result
+        → AttemptTakes setting stack at cs result
         (plan_gives setting stack (plan_of completed) at cs) }
     ensures leaves { IsReturnAt (value_lookahead completed) at result }
 {

@@ -7,17 +7,17 @@ use Rattle.lisp_object.specs.Object.{Object, integer, rational, character, text,
 abbrev pub bytes_code : List ℕ → Gv
 bytes_code = (coded_list coded_ℕ).code
 
-abbrev pub code_of : Object → Gv
-code_of (integer n) = gcons (gnum 0) (coded_ℤ.code n)
-code_of (rational n d) = gcons (gnum 1) (gcons (coded_ℤ.code n) (gnum d))
-code_of (character c) = gcons (gnum 2) (gnum c)
-code_of (text bytes) = gcons (gnum 3) (bytes_code bytes)
-code_of (symbol home name) = gcons (gnum 4) (gcons (bytes_code home) (bytes_code name))
-code_of (uninterned name) = gcons (gnum 5) (bytes_code name)
-code_of (pair a b) = gcons (gnum 6) (gcons (code_of a) (code_of b))
-code_of (vector xs) = gcons (gnum 7) (code_of xs)
+abbrev pub code_of_object : Object → Gv
+code_of_object (integer n) = gcons (gnum 0) (coded_ℤ.code n)
+code_of_object (rational n d) = gcons (gnum 1) (gcons (coded_ℤ.code n) (gnum d))
+code_of_object (character c) = gcons (gnum 2) (gnum c)
+code_of_object (text bytes) = gcons (gnum 3) (bytes_code bytes)
+code_of_object (symbol home name) = gcons (gnum 4) (gcons (bytes_code home) (bytes_code name))
+code_of_object (uninterned name) = gcons (gnum 5) (bytes_code name)
+code_of_object (pair a b) = gcons (gnum 6) (gcons (code_of_object a) (code_of_object b))
+code_of_object (vector xs) = gcons (gnum 7) (code_of_object xs)
 
-pub code_inj : (x y : Object) → code_of x ≡ code_of y → x ≡ y
+pub code_inj : (x y : Object) → code_of_object x ≡ code_of_object y → x ≡ y
 code_inj (integer n) (integer m) p =
     let e : coded_ℤ.code n ≡ coded_ℤ.code m = cc in
     let same : n ≡ m = coded_ℤ.inj n m e in
@@ -45,17 +45,17 @@ code_inj (uninterned n) (uninterned m) p =
     let same : n ≡ m = (coded_list coded_ℕ).inj n m e in
     cc
 code_inj (pair a b) (pair x y) p =
-    let e : code_of a ≡ code_of x = cc in
-    let f : code_of b ≡ code_of y = cc in
+    let e : code_of_object a ≡ code_of_object x = cc in
+    let f : code_of_object b ≡ code_of_object y = cc in
     let firsts : a ≡ x = code_inj a x e in
     let rests : b ≡ y = code_inj b y f in
     cc
 code_inj (vector a) (vector x) p =
-    let e : code_of a ≡ code_of x = cc in
+    let e : code_of_object a ≡ code_of_object x = cc in
     let same : a ≡ x = code_inj a x e in
     cc
 code_inj _ _ p = absurd (cc)
 
 -- the code that an `impl Model` names for objects
 abbrev pub object_code : Coded Object
-object_code = record { code = code_of; inj = code_inj }
+object_code = record { code = code_of_object; inj = code_inj }

@@ -22,7 +22,7 @@ use Rattle.package_table.proofs.Names.{name_total}
 use Rattle.plist_state.specs.declared.error.ReadtableError.{ReadtableError}
 use Rattle.plist_state.specs.declared.error.ReadtableError.TheVariants.{NoReadtable, StandardReadtable, Limit}
 use Rattle.plist_state.specs.State.{Readtables, WorldState, standard_name}
-use Rattle.plist_state.specs.Changes.{put_changed, with_changed, changed as changed_readtables, with_case, with_macro, with_dispatching, dispatched, refused_as, with_dispatch, with_syntax, with_copy}
+use Rattle.plist_state.specs.Changes.{put_changed, with_changed, changed_readtable as changed_readtables, with_case, with_macro, with_dispatching, dispatched, refused_as, with_dispatch, with_syntax, with_copy}
 use Rattle.lisp_operators.specs.Readtables.{AreCovered, is_function}
 use Rattle.lisp_operators.proofs.KeepingOperators as keeping
 use Rattle.lisp_operators.proofs.KeepingOperators.{Changes}

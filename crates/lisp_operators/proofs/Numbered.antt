@@ -20,7 +20,7 @@ use Rattle.package_table.specs.Errors as package_errors
 use Rattle.plist_state.specs.declared.error.ReadtableError.{ReadtableError}
 use Rattle.plist_state.specs.Refused as readtable_errors
 use Rattle.plist_state.specs.State.{Readtables, WorldState, standard_name}
-use Rattle.plist_state.specs.Changes.{writable, put_changed, with_changed, changed, with_case, with_macro, with_dispatching, refused_as, dispatched, with_dispatch, with_syntax, with_copy}
+use Rattle.plist_state.specs.Changes.{writable, put_changed, with_changed, changed_readtable, with_case, with_macro, with_dispatching, refused_as, dispatched, with_dispatch, with_syntax, with_copy}
 use Rattle.lisp_operators.specs.Evaluation.{Evaluation, also, and_then, of_kind}
 
 -- a number of evaluation
@@ -74,52 +74,52 @@ module _ {A E : Type 0} (number_of : E → ℕ) where
   found_or None on other each none = none
 
 abbrev pub IsPackagesNumbered : {A : Type 0} → Result A PackageError → Type 0
-IsPackagesNumbered r = IsNumbered package_errors.number_of r
+IsPackagesNumbered r = IsNumbered package_errors.package_error_number r
 
 module _ (t : Table) where
   pub numbered_make : (n : Name) → IsPackagesNumbered (after_make t n)
   numbered_make n =
-      refuses package_errors.number_of (length n == 0) _ _ (omega arith, omega arith)
-      (refuses package_errors.number_of (is_some (package_named t n)) _ _ (omega arith, omega arith)
-      (refuses package_errors.number_of (nat_le most_packages (finite.len t) || nat_lt longest_package_name (length n)) _ _ (omega arith, omega arith) tt))
+      refuses package_errors.package_error_number (length n == 0) _ _ (omega arith, omega arith)
+      (refuses package_errors.package_error_number (is_some (package_named t n)) _ _ (omega arith, omega arith)
+      (refuses package_errors.package_error_number (nat_le most_packages (finite.len t) || nat_lt longest_package_name (length n)) _ _ (omega arith, omega arith) tt))
 
   pub numbered_intern : (p n : Name) → IsPackagesNumbered (after_intern t p n)
   numbered_intern p n =
-      refuses package_errors.number_of (not (finite.contains_key t p)) _ _ (omega arith, omega arith)
-      (found_or package_errors.number_of (found t p n) _ _ (λ h. tt)
-      (refuses package_errors.number_of (bytes_eq p common_lisp) _ _ (omega arith, omega arith)
-      (refuses package_errors.number_of (nat_lt longest_symbol_name (length n) || nat_le most_symbols (symbol_count t)) _ _ (omega arith, omega arith) tt)))
+      refuses package_errors.package_error_number (not (finite.contains_key t p)) _ _ (omega arith, omega arith)
+      (found_or package_errors.package_error_number (found t p n) _ _ (λ h. tt)
+      (refuses package_errors.package_error_number (bytes_eq p common_lisp) _ _ (omega arith, omega arith)
+      (refuses package_errors.package_error_number (nat_lt longest_symbol_name (length n) || nat_le most_symbols (symbol_count t)) _ _ (omega arith, omega arith) tt)))
 
   pub numbered_export : (p h n : Name) → IsPackagesNumbered (after_export t p h n)
   numbered_export p h n =
-      refuses package_errors.number_of (not (finite.contains_key t p)) _ _ (omega arith, omega arith)
-      (refuses package_errors.number_of (is_locked p) _ _ (omega arith, omega arith)
-      (refuses package_errors.number_of (not (finds_this t p h n)) _ _ (omega arith, omega arith)
-      (refuses package_errors.number_of (user_finds_other t p h n) _ _ (omega arith, omega arith) tt)))
+      refuses package_errors.package_error_number (not (finite.contains_key t p)) _ _ (omega arith, omega arith)
+      (refuses package_errors.package_error_number (is_locked p) _ _ (omega arith, omega arith)
+      (refuses package_errors.package_error_number (not (finds_this t p h n)) _ _ (omega arith, omega arith)
+      (refuses package_errors.package_error_number (user_finds_other t p h n) _ _ (omega arith, omega arith) tt)))
 
   pub numbered_import : (p h n : Name) → IsPackagesNumbered (after_import t p h n)
   numbered_import p h n =
-      refuses package_errors.number_of (not (finite.contains_key t p)) _ _ (omega arith, omega arith)
-      (refuses package_errors.number_of (is_locked p) _ _ (omega arith, omega arith)
-      (refuses package_errors.number_of (finds_other t p h n) _ _ (omega arith, omega arith) tt))
+      refuses package_errors.package_error_number (not (finite.contains_key t p)) _ _ (omega arith, omega arith)
+      (refuses package_errors.package_error_number (is_locked p) _ _ (omega arith, omega arith)
+      (refuses package_errors.package_error_number (finds_other t p h n) _ _ (omega arith, omega arith) tt))
 
   pub numbered_use : (p q : Name) → IsPackagesNumbered (after_use t p q)
   numbered_use p q =
-      refuses package_errors.number_of (not (finite.contains_key t p) || not (finite.contains_key t q)) _ _ (omega arith, omega arith)
-      (refuses package_errors.number_of (is_locked p || bytes_eq q keyword) _ _ (omega arith, omega arith)
-      (one_of package_errors.number_of (bytes_eq p q || is_used t p q) _ _ tt
-      (refuses package_errors.number_of (finds_other_than_shown t p q) _ _ (omega arith, omega arith) tt)))
+      refuses package_errors.package_error_number (not (finite.contains_key t p) || not (finite.contains_key t q)) _ _ (omega arith, omega arith)
+      (refuses package_errors.package_error_number (is_locked p || bytes_eq q keyword) _ _ (omega arith, omega arith)
+      (one_of package_errors.package_error_number (bytes_eq p q || is_used t p q) _ _ tt
+      (refuses package_errors.package_error_number (finds_other_than_shown t p q) _ _ (omega arith, omega arith) tt)))
 
 abbrev pub IsReadtablesNumbered : {A : Type 0} → Result A ReadtableError → Type 0
-IsReadtablesNumbered r = IsNumbered readtable_errors.number_of r
+IsReadtablesNumbered r = IsNumbered readtable_errors.readtable_error_number r
 
 put_numbered : (m : Readtables) (n : Name) (r : Result readtable.Table ReadtableError) → IsReadtablesNumbered r → IsReadtablesNumbered (put_changed m n r)
 put_numbered m n (Ok t) is = tt
 put_numbered m n (Err e) is = is
 
-changed_numbered : (m : Readtables) (n : Name) (change : readtable.Table → Result readtable.Table ReadtableError) → ((t : readtable.Table) → IsReadtablesNumbered (change t)) → IsReadtablesNumbered (changed m n change)
+changed_numbered : (m : Readtables) (n : Name) (change : readtable.Table → Result readtable.Table ReadtableError) → ((t : readtable.Table) → IsReadtablesNumbered (change t)) → IsReadtablesNumbered (changed_readtable m n change)
 changed_numbered m n change each =
-    with_writable (writable m n) (found_or readtable_errors.number_of (finite.get m n) _ _ (λ t. refuses readtable_errors.number_of (bytes_eq n standard_name) _ _ (omega arith, omega arith) tt) (omega arith, omega arith))
+    with_writable (writable m n) (found_or readtable_errors.readtable_error_number (finite.get m n) _ _ (λ t. refuses readtable_errors.readtable_error_number (bytes_eq n standard_name) _ _ (omega arith, omega arith) tt) (omega arith, omega arith))
   where
     with_writable : (r : Result readtable.Table ReadtableError) → IsReadtablesNumbered r → IsReadtablesNumbered (with_changed m n change r)
     with_writable (Ok t) is = put_numbered m n (change t) (each t)
@@ -141,15 +141,15 @@ module _ (m : Readtables) (n : Name) where
 
   pub numbered_dispatch : (c sub : ℕ) (f : Name) → IsReadtablesNumbered (with_dispatch m n c sub f)
   numbered_dispatch c sub f =
-      changed_numbered m n (λ t. dispatched t c sub f) (λ t. found_or readtable_errors.number_of (dispatch_refusal t c sub) _ _ refused_numbered tt)
+      changed_numbered m n (λ t. dispatched t c sub f) (λ t. found_or readtable_errors.readtable_error_number (dispatch_refusal t c sub) _ _ refused_numbered tt)
 
   pub numbered_syntax : (c : ℕ) (o : Name) (d : ℕ) → IsReadtablesNumbered (with_syntax m n c o d)
   numbered_syntax c o d =
-      found_or readtable_errors.number_of (finite.get m o) _ _ (λ z. changed_numbered m n (λ t. Ok (with_entry t c (entry_at z d))) (λ t. tt)) (omega arith, omega arith)
+      found_or readtable_errors.readtable_error_number (finite.get m o) _ _ (λ z. changed_numbered m n (λ t. Ok (with_entry t c (entry_at z d))) (λ t. tt)) (omega arith, omega arith)
 
   pub numbered_copy : (o : Name) → IsReadtablesNumbered (with_copy m o n)
   numbered_copy o =
-      found_or readtable_errors.number_of (finite.get m o) _ _
-      (λ t. refuses readtable_errors.number_of (bytes_eq n standard_name) _ _ (omega arith, omega arith)
-      (refuses readtable_errors.number_of (not (finite.contains_key m n) && nat_le 64 (finite.len m)) _ _ (omega arith, omega arith) tt))
+      found_or readtable_errors.readtable_error_number (finite.get m o) _ _
+      (λ t. refuses readtable_errors.readtable_error_number (bytes_eq n standard_name) _ _ (omega arith, omega arith)
+      (refuses readtable_errors.readtable_error_number (not (finite.contains_key m n) && nat_le 64 (finite.len m)) _ _ (omega arith, omega arith) tt))
       (omega arith, omega arith)

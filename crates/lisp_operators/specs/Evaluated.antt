@@ -15,7 +15,7 @@ use Rattle.plist_state.specs.Sound.{IsValue}
 use Rattle.plist_state.specs.Shown.{symbol_of}
 use Rattle.plist_state.specs.declared.symbol.Symbol.{Symbol as Stored}
 use Rattle.plist_state.specs.declared.error.ReadtableError.{ReadtableError}
-use Rattle.plist_state.specs.Refused.{number_of}
+use Rattle.plist_state.specs.Refused.{readtable_error_number}
 use Rattle.lisp_operators.specs.declared.error.EvaluationError.{EvaluationError}
 use Rattle.lisp_operators.specs.declared.error.EvaluationError.TheVariants.{Refused, OutOfMemory}
 use Rattle.lisp_operators.specs.declared.evaluated.Evaluated.{Evaluated}
@@ -91,11 +91,11 @@ Makes (Err NoRoom) u said = Unit {0}
 Makes (Err e) u said = said ≡ Err e
 
 -- T, and whether the packages changed; or the refusal of the changes. T takes memory.
-abbrev pub TellsChange : Result Bool PackageError → Result Evaluated EvaluationError → Type 0
-TellsChange (Ok wrote) (Ok e) = (object_of e.value ≡ t) × (e.wrote ≡ wrote)
-TellsChange (Ok wrote) (Err error) = error ≡ OutOfMemory
-TellsChange (Err cause) (Ok e) = ⊥
-TellsChange (Err cause) (Err error) = error ≡ of_package cause
+abbrev pub TellsPackageChange : Result Bool PackageError → Result Evaluated EvaluationError → Type 0
+TellsPackageChange (Ok wrote) (Ok e) = (object_of e.value ≡ t) × (e.wrote ≡ wrote)
+TellsPackageChange (Ok wrote) (Err error) = error ≡ OutOfMemory
+TellsPackageChange (Err cause) (Ok e) = ⊥
+TellsPackageChange (Err cause) (Err error) = error ≡ of_package cause
 
 -- what was found; or where there is nothing, the refusal of this number
 abbrev pub FoundOr : {A B : Type 0} → ℕ → (A → B) → Result A EvaluationError → Option B → Type 0
@@ -124,7 +124,7 @@ IsReadtableOr view result o = FoundOr NO_READTABLE view result o
 -- the readtable of a name, where it may be written
 abbrev pub IsWritableOr : {A B : Type 0} → (A → B) → Result A EvaluationError → Result B ReadtableError → Type 0
 IsWritableOr view (Ok x) said = said ≡ Ok (view x)
-IsWritableOr view (Err error) said = (e : ReadtableError) × (error ≡ Refused (number_of e)) × (said ≡ Err e)
+IsWritableOr view (Err error) said = (e : ReadtableError) × (error ≡ Refused (readtable_error_number e)) × (said ≡ Err e)
 
 -- the function of a name, where a readtable may name it
 abbrev pub IsFunctionOr : Result Name EvaluationError → Name → Bool → Type 0

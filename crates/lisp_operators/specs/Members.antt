@@ -19,12 +19,12 @@ AreMembers x (Some xs) = (object_is_list x ≡ true → x ≡ list_of xs) × (ob
 AreMembers x None = (object_is_list x ≡ true) × (is_proper_list x ≡ false)
 
 -- the symbol that a member is, where it is one
-abbrev pub symbol_in : Datum → Symbol
-symbol_in d = unwrap_or (a_symbol (object_of d)) ([], [])
+abbrev pub symbol_of_member : Datum → Symbol
+symbol_of_member d = unwrap_or (a_symbol (object_of d)) ([], [])
 
 -- the symbols that these are
 abbrev pub symbols_in : List Datum → List Symbol
-symbols_in ds = map symbol_in ds
+symbols_in ds = map symbol_of_member ds
 
 -- the name of which a member is a designator, where it is one
 abbrev pub name_in : Datum → Name

@@ -7,7 +7,7 @@ use Rattle.lisp_object.specs.Object.{Object, text, symbol}
 use Rattle.lisp_object.specs.declared.refusal.TheConstants.{ARGUMENT_KIND, NO_SUCH_PACKAGE, PACKAGE_IS_LOCKED, NOT_ACCESSIBLE}
 use Rattle.package_table.specs.declared.error.PackageError.{PackageError}
 use Rattle.package_table.specs.Table.{Name, Table, keyword, is_locked, package_named}
-use Rattle.package_table.specs.Errors.{number_of}
+use Rattle.package_table.specs.Errors.{package_error_number}
 use Rattle.package_table.specs.Changes.{after_make, after_intern, after_export, after_import, after_use, finds_this, intern_changes, export_changes, import_changes, use_changes}
 use Rattle.plist_state.specs.Properties.{Symbol}
 use Rattle.plist_state.specs.State.{WorldState}
@@ -23,7 +23,7 @@ in_package s n on = option_map_or on (package_named s.packages n) (Err NO_SUCH_P
 -- MAKE-PACKAGE: the name
 abbrev pub made : WorldState → Name → Result Table PackageError → Evaluation Object
 made s n (Ok packages) = writes (text n) (with_packages s packages)
-made s n (Err e) = Err (number_of e)
+made s n (Err e) = Err (package_error_number e)
 
 abbrev pub make : List Object → WorldState → Evaluation Object
 make (x ∷ []) s = of_kind (a_name x) (λ n. made s n (after_make s.packages n))
@@ -36,7 +36,7 @@ enter x s = of_kind (a_name x) (λ n. in_package s n (λ p. writes (text p) (rec
 -- INTERN: the symbol
 abbrev pub interned : WorldState → Name → Bool → Result (Name × Table) PackageError → Evaluation Object
 interned s n changes (Ok p) = Ok (record { value = symbol p.0 n; state = with_packages s p.1; wrote = changes })
-interned s n changes (Err e) = Err (number_of e)
+interned s n changes (Err e) = Err (package_error_number e)
 
 abbrev pub intern : List Object → WorldState → Evaluation Object
 intern (x ∷ rest) s =
@@ -68,7 +68,7 @@ after_uses u p qs = one_by_one (λ v q. after_use v p q) (λ v q. use_changes v 
 -- T, in the state after such changes
 abbrev pub changed : WorldState → Result (Table × Bool) PackageError → Evaluation Object
 changed s (Ok p) = Ok (record { value = t; state = with_packages s p.0; wrote = p.1 })
-changed s (Err e) = Err (number_of e)
+changed s (Err e) = Err (package_error_number e)
 
 abbrev pub unlocked : {A : Type 0} → Name → Evaluation A → Evaluation A
 unlocked p on = if is_locked p then Err PACKAGE_IS_LOCKED else on

@@ -16,7 +16,7 @@ use Rattle.std.specs.Str.{bytes_eq}
 use Rattle.std.specs.FinMap as finite
 use Rattle.plist_state.specs.declared.error.ReadtableError.{ReadtableError}
 use Rattle.plist_state.specs.State.{Readtables, WorldState, standard_name}
-use Rattle.plist_state.specs.Refused.{number_of}
+use Rattle.plist_state.specs.Refused.{readtable_error_number}
 use Rattle.plist_state.specs.Changes.{after_in_readtable, with_case, with_macro, with_dispatching, with_dispatch, with_syntax, with_copy, in_state}
 use Rattle.lisp_operators.specs.Evaluation.{Evaluation, gives, writes, of_kind}
 use Rattle.lisp_operators.specs.Kinds.{a_character, a_keyword, a_source, a_case, given_or, given_or_nil, is_true}
@@ -33,7 +33,7 @@ name_or_nil None = nil
 -- a value, in the state after a change
 abbrev pub after : WorldState → Object → Result WorldState ReadtableError → Evaluation Object
 after s x (Ok later) = writes x later
-after s x (Err e) = Err (number_of e)
+after s x (Err e) = Err (readtable_error_number e)
 
 -- a value, in the state with other readtables
 abbrev pub with_readtables : WorldState → Object → Result Readtables ReadtableError → Evaluation Object

@@ -4,7 +4,7 @@ ghost use Rattle.package_table.specs.Table.{IsPackage, full_name};
 ghost use Rattle.std.specs.List.{list_all};
 ghost use Rattle.plist_state.specs.Changes.{with_packages};
 ghost use Rattle.plist_state.specs.Sound.{IsSymbol};
-ghost use Rattle.lisp_operators.specs.Members.{symbol_in, name_in, symbols_in, packages_in};
+ghost use Rattle.lisp_operators.specs.Members.{symbol_of_member, name_in, symbols_in, packages_in};
 ghost use Rattle.lisp_operators.specs.Packages.{after_exports, after_imports, after_uses, finds_symbol};
 ghost use Rattle.lisp_operators.specs.Evaluated.{Makes, IsProper, AreProper};
 
@@ -19,7 +19,7 @@ use plist_state::World;
 fn finds(packages: &Packages, owner: &[u8], symbol: &Datum) -> bool
     requires owner { IsPackage packages.now.0 owner.now }
     requires symbol { IsProper symbol.now }
-    ensures { result ≡ finds_symbol packages.now.0 owner.now (symbol_in symbol.now) }
+    ensures { result ≡ finds_symbol packages.now.0 owner.now (symbol_of_member symbol.now) }
 {
     let (symbol_home, name) = symbol_in(symbol);
     match packages.resolve(owner, name) {
@@ -74,7 +74,7 @@ pub(crate) fn import_all(
     symbols: &[Datum],
 ) -> Result<bool, PackageError>
     requires proper { AreProper symbols.now }
-    requires there { All (λ d. IsSymbol world.old.0.packages (symbol_in d)) symbols.now }
+    requires there { All (λ d. IsSymbol world.old.0.packages (symbol_of_member d)) symbols.now }
     ensures gives { Makes result world.new.0.packages
         (after_imports world.old.0.packages owner.now (symbols_in symbols.now)) }
     ensures rest { world.new ≡ (with_packages world.old.0 world.new.0.packages, world.old.1) }

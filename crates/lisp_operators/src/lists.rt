@@ -3,7 +3,7 @@ ghost use Rattle.std.specs.Prelude.{◌≡◌, None, IsSome, All, IfErr, IfOk, I
 ghost use Rattle.lisp_object.specs.Datum.{object_of};
 ghost use Rattle.lisp_operators.specs.Kinds.{a_symbol, a_name, one_or_each};
 ghost use Rattle.lisp_operators.specs.declared.error.EvaluationError.TheVariants.{Refused};
-ghost use Rattle.lisp_operators.specs.Members.{AreMembers, symbol_in, name_in, symbols_in, names_in};
+ghost use Rattle.lisp_operators.specs.Members.{AreMembers, symbol_of_member, name_in, symbols_in, names_in};
 ghost use Rattle.lisp_operators.specs.Evaluated.{IsOfKind, IsProper, AreProper, IsRefusedAs, objects};
 
 use crate::EvaluationError::Refused;
@@ -105,7 +105,7 @@ pub(crate) fn names(datum: &Datum) -> Result<&[Datum], EvaluationError>
 /// The home and the name of a member that is a symbol.
 pub(crate) fn symbol_in(member: &Datum) -> (&[u8], &[u8])
     requires { IsProper member.now }
-    ensures { (result.0.now, result.1.now) ≡ symbol_in member.now }
+    ensures { (result.0.now, result.1.now) ≡ symbol_of_member member.now }
 {
     match kinds::symbol(member) {
         Ok(symbol) => symbol,

@@ -27,8 +27,8 @@ use Rattle.token_meaning.specs.declared.refusal.MeaningRefusal.TheVariants.{Dots
 use Rattle.token_meaning.specs.declared.token.TokenName.{TokenName}
 use Rattle.token_meaning.specs.declared.token.TokenName.TheVariants.{Unqualified, Keyword, External, Internal}
 use Rattle.token_meaning.specs.Folding.{on_plain, lower_case, has_upper_case, has_lower_case, in_upper_case, in_lower_case, folded}
-use Rattle.token_meaning.specs.Meanings.{Meaning, dot, is_plain, number_or_name, name_of, dots_of, pattern, meaning_of, rational_of, is_package_marker}
-use Rattle.token_meaning.specs.Numbers.{number_of, rational_number, is_point}
+use Rattle.token_meaning.specs.Meanings.{Meaning, dot, is_unescaped, number_or_name, name_of, dots_of, pattern, meaning_of, rational_of, is_package_marker}
+use Rattle.token_meaning.specs.Numbers.{number_in_base, rational_number, is_point}
 use Rattle.token_meaning.specs.Numerals.{without_sign, is_negative}
 use Rattle.std_macros.specs.declared.kind.Standard.{Standard}
 use Rattle.std_macros.specs.declared.kind.Standard.TheVariants.{List as AList, Close, Quote, Comment, String, Out, Char, Function as FunctionName, Vector, Uninterned, Block as ABlock, Binary, Octal, Hex, Radix}
@@ -38,7 +38,7 @@ use Rattle.std_macros.specs.Values.{Material, nothing, one, many, dotted, letter
 use Rattle.lisp_reading.specs.declared.told.Told.{Told}
 use Rattle.lisp_reading.specs.declared.told.Told.TheVariants.{Object as told_object, Dot as dot_alone}
 use Rattle.lisp_reading.specs.Answering.{is_known, are_known}
-use Rattle.lisp_reading.specs.Naming.{symbol_at, symbol_in, named, told_of}
+use Rattle.lisp_reading.specs.Naming.{symbol_at, symbol_in, named, told_meaning}
 use Rattle.lisp_reading.specs.Setting.{Setting}
 use Rattle.lisp_reading.specs.Reading.{form, attempt, reads}
 use Rattle.lisp_reading.proofs.Forms.{first, stood}
@@ -166,7 +166,7 @@ module _ (t : Packages) (limit : ℕ) (P : Object → Type 0) (allows : Allows t
   -- what a token means
 
   abbrev MeantAllowed : Name → Result Meaning MeaningRefusal → Type 0
-  MeantAllowed current r = ToldAllowed (told_of t current r)
+  MeantAllowed current r = ToldAllowed (told_meaning t current r)
 
   pattern_allowed : (current : Name) (parts : List (List Mark)) → MeantAllowed current (pattern parts)
   pattern_allowed current [] = tt
@@ -198,12 +198,12 @@ module _ (t : Packages) (limit : ℕ) (P : Object → Type 0) (allows : Allows t
 
   meant_allowed : (current : Name) (base : ℕ) (marks : List Mark) → MeantAllowed current (meaning_of base marks)
   meant_allowed current base marks =
-      elim (list_all is_plain marks) as (λ b. MeantAllowed current (if b
-      then (if list_all is_point (characters marks) then dots_of (characters marks) else number_or_name (number_of base (characters marks)) marks)
+      elim (list_all is_unescaped marks) as (λ b. MeantAllowed current (if b
+      then (if list_all is_point (characters marks) then dots_of (characters marks) else number_or_name (number_in_base base (characters marks)) marks)
       else name_of marks)) [
-        | true ↦ elim (list_all is_point (characters marks)) as (λ b. MeantAllowed current (if b then dots_of (characters marks) else number_or_name (number_of base (characters marks)) marks)) [
+        | true ↦ elim (list_all is_point (characters marks)) as (λ b. MeantAllowed current (if b then dots_of (characters marks) else number_or_name (number_in_base base (characters marks)) marks)) [
           | true ↦ elim (length (characters marks) == 1) as (λ b. MeantAllowed current (if b then Ok dot else Err DotsOnly)) [ true ↦ tt | false ↦ tt ]
-          | false ↦ number_or_name_allowed current (number_of base (characters marks)) marks (number_numeric base (characters marks))
+          | false ↦ number_or_name_allowed current (number_in_base base (characters marks)) marks (number_numeric base (characters marks))
         ]
         | false ↦ pattern_allowed current (slice_split is_package_marker marks)
       ]
@@ -326,7 +326,7 @@ module _ (t : Packages) (limit : ℕ) (P : Object → Type 0) (allows : Allows t
 
   digits_numeric : (base : ℕ) (marks : List Mark) → Numeric (rational_of base marks)
   digits_numeric base marks =
-      chosen_numeric (list_all is_plain marks) (rational_number base (characters marks)) None
+      chosen_numeric (list_all is_unescaped marks) (rational_number base (characters marks)) None
       (rational_numeric base (is_negative (characters marks)) (without_sign (characters marks))) tt
 
   rational_good : (base room : ℕ) (m : Material) → ValueAllowed room (rational_value base m)

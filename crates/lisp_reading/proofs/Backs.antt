@@ -12,7 +12,7 @@ use Rattle.std_macros.specs.declared.kind.Standard.{Standard}
 use Rattle.std_macros.specs.declared.kind.Standard.TheVariants.{List as AList, Close, Quote, Comment, String, Out, Char, Function as FunctionName, Vector, Uninterned, Block as ABlock, Binary, Octal, Hex, Radix}
 use Rattle.std_macros.specs.declared.refusal.StdRefusal.{StdRefusal}
 use Rattle.std_macros.specs.declared.refusal.StdRefusal.TheVariants.{StrayClose, Rational, NumericArgument, CharacterName, RadixToken, VectorLength, UninternedToken, OutOfProfile}
-use Rattle.std_macros.specs.Kinds.{radix_of, way_of}
+use Rattle.std_macros.specs.Kinds.{radix_of, way_of_standard}
 use Rattle.std_macros.specs.Values.{Material, nothing, one, many, dotted, letters, marked, Value, given, headed_value, list_value, text_value, code_named, character_or_refused, character_of, character_value, last_of, bounded, vector_with, vector_of, vector_value, is_own_name, uninterned_value, rational_or_refused, rational_value, radix_value, value_of}
 use Rattle.lisp_reading.specs.declared.way.Function.{Function}
 use Rattle.lisp_reading.specs.declared.way.Function.TheVariants.{Standard as AStandard, User}
@@ -138,7 +138,7 @@ by_value case number kind most all m refusal e =
 
 module _ (case : Case) (number : Option ℕ) (same : ℕ) (way : Way) where
   abbrev Has : Standard → Type 0
-  Has kind = Some (if is_baseless kind number then Nothing else standard_way same (way_of kind)) ≡ Some way
+  Has kind = Some (if is_baseless kind number then Nothing else standard_way same (way_of_standard kind)) ≡ Some way
 
   nothing_gathered : (kind : Standard) → Some Nothing ≡ Some way → StaysIn case number (back_of way) (AStandard kind)
   nothing_gathered kind e =

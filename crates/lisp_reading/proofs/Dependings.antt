@@ -31,10 +31,10 @@ use Rattle.lisp_object.specs.declared.refusal.TheConstants.{MACRO_ANSWER}
 use Rattle.lisp_reading.specs.Answering.{is_home, are_known}
 use Rattle.lisp_reading.specs.Calls.{InvokedCall}
 use Rattle.lisp_reading.specs.Depending.{FindsSame}
-use Rattle.lisp_reading.specs.Naming.{symbol_at, symbol_in, named, told_of, told}
+use Rattle.lisp_reading.specs.Naming.{symbol_at, symbol_in, named, told_meaning, told}
 use Rattle.lisp_reading.specs.Plans.{Plan, gives, refuses, takes, scans, then_plan, next_byte, run}
 use Rattle.lisp_reading.specs.Setting.{Setting, macro_call, way_by, way_in, function_of}
-use Rattle.lisp_reading.specs.Reading.{text_to, line_after, block_after, number_after, next_item, items_after, undotted, list_end, one_piece, answered, completed_by, completed, opened, gathered, gathered_by, called, sub_called, dispatched, macro_called, stands_alone, alone, told_found, token_found, attempt_by, inner, attempt, outcome, reads_in, reads}
+use Rattle.lisp_reading.specs.Reading.{text_to, line_after, block_after, number_after, next_item, items_after, undotted, list_end, one_piece, plan_after_answer, completed_by, completed, opened, gathered, gathered_by, called, sub_called, dispatched, macro_called, stands_alone, alone, told_found, token_found, attempt_by, inner, attempt, outcome, reads_in, reads}
 
 -- ---- what a name stands for
 
@@ -69,7 +69,7 @@ module _ (packages others : Packages) (same : FindsSame packages others) where
   named_same current (External prefix own) = ap (symbol_at own) (external_same prefix own)
   named_same current (Internal prefix own) = ap (symbol_in own) (internal_same prefix own)
 
-  meant_same : (current : Name) (m : Result Meaning MeaningRefusal) → told_of others current m ≡ told_of packages current m
+  meant_same : (current : Name) (m : Result Meaning MeaningRefusal) → told_meaning others current m ≡ told_meaning packages current m
   meant_same current (Ok (number x)) = refl
   meant_same current (Ok dot) = refl
   meant_same current (Ok (name own)) = named_same current own
@@ -88,7 +88,7 @@ module _ (packages others : Packages) (same : FindsSame packages others) where
   known_same (o.character c) = refl
   known_same (o.text bytes) = refl
 
-  answered_same : (nesting depth : ℕ) (token spaced : Bool) (a : MacroAnswer) → answered others nesting depth token spaced a ≡ answered packages nesting depth token spaced a
+  answered_same : (nesting depth : ℕ) (token spaced : Bool) (a : MacroAnswer) → plan_after_answer others nesting depth token spaced a ≡ plan_after_answer packages nesting depth token spaced a
   answered_same nesting depth token spaced (value x) =
       ap (λ (b : Bool). elim (nat_le (object_size x) 1000000 && b && nat_le (object_depth x + depth) nesting) [ true ↦ gives (one token x) | false ↦ refuses MACRO_ANSWER 0 ]) (known_same x)
   answered_same nesting depth token spaced no_value = refl

@@ -10,8 +10,8 @@ use Rattle.readtable_core.specs.Tables.{Table, entry_at}
 use Rattle.token_scan.specs.declared.mark.Mark.{Mark}
 use Rattle.token_scan.specs.declared.mark.Mark.TheVariants.{Plain, Quoted, Bar}
 use Rattle.token_scan.specs.declared.refusal.ScanRefusal.TheVariants.{InvalidCharacter, TokenTooLong, InvalidTrait}
-use Rattle.token_scan.specs.Spelling.{is_plain}
-use Rattle.token_scan.specs.Tokens.{TypedByte, Scanned, fault as scan_fault, with_front, is_character, kind, typed, typed_text, in_bytes, token_in, outside, inside, escaped_outside}
+use Rattle.token_scan.specs.Spelling.{is_plain_syntax}
+use Rattle.token_scan.specs.Tokens.{TypedByte, Scanned, fault_of_scan as scan_fault, with_front, is_character, kind, typed, typed_text, in_bytes, token_in, outside, inside, escaped_outside}
 use Rattle.token_scan.proofs.Steps.{outside_plain, outside_escape, outside_bar, outside_invalid}
 use Rattle.token_meaning.specs.Results.{scan_refusal_number}
 use Rattle.lisp_reading.specs.declared.found.Found.{Found}
@@ -52,7 +52,7 @@ module _ (table : Table) (c : ℕ) (cs : List ℕ) (left at : ℕ) where
   abbrev xs : List TypedByte
   xs = typed_text table cs
 
-  plain_marks : IsTrue (is_plain (kind x)) → HasMarks (outside left at (x ∷ xs))
+  plain_marks : IsTrue (is_plain_syntax (kind x)) → HasMarks (outside left at (x ∷ xs))
   plain_marks is =
       subst HasMarks (sym (outside_plain x xs left at is))
       (chosen_marks (left == 0) (scan_fault TokenTooLong at) _ tt
@@ -79,8 +79,8 @@ module _ (table : Table) (c : ℕ) (cs : List ℕ) (left at : ℕ) where
       by_kind : (k : Syntax) → kind x ≡ k → HasMarks (outside left at (x ∷ xs))
       by_kind Whitespace e = let alone_there : true ≡ false = sym (ap stands_alone (typed_so Whitespace e (λ no. cc))) ∙ starts in absurd cc
       by_kind TerminatingMacro e = let alone_there : true ≡ false = sym (ap stands_alone (typed_so TerminatingMacro e (λ no. cc))) ∙ starts in absurd cc
-      by_kind Constituent e = plain_marks (ap is_plain e)
-      by_kind NonTerminatingMacro e = plain_marks (ap is_plain e)
+      by_kind Constituent e = plain_marks (ap is_plain_syntax e)
+      by_kind NonTerminatingMacro e = plain_marks (ap is_plain_syntax e)
       by_kind SingleEscape e = subst HasMarks (sym (outside_escape x xs left at e)) (escape_marks xs)
       by_kind MultipleEscape e = subst HasMarks (sym (outside_bar x xs left at e)) (front_marks Bar (inside left (at + 1) xs))
       by_kind Invalid e = subst HasMarks (sym (outside_invalid x xs left at e)) tt

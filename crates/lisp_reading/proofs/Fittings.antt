@@ -17,34 +17,34 @@ use Rattle.package_table.proofs.Frames.{equal_names}
 use Rattle.package_table.proofs.Keeping.{present_at_home}
 use Rattle.lisp_reading.specs.Answering.{is_home, is_known}
 use Rattle.lisp_reading.specs.Setting.{Setting}
-use Rattle.lisp_reading.specs.Fitting.{Fits, IsFitting}
+use Rattle.lisp_reading.specs.Fitting.{FitsPackages, IsFitting}
 use Rattle.lisp_reading.specs.Reading.{form, reads}
 use Rattle.lisp_reading.proofs.Allowing.{IsFirst, nil_first, Allows, good_form}
 
 module _ (t : Packages) (sound : IsSound t) where
   -- what is found is found at its home
-  finds_fit : (p own home : Name) → Finds t p own home → Fits t (o.symbol home own)
+  finds_fit : (p own home : Name) → Finds t p own home → FitsPackages t (o.symbol home own)
   finds_fit p own home finds = λ h e.
       let here : found t home own ≡ Some home = present_found t own home home (present_at_home t p own home sound.joined finds) in
       let same : Some h ≡ Some home = sym e ∙ here in
       cc
 
-  first_fits : (own : Name) → IsFirst own → Fits t (o.symbol common_lisp own)
+  first_fits : (own : Name) → IsFirst own → FitsPackages t (o.symbol common_lisp own)
   first_fits own there =
       finds_fit common_lisp own common_lisp (inl (
       ap (λ (k : Option Package). option_map (λ (e : Present). e.home) (option_and_then (λ (k : Package). finite.get k.symbols own) k)) sound.first.fixed ∙ there
       ))
 
-  keyword_fits : (own : Name) → Fits t (o.symbol keyword own)
+  keyword_fits : (own : Name) → FitsPackages t (o.symbol keyword own)
   keyword_fits own = λ h e. elim (found_finds t own keyword h e) [
     | inl here ↦ sound.first.own own h here
     | inr used ↦ absurd (sound.first.unusing used.0 used.1)
   ]
 
-  known_fits : (home own : Name) → is_known t home own ≡ true → Fits t (o.symbol home own)
+  known_fits : (home own : Name) → is_known t home own ≡ true → FitsPackages t (o.symbol home own)
   known_fits home own known =
-      elim (is_nil home own) as (λ b. is_nil home own ≡ b → (b || (nat_le (length own) 4096 && (finite.contains_key t home && is_home home (resolution t home own)))) ≡ true → Fits t (o.symbol home own)) [
-        | true ↦ λ e k. subst (Fits t) (sym (nil_symbol home own e)) (first_fits (codes "NIL") nil_first)
+      elim (is_nil home own) as (λ b. is_nil home own ≡ b → (b || (nat_le (length own) 4096 && (finite.contains_key t home && is_home home (resolution t home own)))) ≡ true → FitsPackages t (o.symbol home own)) [
+        | true ↦ λ e k. subst (FitsPackages t) (sym (nil_symbol home own e)) (first_fits (codes "NIL") nil_first)
         | false ↦ λ e k.
             let last = and_parts (finite.contains_key t home) (is_home home (resolution t home own)) (and_parts (nat_le (length own) 4096) (finite.contains_key t home && is_home home (resolution t home own)) k).1 in
             λ h is.
@@ -52,7 +52,7 @@ module _ (t : Packages) (sound : IsSound t) where
             equal_names h home (sym (ap (is_home home) there) ∙ last.1)
       ] refl known
 
-  fits_allow : (limit : ℕ) → limit ≤ 4096 → Allows t limit (Fits t)
+  fits_allow : (limit : ℕ) → limit ≤ 4096 → Allows t limit (FitsPackages t)
   fits_allow limit few = record {
     present = finds_fit;
     new = λ p own none h is. let other : None ≡ Some h = sym none ∙ is in absurd cc;
@@ -91,7 +91,7 @@ anything_allows t limit = record {
 pub form_fits : (setting : Setting) (text : List ℕ) (x : Object) (start «end» next : ℕ) → IsSound setting.packages → setting.limits.nesting ≤ 100 → setting.limits.token ≤ 4096
     → reads setting text ≡ form x start «end» next → IsFitting setting.packages x
 form_fits setting text x start «end» next sound deep few e =
-    let good = good_form setting (Fits setting.packages) (fits_allow setting.packages sound setting.limits.token few) text x start «end» next e in
+    let good = good_form setting (FitsPackages setting.packages) (fits_allow setting.packages sound setting.limits.token few) text x start «end» next e in
     record { depth = omega (arith, good.0, deep); symbols = good.1 }
 
 pub form_depth : (setting : Setting) (text : List ℕ) (x : Object) (start «end» next : ℕ) → reads setting text ≡ form x start «end» next → object_depth x ≤ setting.limits.nesting

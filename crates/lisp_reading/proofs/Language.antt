@@ -30,7 +30,7 @@ use Rattle.lisp_reading.specs.Calls.{InvokedCall}
 use Rattle.lisp_reading.specs.Naming.{told}
 use Rattle.lisp_reading.specs.Plans.{Plan, gives, refuses, then_plan}
 use Rattle.lisp_reading.specs.Setting.{Setting, macro_call, way_in, function_of}
-use Rattle.lisp_reading.specs.Reading.{text_to, line_after, block_after, number_after, Piece, item, dot, closed, without_space, piece_of, or_closed, next_item_turn, next_item, Items, items_step, items_turn, items_after, undotted, after_tail, after_dot, list_end, one_piece, bytes_back, finished, answered, completed_by, completed, gathered, gathered_by, called, sub_called, sub_there, dispatched, macro_called, alone, told_found, token_found, attempt_by, inner, attempt}
+use Rattle.lisp_reading.specs.Reading.{text_to, line_after, block_after, number_after, Piece, item, dot, closed, without_space, piece_of, or_closed, next_item_turn, next_item, Items, items_step, items_turn, items_after, undotted, after_tail, after_dot, list_end, one_piece, bytes_back, finished, plan_after_answer, completed_by, completed, gathered, gathered_by, called, sub_called, sub_there, dispatched, macro_called, alone, told_found, token_found, attempt_by, inner, attempt}
 use Rattle.lisp_reading.proofs.Keeping.{most_back, Keeps, keeps_either, keeps_weaker, keeps_then, keeps_loop, keeps_next}
 use Rattle.lisp_reading.proofs.Backs.{back_of, StaysIn, way_stays}
 use Rattle.lisp_reading.proofs.TextsKept.{Any, text_keeps, line_keeps, block_keeps, number_keeps}
@@ -164,7 +164,7 @@ module _ (setting : Setting) (V : ℕ → Object → Type 0) (laws : AreKept set
   finished_keeps room taken token (Err refusal) all back = back refusal refl
 
   answered_keeps : (room : ℕ) (taken token spaced : Bool) (a : MacroAnswer) → room ≤ setting.limits.nesting
-      → Keeps (CallAt V room) taken (answered setting.packages setting.limits.nesting (setting.limits.nesting - room) token spaced a)
+      → Keeps (CallAt V room) taken (plan_after_answer setting.packages setting.limits.nesting (setting.limits.nesting - room) token spaced a)
   answered_keeps room taken token spaced (value x) h =
       let test = may_be_answered setting.packages x && nat_le (object_depth x + (setting.limits.nesting - room)) setting.limits.nesting in
       let by : (b : Bool) → test ≡ b → Keeps (CallAt V room) taken (elim b [ true ↦ gives (one token x) | false ↦ refuses MACRO_ANSWER 0 ]) =

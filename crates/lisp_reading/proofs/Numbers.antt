@@ -12,7 +12,7 @@ use Rattle.readtable_core.specs.declared.characters.Syntax.{Syntax}
 use Rattle.readtable_core.specs.declared.characters.Syntax.TheVariants.{Whitespace, Constituent, TerminatingMacro, NonTerminatingMacro, SingleEscape, MultipleEscape, Invalid}
 use Rattle.package_table.specs.declared.error.PackageError.{PackageError}
 use Rattle.package_table.specs.declared.error.PackageError.TheVariants.{NoPackage, NotExternal, LockedPackage}
-use Rattle.package_table.specs.Errors.{number_of}
+use Rattle.package_table.specs.Errors.{package_error_number}
 use Rattle.package_table.specs.Lookup.{found, external_home}
 use Rattle.package_table.specs.Resolving.{Resolution, found_at, new_in, resolution, external_resolution, internal_resolution}
 use Rattle.package_table.specs.Table.{Name, Table as Packages, common_lisp, package_named}
@@ -41,9 +41,9 @@ use Rattle.lisp_reading.specs.Plans.{Plan, gives, refuses, scans, then_plan, cha
 use Rattle.lisp_reading.specs.Calls.{InvokedCall}
 use Rattle.lisp_reading.specs.Setting.{Setting, macro_call, way_in, function_of}
 use Rattle.lisp_reading.specs.Gathering.{text_turn, line_turn, block_turn, number_turn}
-use Rattle.lisp_reading.specs.Naming.{symbol_in, symbol_at, named, told_of, told}
+use Rattle.lisp_reading.specs.Naming.{symbol_in, symbol_at, named, told_meaning, told}
 use Rattle.lisp_reading.specs.Answering.{may_be_answered}
-use Rattle.lisp_reading.specs.Reading.{Piece, item, dot, closed, is_whitespace, without_space, piece_of, or_closed, next_item_turn, next_item, Items, items_step, items_turn, items_after, undotted, after_tail, after_dot, list_end, one_piece, bytes_back, finished, answered, completed_by, completed, opened, gathered, gathered_by, called, sub_called, sub_there, dispatched, macro_called, stands_alone, alone, told_found, token_found, attempt_by, inner, attempt, Outcome, form, empty, refused, outcome, reads_in, reads, text_to, line_after, block_after, number_after}
+use Rattle.lisp_reading.specs.Reading.{Piece, item, dot, closed, is_whitespace, without_space, piece_of, or_closed, next_item_turn, next_item, Items, items_step, items_turn, items_after, undotted, after_tail, after_dot, list_end, one_piece, bytes_back, finished, plan_after_answer, completed_by, completed, opened, gathered, gathered_by, called, sub_called, sub_there, dispatched, macro_called, stands_alone, alone, told_found, token_found, attempt_by, inner, attempt, Outcome, form, empty, refused, outcome, reads_in, reads, text_to, line_after, block_after, number_after}
 use Rattle.lisp_reading.proofs.NumberedPlans.{IsOfReading, Numbered, NumberedResult, run_numbered, gives_numbered, refuses_numbered, takes_numbered, scans_numbered, then_numbered, if_numbered, next_byte_numbered, loop_numbered, text_numbered, line_numbered, block_numbered, number_numbered}
 
 -- ---- what tokens mean
@@ -56,7 +56,7 @@ meaning_numbered ZeroDenominator = (omega arith, omega arith)
 meaning_numbered PackageMarkers = (omega arith, omega arith)
 
 abbrev Resolved : {A : Type 0} → Result A PackageError → Type 0
-Resolved r = IfErr r (λ e. IsOfReading (number_of e))
+Resolved r = IfErr r (λ e. IsOfReading (package_error_number e))
 
 resolved_by : (t : Packages) (p : Name) (o : Option Name) (own : Name)
     → Resolved {A = Resolution} (option_map_or (λ h. Ok (found_at h)) o (if bytes_eq p common_lisp then Err LockedPackage else Ok (new_in p)))
@@ -97,7 +97,7 @@ named_numbered packages current (External prefix own) =
 named_numbered packages current (Internal prefix own) =
     symbol_in_numbered own (internal_resolution packages prefix own) (internal_numbered packages prefix own)
 
-told_numbered : (packages : Packages) (current : Name) (meaning : Result Meaning MeaningRefusal) → IfErr (told_of packages current meaning) IsOfReading
+told_numbered : (packages : Packages) (current : Name) (meaning : Result Meaning MeaningRefusal) → IfErr (told_meaning packages current meaning) IsOfReading
 told_numbered packages current (Ok (number x)) = tt
 told_numbered packages current (Ok a_dot) = tt
 told_numbered packages current (Ok (name own)) = named_numbered packages current own
@@ -165,7 +165,7 @@ finished_numbered token (Ok (Some x)) = gives_numbered (one token x)
 finished_numbered token (Ok None) = gives_numbered (nothing false)
 finished_numbered token (Err refusal) = refuses_numbered _ (std_refusal_number refusal) (bytes_back refusal) (standard_numbered refusal)
 
-answered_numbered : (packages : Packages) (nesting depth : ℕ) (token spaced : Bool) (answer : MacroAnswer) → Numbered (answered packages nesting depth token spaced answer)
+answered_numbered : (packages : Packages) (nesting depth : ℕ) (token spaced : Bool) (answer : MacroAnswer) → Numbered (plan_after_answer packages nesting depth token spaced answer)
 answered_numbered packages nesting depth token spaced (value x) =
     if_numbered (may_be_answered packages x && nat_le (object_depth x + depth) nesting) (gives (one token x)) (refuses MACRO_ANSWER 0)
     (gives_numbered (one token x)) (refuses_numbered _ MACRO_ANSWER 0 (omega arith, omega arith))

@@ -7,8 +7,8 @@ use Rattle.lisp_object.specs.Object.{Object}
 use Rattle.lisp_object.specs.Quotient.{divided, gcd, quotient}
 use Rattle.token_meaning.specs.declared.refusal.MeaningRefusal.{MeaningRefusal}
 use Rattle.token_meaning.specs.declared.refusal.MeaningRefusal.TheVariants.{NumberRange, ZeroDenominator, FloatToken}
-use Rattle.token_meaning.specs.Numbers.{integer_of, ratio_of, integer_form, decimal_form, ratio_form, float_form, is_float, rational_form, decimal_or_float_form, number_of, is_slash, is_point}
-use Rattle.token_meaning.specs.Numerals.{is_empty, is_numeral, value, without_sign, is_negative, signed, is_in_range, cut}
+use Rattle.token_meaning.specs.Numbers.{integer_of, ratio_of, integer_form, decimal_form, ratio_form, float_form, is_float, rational_form, decimal_or_float_form, number_in_base, is_slash, is_point}
+use Rattle.token_meaning.specs.Numerals.{is_empty, is_numeral, value, without_sign, is_negative, signed, is_magnitude_in_range, cut_at_first}
 
 -- of the objects that a number may be, P holds
 abbrev OfNumber : (Object → Type 0) → Option (Result Object MeaningRefusal) → Type 0
@@ -36,7 +36,7 @@ first_numeric None w p q = q
 
 integer_numeric : (negative : Bool) (size : ℕ) → Numeric (Some (integer_of negative size))
 integer_numeric negative size =
-    elim (is_in_range negative size) as (λ b. Numeric (Some (if b then Ok (o.integer (signed negative size)) else Err NumberRange))) [ true ↦ tt | false ↦ tt ]
+    elim (is_magnitude_in_range negative size) as (λ b. Numeric (Some (if b then Ok (o.integer (signed negative size)) else Err NumberRange))) [ true ↦ tt | false ↦ tt ]
 
 quotient_numeric : (n : ℤ) (d : ℕ) → Numeric (Some (ok_or (quotient n d) ZeroDenominator))
 quotient_numeric n d =
@@ -48,7 +48,7 @@ quotient_numeric n d =
 
 ratio_numeric : (negative : Bool) (n d : ℕ) → Numeric (Some (ratio_of negative n d))
 ratio_numeric negative n d =
-    elim (d == 0 || (is_in_range negative n && nat_lt d (2 ^ 128))) as (λ b. Numeric (Some (if b then ok_or (quotient (signed negative n) d) ZeroDenominator else Err NumberRange))) [
+    elim (d == 0 || (is_magnitude_in_range negative n && nat_lt d (2 ^ 128))) as (λ b. Numeric (Some (if b then ok_or (quotient (signed negative n) d) ZeroDenominator else Err NumberRange))) [
       | true ↦ quotient_numeric (signed negative n) d
       | false ↦ tt
     ]
@@ -65,13 +65,13 @@ ratio_form_numeric base negative (Some (n, d)) =
 
 pub rational_numeric : (base : ℕ) (negative : Bool) (text : List ℕ) → Numeric (rational_form base negative text)
 rational_numeric base negative text =
-    first_numeric (integer_form base negative text) (ratio_form base negative (cut is_slash text))
+    first_numeric (integer_form base negative text) (ratio_form base negative (cut_at_first is_slash text))
     (chosen_numeric (is_numeral base text) (Some (integer_of negative (value base text))) None (integer_numeric negative (value base text)) tt)
-    (ratio_form_numeric base negative (cut is_slash text))
+    (ratio_form_numeric base negative (cut_at_first is_slash text))
 
-pub number_numeric : (base : ℕ) (text : List ℕ) → Numeric (number_of base text)
+pub number_numeric : (base : ℕ) (text : List ℕ) → Numeric (number_in_base base text)
 number_numeric base text =
     let body = without_sign text in
     first_numeric (rational_form base (is_negative text) body) (decimal_or_float_form (is_negative text) body) (rational_numeric base (is_negative text) body)
-    (first_numeric (decimal_form (is_negative text) (cut is_point body)) (float_form body) (decimal_numeric (is_negative text) (cut is_point body))
+    (first_numeric (decimal_form (is_negative text) (cut_at_first is_point body)) (float_form body) (decimal_numeric (is_negative text) (cut_at_first is_point body))
     (chosen_numeric (is_float body) (Some (Err FloatToken)) None tt tt))

@@ -12,8 +12,8 @@ use Rattle.token_scan.specs.declared.refusal.ScanRefusal.{ScanRefusal}
 use Rattle.token_scan.specs.declared.refusal.ScanRefusal.TheVariants.{InvalidCharacter, InvalidTrait, TokenTooLong}
 use Rattle.token_scan.specs.declared.stage.Stage.{Stage}
 use Rattle.token_scan.specs.declared.stage.Stage.TheVariants.{Outside, Inside, EscapedOutside, EscapedInside, Refused}
-use Rattle.token_scan.specs.Tokens.{TypedByte, kind, is_character, Scanned, ScannedBytes, fault, with_front, escaped, outside, inside, typed, typed_text, in_bytes}
-use Rattle.token_scan.specs.Spelling.{is_plain, ends_tokens}
+use Rattle.token_scan.specs.Tokens.{TypedByte, kind, is_character, Scanned, ScannedBytes, fault_of_scan, with_front, escaped, outside, inside, typed, typed_text, in_bytes}
+use Rattle.token_scan.specs.Spelling.{is_plain_syntax, ends_tokens}
 use Rattle.token_scan.specs.Scans.{from_stage}
 use Rattle.token_scan.proofs.Forwards.{Forwards, forwards}
 use Rattle.token_scan.proofs.Steps.{outside_ends, outside_plain, outside_escape, outside_bar, outside_invalid, inside_between, inside_escape, inside_bar, inside_invalid}
@@ -49,7 +49,7 @@ chosen : («end» : ℕ) (b : Bool) (l l2 r r2 : Scanned) → Extends «end» l 
 chosen «end» true l l2 r r2 p q = p
 chosen «end» false l l2 r r2 p q = q
 
-fault_extends : («end» at : ℕ) (refusal : ScanRefusal) → at < «end» → Extends «end» (fault refusal at) (fault refusal at)
+fault_extends : («end» at : ℕ) (refusal : ScanRefusal) → at < «end» → Extends «end» (fault_of_scan refusal at) (fault_of_scan refusal at)
 fault_extends «end» at refusal lt = (omega (arith, lt), λ _. refl, λ le. omega (arith, lt, le))
 
 or_first : (p q : Bool) → IsTrue p → IsTrue (p || q)
@@ -90,20 +90,20 @@ module _ (more : List TypedByte) where
     next_extends stage room =
         there (at + 1 + length xs) last (from_stage stage room (at + 1) (xs ++ more)) (from_stage stage room (at + 1) xs) (omega arith) (after stage room (at + 1))
 
-    here_fault : (refusal : ScanRefusal) → Extends last (fault refusal at) (fault refusal at)
+    here_fault : (refusal : ScanRefusal) → Extends last (fault_of_scan refusal at) (fault_of_scan refusal at)
     here_fault refusal = fault_extends last at refusal (omega arith)
 
     ends_extends : IsTrue (ends_tokens (kind x)) → Extends last (outside left at (x ∷ xs ++ more)) (outside left at (x ∷ xs))
     ends_extends is = same_extends last (outside left at (x ∷ xs ++ more)) (outside left at (x ∷ xs ++ more)) (outside left at (x ∷ xs)) (Ok ([], at, x ∷ xs)) refl (outside_ends x xs left at is) tt
 
-    plain_extends : IsTrue (is_plain (kind x)) → Extends last (outside left at (x ∷ xs ++ more)) (outside left at (x ∷ xs))
+    plain_extends : IsTrue (is_plain_syntax (kind x)) → Extends last (outside left at (x ∷ xs ++ more)) (outside left at (x ∷ xs))
     plain_extends is =
         same_extends last _ _ _ _ (outside_plain x (xs ++ more) left at is) (outside_plain x xs left at is)
         (chosen last (left == 0) _ _ _ _ (here_fault TokenTooLong)
         (chosen last (has_invalid_trait x.byte) _ _ _ _ (here_fault InvalidTrait)
         (front_extends (Plain x.byte ∷ []) last (outside (left - 1) (at + 1) (xs ++ more)) (outside (left - 1) (at + 1) xs) (next_extends Outside (left - 1)))))
 
-    between_extends : IsTrue (is_plain (kind x) || ends_tokens (kind x)) → Extends last (inside left at (x ∷ xs ++ more)) (inside left at (x ∷ xs))
+    between_extends : IsTrue (is_plain_syntax (kind x) || ends_tokens (kind x)) → Extends last (inside left at (x ∷ xs ++ more)) (inside left at (x ∷ xs))
     between_extends is =
         same_extends last _ _ _ _ (inside_between x (xs ++ more) left at is) (inside_between x xs left at is)
         (chosen last (left == 0) _ _ _ _ (here_fault TokenTooLong)
@@ -113,8 +113,8 @@ module _ (more : List TypedByte) where
     kinds_extend : (scan : ℕ → ℕ → List TypedByte → Scanned) (quoting other : Stage)
         → ((ys : List TypedByte) → kind x ≡ SingleEscape → scan left at (x ∷ ys) ≡ from_stage quoting left (at + 1) ys)
         → ((ys : List TypedByte) → kind x ≡ MultipleEscape → scan left at (x ∷ ys) ≡ with_front (Bar ∷ []) (from_stage other left (at + 1) ys))
-        → ((ys : List TypedByte) → kind x ≡ Invalid → scan left at (x ∷ ys) ≡ fault InvalidCharacter at)
-        → (IsTrue (is_plain (kind x)) → Extends last (scan left at (x ∷ xs ++ more)) (scan left at (x ∷ xs)))
+        → ((ys : List TypedByte) → kind x ≡ Invalid → scan left at (x ∷ ys) ≡ fault_of_scan InvalidCharacter at)
+        → (IsTrue (is_plain_syntax (kind x)) → Extends last (scan left at (x ∷ xs ++ more)) (scan left at (x ∷ xs)))
         → (IsTrue (ends_tokens (kind x)) → Extends last (scan left at (x ∷ xs ++ more)) (scan left at (x ∷ xs)))
         → Extends last (scan left at (x ∷ xs ++ more)) (scan left at (x ∷ xs))
     kinds_extend scan quoting other escapes bars faults plain ends = by_kind (kind x) refl
@@ -122,8 +122,8 @@ module _ (more : List TypedByte) where
         by_kind : (k : Syntax) → kind x ≡ k → Extends last (scan left at (x ∷ xs ++ more)) (scan left at (x ∷ xs))
         by_kind Whitespace e = ends (ap ends_tokens e)
         by_kind TerminatingMacro e = ends (ap ends_tokens e)
-        by_kind Constituent e = plain (ap is_plain e)
-        by_kind NonTerminatingMacro e = plain (ap is_plain e)
+        by_kind Constituent e = plain (ap is_plain_syntax e)
+        by_kind NonTerminatingMacro e = plain (ap is_plain_syntax e)
         by_kind SingleEscape e = same_extends last _ _ _ _ (escapes (xs ++ more) e) (escapes xs e) (next_extends quoting left)
         by_kind MultipleEscape e =
             same_extends last _ _ _ _ (bars (xs ++ more) e) (bars xs e)

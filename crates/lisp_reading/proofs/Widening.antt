@@ -27,7 +27,7 @@ use Rattle.lisp_reading.specs.Calls.{InvokedCall}
 use Rattle.lisp_reading.specs.Gathering.{text_turn, is_escape, kept, line_turn, block_next, block_goes, block_turn, number_turn, next_digit}
 use Rattle.lisp_reading.specs.Plans.{Plan, gives, refuses, takes, scans, then_plan, character, next_byte, loop_in, loop, Read, scanned, run}
 use Rattle.lisp_reading.specs.Setting.{Setting, macro_call, way_in, function_of}
-use Rattle.lisp_reading.specs.Reading.{text_to, line_after, block_after, number_after, Piece, item, dot, closed, is_whitespace, without_space, piece_of, or_closed, next_item_turn, next_item, Items, items_step, items_turn, items_after, undotted, after_tail, after_dot, list_end, one_piece, finished, answered, completed_by, completed, opened, gathered, gathered_by, called, sub_called, sub_there, dispatched, macro_called, stands_alone, alone, token_found, attempt_by, inner, attempt, Outcome, form, outcome, reads_in, reads}
+use Rattle.lisp_reading.specs.Reading.{text_to, line_after, block_after, number_after, Piece, item, dot, closed, is_whitespace, without_space, piece_of, or_closed, next_item_turn, next_item, Items, items_step, items_turn, items_after, undotted, after_tail, after_dot, list_end, one_piece, finished, plan_after_answer, completed_by, completed, opened, gathered, gathered_by, called, sub_called, sub_there, dispatched, macro_called, stands_alone, alone, token_found, attempt_by, inner, attempt, Outcome, form, outcome, reads_in, reads}
 use Rattle.lisp_reading.specs.Answering.{may_be_answered}
 use Rattle.lisp_reading.proofs.LargerLimits.{GivesToo, byte_too, gives_along, outcome_too, scanned_too, token_too, within_text}
 use Rattle.lisp_reading.proofs.Steps.{and_then, run_then}
@@ -254,7 +254,7 @@ module _ (setting : Setting) (wider : Limits) where
 
     -- ---- what a call gives: an answer may be as deep as the nesting allows
 
-    answer_widens : (depth : ℕ) (token spaced : Bool) (answer : MacroAnswer) → Widens (answered setting.packages setting.limits.nesting depth token spaced answer) (answered setting.packages wider.nesting depth token spaced answer)
+    answer_widens : (depth : ℕ) (token spaced : Bool) (answer : MacroAnswer) → Widens (plan_after_answer setting.packages setting.limits.nesting depth token spaced answer) (plan_after_answer setting.packages wider.nesting depth token spaced answer)
     answer_widens depth token spaced (value x) =
         let may = may_be_answered setting.packages x in
         opens_widens (may && nat_le (object_depth x + depth) setting.limits.nesting) (may && nat_le (object_depth x + depth) wider.nesting) (one token x) MACRO_ANSWER 0 (refuses MACRO_ANSWER 0)

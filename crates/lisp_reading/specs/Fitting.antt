@@ -6,12 +6,12 @@ use Rattle.package_table.specs.Lookup.{found}
 
 -- The home of an interned symbol finds no other symbol by its name, and the name of an uninterned one has at most 4,096
 -- characters.
-abbrev pub Fits : Packages → Object → Type 0
-Fits packages (symbol home name) = (h : Name) → found packages home name ≡ Some h → h ≡ home
-Fits packages (uninterned name) = length name ≤ 4096
-Fits packages _ = Unit {0}
+abbrev pub FitsPackages : Packages → Object → Type 0
+FitsPackages packages (symbol home name) = (h : Name) → found packages home name ≡ Some h → h ≡ home
+FitsPackages packages (uninterned name) = length name ≤ 4096
+FitsPackages packages _ = Unit {0}
 
 -- Its depth is at most 100, and its symbols fit.
 pub record IsFitting (packages : Packages) (x : Object) : Type 0 where
   pub depth : object_depth x ≤ 100
-  pub symbols : AllAtoms (Fits packages) x
+  pub symbols : AllAtoms (FitsPackages packages) x

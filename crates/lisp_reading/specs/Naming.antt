@@ -2,7 +2,7 @@
 use Rattle.std.specs.Prelude.{◌≡◌, ℕ, List, Result, Ok, Err}
 use Rattle.lisp_object.specs.Object.{symbol}
 use Rattle.package_table.specs.declared.error.PackageError.{PackageError}
-use Rattle.package_table.specs.Errors.{number_of}
+use Rattle.package_table.specs.Errors.{package_error_number}
 use Rattle.package_table.specs.Resolving.{Resolution, home_of, resolution_of, resolution, external_resolution, internal_resolution}
 use Rattle.package_table.specs.Table.{Name, Table as Packages, keyword}
 use Rattle.token_scan.specs.declared.mark.Mark.{Mark}
@@ -23,11 +23,11 @@ use Rattle.lisp_reading.specs.Setting.{Setting}
 -- the symbol of this name at the home that was found, or the number of the refusal
 abbrev pub symbol_at : Name → Result Name PackageError → Result Told ℕ
 symbol_at own (Ok home) = Ok (object (symbol home own))
-symbol_at own (Err e) = Err (number_of e)
+symbol_at own (Err e) = Err (package_error_number e)
 
 abbrev pub symbol_in : Name → Result Resolution PackageError → Result Told ℕ
 symbol_in own (Ok r) = Ok (object (symbol (home_of r) own))
-symbol_in own (Err e) = Err (number_of e)
+symbol_in own (Err e) = Err (package_error_number e)
 
 -- The symbol of a name (standard 2.3.5): in the current package; of KEYWORD; external in a package; in a package.
 abbrev pub named : Packages → Name → TokenName → Result Told ℕ
@@ -36,23 +36,23 @@ named packages current (Keyword own) = Ok (object (symbol keyword own))
 named packages current (External prefix own) = symbol_at own (external_resolution packages prefix own)
 named packages current (Internal prefix own) = symbol_in own (internal_resolution packages prefix own)
 
-abbrev pub told_of : Packages → Name → Result Meaning MeaningRefusal → Result Told ℕ
-told_of packages current (Ok (number x)) = Ok (object x)
-told_of packages current (Ok dot) = Ok dot_alone
-told_of packages current (Ok (name own)) = named packages current own
-told_of packages current (Err refusal) = Err (meaning_refusal_number refusal)
+abbrev pub told_meaning : Packages → Name → Result Meaning MeaningRefusal → Result Told ℕ
+told_meaning packages current (Ok (number x)) = Ok (object x)
+told_meaning packages current (Ok dot) = Ok dot_alone
+told_meaning packages current (Ok (name own)) = named packages current own
+told_meaning packages current (Err refusal) = Err (meaning_refusal_number refusal)
 
 -- the meaning of a token with these marks, or the number of its refusal
 abbrev pub told : Setting → List Mark → Result Told ℕ
-told setting marks = told_of setting.packages setting.current (meaning_of setting.base (folded setting.table.letters marks))
+told setting marks = told_meaning setting.packages setting.current (meaning_of setting.base (folded setting.table.letters marks))
 
 -- ---- what the calls answer
 
 -- what was answered is the meaning, unless memory ran out
-abbrev pub Tells : Result Told TellError → Result Told ℕ → Type 0
-Tells (Ok answer) meaning = meaning ≡ Ok answer
-Tells (Err OutOfMemory) meaning = Unit {0}
-Tells (Err (Refused refusal_number)) meaning = meaning ≡ Err refusal_number
+abbrev pub TellsMeaning : Result Told TellError → Result Told ℕ → Type 0
+TellsMeaning (Ok answer) meaning = meaning ≡ Ok answer
+TellsMeaning (Err OutOfMemory) meaning = Unit {0}
+TellsMeaning (Err (Refused refusal_number)) meaning = meaning ≡ Err refusal_number
 
 abbrev pub view_resolved : Result Resolved PackageError → Result Resolution PackageError
 view_resolved (Ok r) = Ok (resolution_of r)

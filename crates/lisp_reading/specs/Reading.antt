@@ -148,22 +148,22 @@ finished token (Err refusal) = refuses (std_refusal_number refusal) (bytes_back 
 
 -- The answer of a function of a user under a limit of nesting at this depth: whether a token ends the call, and whether a token
 -- ends an object in it. Where no value is given, only an object has its one whitespace character discarded with it.
-abbrev pub answered : Packages → ℕ → ℕ → Bool → Bool → MacroAnswer → Plan Found
-answered packages nesting depth token spaced (value x) =
+abbrev pub plan_after_answer : Packages → ℕ → ℕ → Bool → Bool → MacroAnswer → Plan Found
+plan_after_answer packages nesting depth token spaced (value x) =
     elim (may_be_answered packages x && nat_le (object_depth x + depth) nesting) [
       | true ↦ gives (one token x)
       | false ↦ refuses MACRO_ANSWER 0
     ]
-answered packages nesting depth token spaced no_value = gives (nothing spaced)
-answered packages nesting depth token spaced improper = refuses MACRO_ANSWER 0
-answered packages nesting depth token spaced (answer_refused number) = refuses MACRO_REFUSED 0
+plan_after_answer packages nesting depth token spaced no_value = gives (nothing spaced)
+plan_after_answer packages nesting depth token spaced improper = refuses MACRO_ANSWER 0
+plan_after_answer packages nesting depth token spaced (answer_refused number) = refuses MACRO_REFUSED 0
 
 -- what the function gives for what was gathered
 abbrev pub completed_by : Setting → ℕ → InvokedCall → Function → Bool → Bool → Material → Plan Found
 completed_by setting depth call (AStandard kind) token spaced material =
     finished token (value_of kind setting.table.letters call.number material)
 completed_by setting depth call (User name) token spaced material =
-    answered setting.packages setting.limits.nesting depth token spaced (setting.answer name (macro_call call material))
+    plan_after_answer setting.packages setting.limits.nesting depth token spaced (setting.answer name (macro_call call material))
 
 abbrev pub completed : Setting → ℕ → InvokedCall → Bool → Bool → Material → Plan Found
 completed setting depth call token spaced material = completed_by setting depth call call.function token spaced material

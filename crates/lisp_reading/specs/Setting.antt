@@ -13,7 +13,7 @@ use Rattle.std_macros.specs.declared.kind.Standard.{Standard}
 use Rattle.std_macros.specs.declared.kind.Standard.TheVariants.{Radix}
 use Rattle.std_macros.specs.declared.kind.StdGather.{StdGather}
 use Rattle.std_macros.specs.declared.kind.StdGather.TheVariants.{Nothing as StdNothing, One as StdOne, List as StdList, Many as StdMany, Text as StdText, Line as StdLine, Block as StdBlock, Token as StdToken, EscapedToken as StdEscapedToken}
-use Rattle.std_macros.specs.Kinds.{kinds, kind_among, way_of, radix_of}
+use Rattle.std_macros.specs.Kinds.{kinds, kind_among, way_of_standard, radix_of}
 use Rattle.std_macros.specs.Values.{Material, nothing, one, many, dotted, letters, marked}
 use Rattle.lisp_reading.specs.Calls.{InvokedCall, caller}
 use Rattle.lisp_reading.specs.declared.limits.Limits.{Limits}
@@ -77,7 +77,7 @@ user_way same GatherToken = Token
 
 -- what the function of a call gathers; None where there is no function of the name
 abbrev pub way_by : Setting → InvokedCall → Function → Option Way
-way_by setting call (AStandard kind) = Some (if is_baseless kind call.number then Nothing else standard_way (caller call) (way_of kind))
+way_by setting call (AStandard kind) = Some (if is_baseless kind call.number then Nothing else standard_way (caller call) (way_of_standard kind))
 way_by setting call (User name) = option_map (user_way (caller call)) (setting.way name)
 
 abbrev pub way_in : Setting → InvokedCall → Option Way

@@ -9,7 +9,7 @@ ghost use Rattle.token_meaning.specs.Folding.{folded};
 ghost use Rattle.token_meaning.specs.Meanings.{meaning_of};
 ghost use Rattle.token_meaning.specs.Results.{is_ascii_name, view_meaning, IsProperNumber, IsAsciiName};
 ghost use Rattle.lisp_reading.specs.declared.told.TellError.TheVariants.{OutOfMemory};
-ghost use Rattle.lisp_reading.specs.Naming.{named, symbol_at, symbol_in, told_of, Tells, view_resolved, view_home};
+ghost use Rattle.lisp_reading.specs.Naming.{named, symbol_at, symbol_in, told_meaning, TellsMeaning, view_resolved, view_home};
 
 use crate::held::HeldObject;
 use lisp_object::Bytes;
@@ -61,8 +61,8 @@ pub fn tell(
     requires lowest_base { 2 ≤ base }
     requires highest_base { base ≤ 36 }
     requires current { IsPackage packages.now.0 current.now }
-    ensures tells { Tells result
-        (told_of packages.now.0 current.now (meaning_of base (folded case marks.items))) }
+    ensures tells { TellsMeaning result
+        (told_meaning packages.now.0 current.now (meaning_of base (folded case marks.items))) }
 {
     fold_case(case, marks.as_mut_slice());
     match meaning(alloc, marks.as_slice(), base) {
@@ -82,7 +82,7 @@ fn tell_meaning(
     requires proper { IsProperNumber meant }
     requires ascii { IsAsciiName meant }
     requires current { IsPackage packages.now.0 current.now }
-    ensures tells { Tells result (told_of packages.now.0 current.now (Ok (view_meaning meant))) }
+    ensures tells { TellsMeaning result (told_meaning packages.now.0 current.now (Ok (view_meaning meant))) }
 {
     match meant {
         TokenMeaning::Number(datum) => {
@@ -106,7 +106,7 @@ fn named(
 ) -> Result<Told, TellError>
     requires ascii { is_ascii_name own ≡ true }
     requires current { IsPackage packages.now.0 current.now }
-    ensures { Tells result (named packages.now.0 current.now own) }
+    ensures { TellsMeaning result (named packages.now.0 current.now own) }
 {
     packages.soundness();
     match own {
@@ -135,7 +135,7 @@ fn symbol_in(
 ) -> Result<Told, TellError>
     requires home { IfOk resolved (λ r. list_all is_ascii (home_of (resolution_of r)) ≡ true) }
     requires name { list_all is_ascii name ≡ true }
-    ensures { Tells result (symbol_in name (view_resolved resolved.entry)) }
+    ensures { TellsMeaning result (symbol_in name (view_resolved resolved.entry)) }
 {
     match resolved {
         Ok(Resolved::Found(home)) => Ok(Told::Object(HeldObject::symbol(alloc, home, name)?)),
@@ -153,7 +153,7 @@ fn symbol_at(
 ) -> Result<Told, TellError>
     requires home { IfOk found (λ h. list_all is_ascii h.now ≡ true) }
     requires name { list_all is_ascii name ≡ true }
-    ensures { Tells result (symbol_at name (view_home found.entry)) }
+    ensures { TellsMeaning result (symbol_at name (view_home found.entry)) }
 {
     match found {
         Ok(home) => Ok(Told::Object(HeldObject::symbol(alloc, home, name)?)),

@@ -3,7 +3,7 @@ use Rattle.std.proofs.Common.{◌≡◌, ℕ, ◌+◌, ◌<◌, ◌≤◌, List,
 use Rattle.std.proofs.lemmas.List.{length-append}
 use Rattle.disk_trait.specs.Disk.{Image, file_of}
 use Rattle.disk_trait.specs.declared.half.Half.{Half}
-use Rattle.log_look.specs.Live.{IsHonest, IsPiece, IsRead, Later, Watch, file_at}
+use Rattle.log_look.specs.Live.{IsHonestWatch, IsPiece, IsRead, Later, Watch, file_at}
 use Rattle.log_look.specs.Seen.{IsReadToEnd}
 
 -- time goes on in turn
@@ -14,7 +14,7 @@ later_still a b c first second = record {
   later = omega (arith, first.later, second.later);
 }
 
-pub honest_still : (a b : Watch) → Later a b → IsHonest a → IsHonest b
+pub honest_still : (a b : Watch) → Later a b → IsHonestWatch a → IsHonestWatch b
 honest_still a b later honest = subst IsTrue (sym later.honest) honest
 
 pub file_still : (half : Half) (a b : Watch) → Later a b → file_at half b ≡ file_at half a
@@ -40,19 +40,19 @@ read_until file at (x ∷ xs) from middle to read le = (read.0, read.1, read.2, 
 
 -- one piece more of a file, behind the bytes that were read
 module _ (half : Half) (a b c : Watch) (bytes piece all : List ℕ) (at size : ℕ) (later : Later a b) (behind : at ≡ length bytes) (is : all ≡ bytes ++ piece)
-    (before : IsHonest a → IsRead (file_at half a) 0 bytes a.now b.now) (more : IsHonest b → IsPiece (file_at half b) at size piece b.now c.now) where
-  there : IsHonest a → IsPiece (file_at half a) at size piece b.now c.now
+    (before : IsHonestWatch a → IsRead (file_at half a) 0 bytes a.now b.now) (more : IsHonestWatch b → IsPiece (file_at half b) at size piece b.now c.now) where
+  there : IsHonestWatch a → IsPiece (file_at half a) at size piece b.now c.now
   there honest = subst (λ (f : ℕ → List ℕ). IsPiece f at size piece b.now c.now) (file_still half a b later) (more (honest_still a b later honest))
 
-  together : (honest : IsHonest a) → IsRead (file_at half a) 0 all a.now (there honest).moment
+  together : (honest : IsHonestWatch a) → IsRead (file_at half a) 0 all a.now (there honest).moment
   together honest =
       subst (λ (l : List ℕ). IsRead (file_at half a) 0 l a.now (there honest).moment) (sym is)
       (read_on (file_at half a) 0 at bytes piece a.now b.now (there honest).moment (before honest) (omega (arith, behind)) (there honest).read)
 
-  pub piece_on : IsHonest a → IsRead (file_at half a) 0 all a.now c.now
+  pub piece_on : IsHonestWatch a → IsRead (file_at half a) 0 all a.now c.now
   piece_on honest = read_until (file_at half a) 0 all a.now (there honest).moment c.now (together honest) (there honest).not_after
 
-  pub last_piece : length piece < size → IsHonest a → IsReadToEnd (file_at half a) all a.now c.now
+  pub last_piece : length piece < size → IsHonestWatch a → IsReadToEnd (file_at half a) all a.now c.now
   last_piece few honest = record {
     moment = (there honest).moment;
     read = together honest;

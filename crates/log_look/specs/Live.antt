@@ -13,8 +13,8 @@ pub record Watch : Type 0 where
   -- the moment that it has come to
   pub now : ℕ
 
-abbrev pub IsHonest : Watch → Type 0
-IsHonest w = IsTrue w.honest
+abbrev pub IsHonestWatch : Watch → Type 0
+IsHonestWatch w = IsTrue w.honest
 
 -- the file of a half at each moment
 abbrev pub file_at : Half → Watch → ℕ → List ℕ
@@ -52,10 +52,10 @@ pub record IsPiece (file : ℕ → List ℕ) (at size : ℕ) (bytes : List ℕ) 
 pub record GivesHead (half : Half) (before after : List ℕ) (old new : Watch) (result : Result ℕ DeviceFault) : Type 0 where
   pub later : Later old new
   pub within : IfOk result (λ count. count ≤ length before)
-  pub head : IfOk result (λ count. IsHonest old → IsHead (file_at half old) (length before) (take count after) old.now new.now)
+  pub head : IfOk result (λ count. IsHonestWatch old → IsHead (file_at half old) (length before) (take count after) old.now new.now)
 
 -- `read` gives bytes in turn, each as it was when it was read
 pub record GivesPiece (half : Half) (at : ℕ) (before after : List ℕ) (old new : Watch) (result : Result ℕ DeviceFault) : Type 0 where
   pub later : Later old new
   pub within : IfOk result (λ count. count ≤ length before)
-  pub piece : IfOk result (λ count. IsHonest old → IsPiece (file_at half old) at (length before) (take count after) old.now new.now)
+  pub piece : IfOk result (λ count. IsHonestWatch old → IsPiece (file_at half old) at (length before) (take count after) old.now new.now)

@@ -1,6 +1,6 @@
 //! Why a look was not had, or nothing is told of what was seen.
 ghost use Rattle.std.specs.Prelude.{◌≡◌};
-ghost use Rattle.log_look.specs.Cut.{told_of, told_of_read};
+ghost use Rattle.log_look.specs.Cut.{log_error_of, told_of_read};
 ghost use Rattle.log_look.specs.declared.error.LogError.TheVariants as telling;
 ghost use Rattle.log_look.specs.declared.error.LookError.TheVariants as looking;
 
@@ -88,7 +88,7 @@ impl From<AllocError> for LogError {
 }
 
 impl From<OpenRefusal> for LogError {
-    ghost from_gives = { λ refusal e. e ≡ told_of refusal };
+    ghost from_gives = { λ refusal e. e ≡ log_error_of refusal };
 
     fn from(refusal: OpenRefusal) -> LogError {
         match refusal {

@@ -5,7 +5,7 @@ use disk_trait::{DeviceFault, Half};
 
 /// Two files of bytes that can be read while somebody else writes them.
 ///
-/// What reads them claims to be honest or claims nothing. The clauses that begin with `IsHonest` bind an honest one: what a read gives
+/// What reads them claims to be honest or claims nothing. The clauses that begin with `IsHonestWatch` bind an honest one: what a read gives
 /// is what was in the file when it was read. The bytes of one read need not have been there together.
 pub trait LiveFiles {
     /// What the two files hold at each moment, and the moment that the reader has come to.

@@ -1,6 +1,6 @@
 //! A file, read from its start to its end.
 ghost use Rattle.std.specs.Prelude.{◌≡◌, ◌<◌, ◌≤◌, length, IfErr, IfOk};
-ghost use Rattle.log_look.specs.Live.{IsHonest, IsPiece, Later, file_at};
+ghost use Rattle.log_look.specs.Live.{IsHonestWatch, IsPiece, Later, file_at};
 ghost use Rattle.log_look.specs.Seen.{IsReadToEnd};
 ghost use Rattle.log_look.specs.Tried.{IsPassingLook};
 
@@ -19,7 +19,7 @@ fn read_piece<F: LiveFiles>(
     size: usize,
 ) -> Result<Vec<u8>, LookError>
     ensures later { Later (F.watch files.old) (F.watch files.new) }
-    ensures piece { IfOk result (λ v. IsHonest (F.watch files.old)
+    ensures piece { IfOk result (λ v. IsHonestWatch (F.watch files.old)
         → IsPiece (file_at half (F.watch files.old)) at size v.items
         (F.watch files.old).now (F.watch files.new).now) }
     ensures passing { IfErr result IsPassingLook }
@@ -37,7 +37,7 @@ pub(crate) fn read_whole<F: LiveFiles>(
     half: Half,
 ) -> Result<Vec<u8>, LookError>
     ensures later { Later (F.watch files.old) (F.watch files.new) }
-    ensures whole { IfOk result (λ v. IsHonest (F.watch files.old)
+    ensures whole { IfOk result (λ v. IsHonestWatch (F.watch files.old)
         → IsReadToEnd (file_at half (F.watch files.old)) v.items
         (F.watch files.old).now (F.watch files.new).now) }
     ensures passing { IfErr result IsPassingLook }

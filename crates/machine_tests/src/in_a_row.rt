@@ -4,7 +4,7 @@ ghost use Rattle.disk_trait.specs.Disk.{IsHonest};
 ghost use Rattle.plist_state.specs.State.{WorldState};
 ghost use Rattle.sessions.specs.Account.{first_account};
 ghost use Rattle.session_ledger.specs.Went.{Went, handings_of};
-ghost use Rattle.store_commands.specs.Accounts.{GoesOn};
+ghost use Rattle.store_commands.specs.Accounts.{AccountGoesOn};
 ghost use Rattle.store_laws.specs.Sessions.{account_after};
 
 use disk_trait::{Disk, MemoryDisk};
@@ -36,7 +36,7 @@ fn serve_before_another<D: Disk, M: MacroFunctions, I: Read, O: Write>(
         (first_account world wanted.mode (I.remaining reader.old) store.old.disk) store.new
         (O.contents output.old) (O.contents output.new))
         × ((now : WorldState) (mode : Mode) (had : Option (List ℕ)) → store.new.world ≡ Some now
-        → GoesOn M.Meaning.functions D.state (account_after
+        → AccountGoesOn M.Meaning.functions D.state (account_after
         (first_account world wanted.mode (I.remaining reader.old) store.old.disk) (handings_of went.out.sent))
         (first_account now mode had store.new.disk)) }
 {

@@ -15,14 +15,14 @@ use Rattle.store_commands.specs.declared.status.Status.TheVariants.{Done, FormRe
 use Rattle.user_macros.specs.Functions.{Functions}
 
 -- the status after a session that ended so
-abbrev pub status_of : Ended → Status
-status_of way.End = Done
-status_of (way.NoFrame place) = FormRefused
-status_of (way.Fault number) = Fault number
+abbrev pub session_status : Ended → Status
+session_status way.End = Done
+session_status (way.NoFrame place) = FormRefused
+session_status (way.Fault number) = Fault number
 
 -- The store that a disk holds was opened with these macro functions, it served the frames of the input, and it was closed: this is its disk.
 -- A recipient that keeps account has this one at the end.
-pub record IsSession (functions : Functions) {D R : Type 0} (state : D → State) (disk : D) (macros : R) (had has held written : Option (List ℕ)) (account : Option (Account D)) (ended : Ended) (back : D) : Type 0 where
+pub record IsMessageSession (functions : Functions) {D R : Type 0} (state : D → State) (disk : D) (macros : R) (had has held written : Option (List ℕ)) (account : Option (Account D)) (ended : Ended) (back : D) : Type 0 where
   pub opened : StoreView D R
   pub is_opened : IsOpened functions state disk macros half_limit opened
   pub closed : StoreView D R
@@ -36,9 +36,9 @@ module _ (functions : Functions) {D R : Type 0} (state : D → State) (macros : 
   -- second.
   abbrev pub ServesOn : D → D → Ended → Type 0
   ServesOn disk back ended =
-      IsSession functions state disk macros (remaining input) (remaining left) (contents held) (contents written) account ended back
+      IsMessageSession functions state disk macros (remaining input) (remaining left) (contents held) (contents written) account ended back
       ⊎ ((number : ℕ) × (ended ≡ way.Fault number) × IsUnopened functions state disk whole half_limit number back × IsUntouched input left held written)
 
   -- over the disk that the opening of a folder gave, with the status of its end
   abbrev pub ServesAfter : Status → D → Type 0
-  ServesAfter status disk = (back : D) × (ended : Ended) × (status ≡ status_of ended) × ServesOn disk back ended
+  ServesAfter status disk = (back : D) × (ended : Ended) × (status ≡ session_status ended) × ServesOn disk back ended

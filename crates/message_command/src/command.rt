@@ -4,7 +4,7 @@ ghost use Rattle.clap.specs.Words.{Text};
 ghost use Rattle.command_words.specs.MessageLine.{message_faults, messages_in};
 ghost use Rattle.store_commands.specs.Commands.{OpensFolder};
 ghost use Rattle.store_commands.specs.Folders.{OpensStore};
-ghost use Rattle.message_command.specs.Session.{ServesAfter, ServesOn, status_of};
+ghost use Rattle.message_command.specs.Session.{ServesAfter, ServesOn, session_status};
 ghost use Rattle.store_commands.specs.Status.{EndsAfter, TakesWords};
 ghost use Rattle.store_commands.specs.declared.told.Told.{Told};
 ghost use Rattle.user_macros.specs.Functions.{are_registered};
@@ -144,7 +144,7 @@ where
 
 // The status after a session that ended so; what ended it is told.
 fn end_after<D: TellsCause, F: Write>(faults: &mut F, ended: Ended, disk: &D) -> Status
-    ensures { result ≡ status_of ended }
+    ensures { result ≡ session_status ended }
 {
     match ended {
         Ended::End => end_with(faults, Status::Done),

@@ -10,7 +10,7 @@ use Rattle.std.proofs.lemmas.Int.Digits.{digits_value_push}
 use Rattle.std.proofs.lemmas.Str.{digit_value_digit}
 use Rattle.std.proofs.lemmas.Str.Parse.{digits_value-take-le}
 use Rattle.std.proofs.lemmas.Fmt.{decimal_is_IsNumeral, decimal_step, decimal_digit, first_decimal, decimal_nonempty}
-use Rattle.message_frames.specs.Numbers.{Adds, AddsNone, IsDigit, digits_of, number_word}
+use Rattle.message_frames.specs.Numbers.{AddsDigit, AddsNone, IsDigit, digits_of, number_word}
 use Rattle.message_frames.specs.Words.{Begins, BeginsNone, IsPart}
 use Rattle.message_frames.proofs.Digits.{AreDigits, decimal_has_digits, digits_end, digits_go_on}
 
@@ -22,7 +22,7 @@ decimal_more n d some digit small =
     let last : m % 10 ≡ d = omega arith in
     decimal_step m (omega arith) small ∙ ap (λ q. decimal q ++ (48 + m % 10) ∷ []) front ∙ ap (λ r. decimal n ++ (48 + r) ∷ []) last
 
-pub more_digits : (number : Option ℕ) (c most more : ℕ) → most < 2 ^ 64 → Adds number c most more → decimal more ≡ digits_of number ++ c ∷ []
+pub more_digits : (number : Option ℕ) (c most more : ℕ) → most < 2 ^ 64 → AddsDigit number c most more → decimal more ≡ digits_of number ++ c ∷ []
 more_digits None c most more small adds =
     let d : 48 + (c - 48) ≡ c = omega (arith, adds.digit.0) in
     let is : more ≡ c - 48 = omega (arith, adds.worth) in
@@ -141,7 +141,7 @@ is_part (Some n) end most bytes within is = record {
 pub at_byte : (bytes : List ℕ) (i : ℕ) (front : List ℕ) → i < length bytes → take i bytes ≡ front → bytes ≡ front ++ get_or bytes i 0 ∷ drop (i + 1) bytes
 at_byte bytes i front within is = sym (take-append-drop i bytes) ∙ ap (λ z. z ++ drop i bytes) is ∙ ap (λ z. front ++ z) (drop_more bytes i 0 within)
 
-pub one_more : (number : Option ℕ) (bytes : List ℕ) (i most more : ℕ) → most < 2 ^ 64 → i < length bytes → take i bytes ≡ digits_of number → Adds number (get_or bytes i 0) most more
+pub one_more : (number : Option ℕ) (bytes : List ℕ) (i most more : ℕ) → most < 2 ^ 64 → i < length bytes → take i bytes ≡ digits_of number → AddsDigit number (get_or bytes i 0) most more
     → take (i + 1) bytes ≡ decimal more
 one_more number bytes i most more small within is adds =
     take_more bytes i 0 within ∙ ap (λ z. z ++ get_or bytes i 0 ∷ []) is ∙ sym (more_digits number (get_or bytes i 0) most more small adds)

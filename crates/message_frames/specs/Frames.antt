@@ -4,7 +4,7 @@ use Rattle.std.specs.Fmt.{decimal}
 use Rattle.std.specs.List.{flat_map, AllByRecursion}
 use Rattle.message_frames.specs.declared.frame.Kind.{Kind}
 use Rattle.message_frames.specs.declared.frame.Kind.TheVariants.{Do, Ask}
-use Rattle.message_frames.specs.declared.frame.Frame.{Frame}
+use Rattle.message_frames.specs.declared.frame.MessageFrame.{MessageFrame}
 use Rattle.message_frames.specs.Words.{IsPart, BeginsNone}
 
 -- a text after its length: the length and the text, on lines of their own
@@ -43,14 +43,14 @@ pub record IsFrame (limit : ℕ) (frame : Sent) : Type 0 where
   pub text : length frame.1 ≤ limit
 
 -- less than a frame; and no frame, however the bytes go on
-abbrev pub IsBegun : ℕ → List ℕ → Type 0
-IsBegun limit = IsPart frame_bytes (IsFrame limit)
+abbrev pub IsBegunFrame : ℕ → List ℕ → Type 0
+IsBegunFrame limit = IsPart frame_bytes (IsFrame limit)
 
 abbrev pub IsMalformed : ℕ → List ℕ → Type 0
 IsMalformed limit = BeginsNone frame_bytes (IsFrame limit)
 
 -- a frame in memory
-abbrev pub sent : Frame → Sent
+abbrev pub sent : MessageFrame → Sent
 sent frame = (frame.kind, frame.text.now)
 
 -- these bytes are these frames, one after the other, and then others

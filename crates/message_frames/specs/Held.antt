@@ -5,21 +5,21 @@ use Rattle.message_frames.specs.declared.held.Next.TheVariants as next
 use Rattle.message_frames.specs.declared.held.Whole.{Whole}
 use Rattle.message_frames.specs.declared.words.NotWhole.{NotWhole}
 use Rattle.message_frames.specs.declared.words.NotWhole.TheVariants as not_whole
-use Rattle.message_frames.specs.Frames.{AreFrames, IsBegun, IsMalformed, sent}
+use Rattle.message_frames.specs.Frames.{AreFrames, IsBegunFrame, IsMalformed, sent}
 
 abbrev pub next_after : NotWhole → Next
 next_after not_whole.Begun = next.Begun
 next_after not_whole.Malformed = next.Malformed
 
 -- what comes after so many of at most so many frames
-abbrev pub Follows : ℕ → ℕ → ℕ → List ℕ → Next → Type 0
-Follows limit most count rest next.Begun = IsBegun limit rest
-Follows limit most count rest next.Malformed = IsMalformed limit rest
-Follows limit most count rest next.Unread = count ≡ most
+abbrev pub FrameFollows : ℕ → ℕ → ℕ → List ℕ → Next → Type 0
+FrameFollows limit most count rest next.Begun = IsBegunFrame limit rest
+FrameFollows limit most count rest next.Malformed = IsMalformed limit rest
+FrameFollows limit most count rest next.Unread = count ≡ most
 
 -- the bytes are these frames, at most so many, and what comes after them
 pub record AreWhole (limit most : ℕ) (bytes : List ℕ) (whole : Whole) : Type 0 where
   pub frames : AreFrames limit (map sent whole.frames.items) (drop whole.bytes bytes) bytes
   pub within : whole.bytes ≤ length bytes
   pub at_most : length whole.frames.items ≤ most
-  pub follows : Follows limit most (length whole.frames.items) (drop whole.bytes bytes) whole.next
+  pub follows : FrameFollows limit most (length whole.frames.items) (drop whole.bytes bytes) whole.next

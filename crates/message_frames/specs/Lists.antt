@@ -1,16 +1,16 @@
 -- Lists of frames and of answers, as bytes.
 use Rattle.std.specs.Prelude.{ℕ, ◌≡◌, ◌<◌, ◌^◌, ◌⊎◌, List, ◌++◌, length}
 use Rattle.std.specs.List.{flat_map, AllByRecursion}
-use Rattle.message_frames.specs.Frames.{Sent, AreFrames, IsFrame, IsBegun, IsMalformed, answer_bytes}
+use Rattle.message_frames.specs.Frames.{Sent, AreFrames, IsFrame, IsBegunFrame, IsMalformed, answer_bytes}
 
 -- these frames stand whole in the bytes, and no other after them
-pub record Splits (limit : ℕ) (bytes : List ℕ) (frames : List Sent) (rest : List ℕ) : Type 0 where
+pub record SplitsFrames (limit : ℕ) (bytes : List ℕ) (frames : List Sent) (rest : List ℕ) : Type 0 where
   pub parts : AreFrames limit frames rest bytes
-  pub whole : IsBegun limit rest ⊎ IsMalformed limit rest
+  pub whole : IsBegunFrame limit rest ⊎ IsMalformed limit rest
 
 abbrev pub SplitsOneWay : Type 0
 SplitsOneWay = (limit : ℕ) → limit < 2 ^ 64 → (bytes : List ℕ) → (frames others : List Sent) → (rest after : List ℕ)
-    → Splits limit bytes frames rest → Splits limit bytes others after → (frames ≡ others) × (rest ≡ after)
+    → SplitsFrames limit bytes frames rest → SplitsFrames limit bytes others after → (frames ≡ others) × (rest ≡ after)
 
 -- as many answers, each with a text that an address space holds
 abbrev pub AnswersAreReadBack : Type 0

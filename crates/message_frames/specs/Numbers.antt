@@ -27,7 +27,7 @@ abbrev pub IsDigit : ℕ → Type 0
 IsDigit byte = (48 ≤ byte) × (byte ≤ 57)
 
 -- this byte is a digit that may come after those of a number, and more is the number then
-pub record Adds (number : Option ℕ) (byte most more : ℕ) : Type 0 where
+pub record AddsDigit (number : Option ℕ) (byte most more : ℕ) : Type 0 where
   pub digit : IsDigit byte
   pub first : number ≡ Some 0 → ⊥
   pub worth : more ≡ unwrap_or number 0 * 10 + (byte - 48)
@@ -39,6 +39,6 @@ AddsNone number byte most = (IsDigit byte → ⊥) ⊎ (number ≡ Some 0) ⊎ (
 
 -- what a byte is after the digits of a number
 abbrev pub HasRole : ℕ → Option ℕ → ℕ → ℕ → Role → Type 0
-HasRole byte number most end (Digit more) = Adds number byte most more
+HasRole byte number most end (Digit more) = AddsDigit number byte most more
 HasRole byte number most end (End whole) = (number ≡ Some whole) × (byte ≡ end)
 HasRole byte number most end Other = AddsNone number byte most × (IsSome number → byte ≡ end → ⊥)

@@ -3,12 +3,12 @@ use Rattle.std.specs.Prelude.{ℕ, ◌≤◌, ◌<◌, ◌^◌, List, [], ◌∷
 use Rattle.std.specs.Borrow.{Bor}
 use Rattle.std.specs.Fmt.{decimal}
 use Rattle.message_frames.specs.declared.words.NotWhole.{NotWhole}
-use Rattle.message_frames.specs.declared.frame.Frame.{Frame}
+use Rattle.message_frames.specs.declared.frame.MessageFrame.{MessageFrame}
 use Rattle.message_frames.specs.declared.frame.Keyword.{Keyword}
 use Rattle.message_frames.specs.declared.frame.Keyword.TheVariants as keyword
 use Rattle.message_frames.specs.Frames.{Sent, sent, sized}
 
-abbrev pub found_frame : Result (Frame × Bor (List ℕ)) NotWhole → Result (Sent × List ℕ) NotWhole
+abbrev pub found_frame : Result (MessageFrame × Bor (List ℕ)) NotWhole → Result (Sent × List ℕ) NotWhole
 found_frame (Ok found) = Ok (sent found.0, found.1.now)
 found_frame (Err fault) = Err fault
 

@@ -18,7 +18,7 @@ pub enum Kind {
 
 /// A message or a question.
 #[derive(Clone, Copy, Debug)]
-pub struct Frame<'a> {
+pub struct MessageFrame<'a> {
     pub kind: Kind,
     pub text: &'a [u8],
 }
@@ -35,21 +35,21 @@ enum Keyword {
 /// # Errors
 ///
 /// `Begun` if more bytes may make it a frame, `Malformed` if none do.
-pub fn first_frame(bytes: &[u8], limit: usize) -> Result<(Frame<'_>, &[u8]), NotWhole>
+pub fn first_frame(bytes: &[u8], limit: usize) -> Result<(MessageFrame<'_>, &[u8]), NotWhole>
     ensures { Reads frame_bytes (IsFrame limit) bytes.now (found_frame result) }
 {
     match read_keyword(bytes) {
         Ok((Keyword::Do, rest)) => match read_message(rest, limit) {
             Ok(((number, text), rest)) => {
                 let kind = Kind::Do(number);
-                Ok((Frame { kind, text }, rest))
+                Ok((MessageFrame { kind, text }, rest))
             }
             Err(fault) => Err(fault),
         },
         Ok((Keyword::Ask, rest)) => match read_sized(rest, limit) {
             Ok((text, rest)) => {
                 let kind = Kind::Ask;
-                Ok((Frame { kind, text }, rest))
+                Ok((MessageFrame { kind, text }, rest))
             }
             Err(fault) => Err(fault),
         },

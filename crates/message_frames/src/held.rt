@@ -2,7 +2,7 @@
 ghost use Rattle.std.specs.Prelude.{◌≡◌, ◌≤◌, ◌<◌, ◌++◌, [], length, drop, IfOk, OnErr, OnOk};
 ghost use Rattle.message_frames.specs.Held.{AreWhole};
 
-use crate::frame::{Frame, first_frame};
+use crate::frame::{MessageFrame, first_frame};
 use crate::words::NotWhole;
 use std::alloc::{AllocError, Global};
 use std::marker::Model;
@@ -51,7 +51,7 @@ impl From<NotWhole> for Next {
 /// Frames that stand whole in bytes, one after the other, how many bytes they take, and what comes after them.
 #[derive(Drop)]
 pub struct Whole<'a> {
-    pub frames: Vec<Frame<'a>>,
+    pub frames: Vec<MessageFrame<'a>>,
     pub bytes: usize,
     pub next: Next,
 }

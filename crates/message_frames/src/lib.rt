@@ -6,7 +6,7 @@
 //! - specs/Words.antt: what bytes begin with, of words that are each written in one way; specs/Frames.antt: frames, answers and
 //!   positions as bytes; specs/Held.antt: what stands whole in bytes.
 //!
-//! - `frame`: `Frame`, and `first_frame`, which reads one at the front of bytes; over `number`
+//! - `frame`: `MessageFrame`, and `first_frame`, which reads one at the front of bytes; over `number`
 //! - `held`: `Held`, the bytes of frames that come in pieces
 //! - `answer`: what is written
 //! - `laws`: bytes are frames in one way, so it makes no difference in which pieces they came; and answers are read back
@@ -20,7 +20,7 @@ mod number;
 mod words;
 
 pub use answer::{push_answer, push_position};
-pub use frame::{Frame, Kind, first_frame};
+pub use frame::{Kind, MessageFrame, first_frame};
 pub use held::{Held, Next, Whole};
 pub use laws::{answers_are_read_back, bytes_are_one_list};
 pub use words::NotWhole;

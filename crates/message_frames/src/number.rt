@@ -1,6 +1,6 @@
 //! A number at the front of bytes, and the byte that ends it.
 ghost use Rattle.std.specs.Prelude.{◌<◌, IfNone, IfSome};
-ghost use Rattle.message_frames.specs.Numbers.{Adds, AddsNone, HasRole, ReadsNumber};
+ghost use Rattle.message_frames.specs.Numbers.{AddsDigit, AddsNone, HasRole, ReadsNumber};
 
 use crate::words::NotWhole;
 
@@ -46,7 +46,7 @@ fn role_of(byte: u8, number: Option<u64>, most: u64, end: u8) -> Role
 
 // The number of these digits and one more: if it is one, if no leading zero comes before it, and if the number is not too great.
 fn with_digit(number: Option<u64>, byte: u8, most: u64) -> Option<u64>
-    ensures some { IfSome result (Adds number byte most) }
+    ensures some { IfSome result (AddsDigit number byte most) }
     ensures none { IfNone result (AddsNone number byte most) }
 {
     if !byte.is_ascii_digit() || number == Some(0) {

@@ -17,7 +17,7 @@ use Rattle.evaluator.proofs.FunctionLaws.{computed_keeps}
 use Rattle.evaluator.proofs.Induction.{Operators, Steps, every_value}
 use Rattle.form_eval.specs.Acceptance.{accept, accepted_by as accepted_with, with_symbols}
 use Rattle.session_words.specs.declared.mode.Mode.{Mode}
-use Rattle.prevalence_store.specs.calls.ExecuteAll.{left_by}
+use Rattle.prevalence_store.specs.calls.ExecuteAll.{world_left_after}
 use Rattle.prevalence_store.specs.meaning.Acceptance.{Acceptance, acceptance_of, accepted_of, accepts, between, read_in, transacted}
 use Rattle.prevalence_store.specs.meaning.Forgetting.{forgetting, is_forgetting}
 use Rattle.user_macros.specs.Functions.{Functions}
@@ -104,7 +104,7 @@ module _ (names : List Name) where
 
 module _ (functions : Functions) (s : WorldState) (tidy : IsTidy s.properties) where
   abbrev IsTidyAfter : Result Acceptance ℕ → Type 0
-  IsTidyAfter given = IsTidy (left_by s given).properties
+  IsTidyAfter given = IsTidy (world_left_after s given).properties
 
   of_evaluation : (text : List ℕ) (o : Evaluation Object) → Keeps s o → IsTidyAfter (acceptance_of text o)
   of_evaluation text (Ok d) keeps = keeps.kept tidy

@@ -14,15 +14,15 @@ use Rattle.plist_state.specs.Sound.{IsSound}
 use Rattle.messages.specs.declared.request.Request.{Request}
 use Rattle.messages.specs.declared.request.TheConstants.{OLD_NUMBER}
 use Rattle.session_words.specs.declared.mode.Mode.TheVariants.{Current}
-use Rattle.prevalence_store.specs.calls.ExecuteAll.{entries_of, left_by, told_of}
+use Rattle.prevalence_store.specs.calls.ExecuteAll.{logged_entries, world_left_after, told_of}
 use Rattle.prevalence_store.specs.meaning.Acceptance.{Acceptance, accepts, after, records_of}
-use Rattle.messages.specs.Answers.{Round, answer_in, answer_to_question, begun, by_number, cleared, closed, each_request, one_request, refusal_text, with_asked, with_message, with_old, wrote_by}
+use Rattle.messages.specs.Answers.{Round, answer_in, answer_to_question, first_round, by_number, cleared, closed, each_request, one_request, refusal_text, with_asked, with_message, with_old, wrote_by}
 use Rattle.messages.specs.Calls.{left_after}
-use Rattle.messages.specs.Position.{number_in, position, position_property, position_symbol, with_position, without_position}
+use Rattle.messages.specs.Position.{number_of_object, position, position_property, position_symbol, with_position, without_position}
 use Rattle.messages.proofs.Positions.{position_out, position_put}
 use Rattle.prevalence_store.proofs.steps.Grouping.{one_replayed}
 use Rattle.user_macros.specs.Functions.{Functions}
-use Rattle.message_laws.specs.Batches.{IsAlike, Progress, all_of, at_first, in_batches, one_batch}
+use Rattle.message_laws.specs.Batches.{IsAlike, BatchProgress, all_requests, at_first, in_batches, one_batch}
 use Rattle.message_laws.specs.Near.{IsTidy, Near}
 use Rattle.message_laws.proofs.Tidy.{out_of_none, out_twice, sound_tidy, tidy_put, tidy_removed}
 use Rattle.message_laws.proofs.TidyForms.{given_tidy}
@@ -107,7 +107,7 @@ module _ (functions : Functions) where
     given_by text w = accepts functions w Current text
 
     abbrev answer_by : List ℕ → WorldState → List ℕ × Bool
-    answer_by text w = (answer_in (left_by w (given_by text w)) (told_of (given_by text w)), wrote_by (given_by text w))
+    answer_by text w = (answer_in (world_left_after w (given_by text w)) (told_of (given_by text w)), wrote_by (given_by text w))
 
     message_more : (number : ℕ) (text : List ℕ) → More 1 a b (with_message functions number text a) (with_message functions number text b)
     message_more number text = record {
@@ -119,7 +119,7 @@ module _ (functions : Functions) where
         last = refl;
         tidy = given_tidy functions (cleared a).left (cleared_tidy a near.tidy) Current text;
         other_tidy = given_tidy functions (cleared b).left (cleared_tidy b near.other_tidy) Current text;
-        same = λ i. without_position (left_by (ready i) (given_by text (ready i)));
+        same = λ i. without_position (world_left_after (ready i) (given_by text (ready i)));
       };
     }
 
@@ -161,7 +161,7 @@ module _ (functions : Functions) where
   abbrev IsSilent : WorldState → Round → Type 0
   IsSilent w r = r.wrote ≡ false → without_position r.left ≡ without_position w
 
-  nothing_done : (w : WorldState) (given : Result Acceptance ℕ) → after functions w (entries_of Current given) ≡ Some (left_by w given) → wrote_by given ≡ false → left_by w given ≡ w
+  nothing_done : (w : WorldState) (given : Result Acceptance ℕ) → after functions w (logged_entries Current given) ≡ Some (world_left_after w given) → wrote_by given ≡ false → world_left_after w given ≡ w
   nothing_done w (Ok given) again none =
       let here : Some w ≡ Some given.world = sym (ap (λ b. after functions w (records_of b Current given.text)) none) ∙ again in
       sym (ap (λ o. unwrap_or o w) here)
@@ -199,15 +199,15 @@ module _ (functions : Functions) where
 
   -- a round that begins with a last number goes on after it
   told_position : (n : ℕ) (w : WorldState) → unwrap_or (position (with_position n w)) 0 ≤ n
-  told_position n w = subst (λ o. unwrap_or (option_and_then number_in o) 0 ≤ n) (sym (position_put n w)) (by (nat_lt n (2 ^ 64))) where
+  told_position n w = subst (λ o. unwrap_or (option_and_then number_of_object o) 0 ≤ n) (sym (position_put n w)) (by (nat_lt n (2 ^ 64))) where
     by : (b : Bool) → unwrap_or (if b then Some n else None) 0 ≤ n
     by true = omega arith
     by false = omega arith
 
-  begun_at : (n : ℕ) (w : WorldState) → (begun n (with_position n w)).last ≡ n
+  begun_at : (n : ℕ) (w : WorldState) → (first_round n (with_position n w)).last ≡ n
   begun_at n w = omega (arith, told_position n w)
 
-  begun_again : (last n : ℕ) (w : WorldState) → (begun last w).last ≤ n → (begun n w).last ≡ n
+  begun_again : (last n : ℕ) (w : WorldState) → (first_round last w).last ≤ n → (first_round n w).last ≡ n
   begun_again last n w least = omega (arith, least)
 
   one_least : (number : Option ℕ) (text : List ℕ) (r : Round) → r.last ≤ (by_number functions r number text).last
@@ -223,11 +223,11 @@ module _ (functions : Functions) where
   each_least (request ∷ requests) r = omega (arith, one_least request.number request.text.now r, each_least requests (one_request functions r request))
 
   record IsClosed (w : WorldState) (far r : Round) : Type 0 where
-    near : Near far (begun (closed r).last (left_after (closed r).wrote w (closed r).left))
+    near : Near far (first_round (closed r).last (left_after (closed r).wrote w (closed r).left))
     told : (closed r).told ≡ r.told
-    raised : (begun (closed r).last (left_after (closed r).wrote w (closed r).left)).last ≡ (closed r).last
+    raised : (first_round (closed r).last (left_after (closed r).wrote w (closed r).left)).last ≡ (closed r).last
 
-  closed_near : (w : WorldState) (last : ℕ) (far r : Round) (wrote : Bool) → r.wrote ≡ wrote → IsTidy w.properties → IsSilent w r → (begun last w).last ≤ r.last → Near far r → IsClosed w far r
+  closed_near : (w : WorldState) (last : ℕ) (far r : Round) (wrote : Bool) → r.wrote ≡ wrote → IsTidy w.properties → IsSilent w r → (first_round last w).last ≤ r.last → Near far r → IsClosed w far r
   closed_near w last far r true is tidy silent least near = subst (IsClosed w far) (sym (λ i. record r { wrote = is i })) (record {
     near = record {
       last = near.last ∙ sym (begun_at r.last r.left);
@@ -247,23 +247,23 @@ module _ (functions : Functions) where
   -- ---- batches
 
   -- one round came as far as these batches
-  pub record StandsAt (far : Round) (now : Progress) : Type 0 where
+  pub record StandsAt (far : Round) (now : BatchProgress) : Type 0 where
     pub told : far.told ≡ now.told
-    pub near : Near far (begun now.last now.world)
-    pub raised : (begun now.last now.world).last ≡ now.last
+    pub near : Near far (first_round now.last now.world)
+    pub raised : (first_round now.last now.world).last ≡ now.last
 
-  pub stands_first : (last : ℕ) (world : WorldState) → IsTidy world.properties → StandsAt (begun last world) (at_first last world)
+  pub stands_first : (last : ℕ) (world : WorldState) → IsTidy world.properties → StandsAt (first_round last world) (at_first last world)
   stands_first last world tidy =
-      let raised = begun_again last (begun last world).last world (omega arith) in
+      let raised = begun_again last (first_round last world).last world (omega arith) in
       record {
         told = refl;
-        near = subst (λ (n : ℕ). Near (begun last world) (record { told = []; last = n; left = world; entries = []; wrote = false })) (sym raised) (near_itself (begun last world) tidy);
+        near = subst (λ (n : ℕ). Near (first_round last world) (record { told = []; last = n; left = world; entries = []; wrote = false })) (sym raised) (near_itself (first_round last world) tidy);
         raised = raised;
       }
 
-  pub one_stands : (batch : List Request) (far : Round) (now : Progress) → StandsAt far now → StandsAt (each_request functions far batch) (one_batch functions now batch)
+  pub one_stands : (batch : List Request) (far : Round) (now : BatchProgress) → StandsAt far now → StandsAt (each_request functions far batch) (one_batch functions now batch)
   one_stands batch far now stands =
-      let before = begun now.last now.world in
+      let before = first_round now.last now.world in
       let more = each_near batch far before stands.near in
       let r = each_request functions before batch in
       let done = closed_near now.world now.last (each_request functions far batch) r r.wrote refl stands.near.other_tidy (each_silent batch now.world before stands.near.other_tidy (λ _. refl))
@@ -274,22 +274,22 @@ module _ (functions : Functions) where
         raised = done.raised;
       }
 
-  pub batches_stand : (batches : List (List Request)) (far : Round) (now : Progress) → StandsAt far now → StandsAt (each_request functions far (all_of batches)) (in_batches functions now batches)
+  pub batches_stand : (batches : List (List Request)) (far : Round) (now : BatchProgress) → StandsAt far now → StandsAt (each_request functions far (all_requests batches)) (in_batches functions now batches)
   batches_stand [] far now stands = stands
   batches_stand (batch ∷ batches) far now stands =
-      subst (λ (r : Round). StandsAt r (in_batches functions now (batch ∷ batches))) (sym (fold-append (λ (r : Round) request. one_request functions r request) far batch (all_of batches)))
+      subst (λ (r : Round). StandsAt r (in_batches functions now (batch ∷ batches))) (sym (fold-append (λ (r : Round) request. one_request functions r request) far batch (all_requests batches)))
       (batches_stand batches (each_request functions far batch) (one_batch functions now batch) (one_stands batch far now stands))
 
   -- ---- however they are cut
   module _ (world : WorldState) (last : ℕ) (sound : IsSound world) where
-    pub stands : (batches : List (List Request)) → StandsAt (each_request functions (begun last world) (all_of batches)) (in_batches functions (at_first last world) batches)
-    stands batches = batches_stand batches (begun last world) (at_first last world) (stands_first last world (sound_tidy world sound))
+    pub stands : (batches : List (List Request)) → StandsAt (each_request functions (first_round last world) (all_requests batches)) (in_batches functions (at_first last world) batches)
+    stands batches = batches_stand batches (first_round last world) (at_first last world) (stands_first last world (sound_tidy world sound))
 
-    pub alike : (batches others : List (List Request)) → all_of batches ≡ all_of others → IsAlike (in_batches functions (at_first last world) batches) (in_batches functions (at_first last world) others)
+    pub alike : (batches others : List (List Request)) → all_requests batches ≡ all_requests others → IsAlike (in_batches functions (at_first last world) batches) (in_batches functions (at_first last world) others)
     alike batches others same =
         let one = stands batches in
         let other = stands others in
-        let rounds : each_request functions (begun last world) (all_of batches) ≡ each_request functions (begun last world) (all_of others) = ap (each_request functions (begun last world)) same in
+        let rounds : each_request functions (first_round last world) (all_requests batches) ≡ each_request functions (first_round last world) (all_requests others) = ap (each_request functions (first_round last world)) same in
         record {
           told = sym one.told ∙ ap (λ (r : Round). r.told) rounds ∙ other.told;
           last = sym one.raised ∙ sym one.near.last ∙ ap (λ (r : Round). r.last) rounds ∙ other.near.last ∙ other.raised;

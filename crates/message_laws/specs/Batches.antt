@@ -3,37 +3,37 @@ use Rattle.std.specs.Prelude.{ℕ, ◌≡◌, Bool, List, [], ◌++◌, fold}
 use Rattle.std.specs.List.{flat_map}
 use Rattle.plist_state.specs.State.{WorldState}
 use Rattle.messages.specs.declared.request.Request.{Request}
-use Rattle.messages.specs.Answers.{Round, answered, begun}
+use Rattle.messages.specs.Answers.{Round, answered, first_round}
 use Rattle.messages.specs.Calls.{left_after}
 use Rattle.messages.specs.Position.{without_position}
 use Rattle.user_macros.specs.Functions.{Functions}
 
 -- How far batches have come: the answers, and whether each is of a message that wrote; the number of the last message; and the world.
-pub record Progress : Type 0 where
+pub record BatchProgress : Type 0 where
   pub told : List (List ℕ × Bool)
   pub last : ℕ
   pub world : WorldState
 
 -- before the first, after a message of this number, or after that of the position, if it has a greater one
-abbrev pub at_first : ℕ → WorldState → Progress
-at_first last world = record { told = []; last = (begun last world).last; world = world }
+abbrev pub at_first : ℕ → WorldState → BatchProgress
+at_first last world = record { told = []; last = (first_round last world).last; world = world }
 
 -- A batch more, as `answer_requests` answers it. The number of its last message is the position of the world, if a message wrote.
-abbrev pub with_batch : Progress → Round → Progress
+abbrev pub with_batch : BatchProgress → Round → BatchProgress
 with_batch far round = record { told = far.told ++ round.told; last = round.last; world = left_after round.wrote far.world round.left }
 
-abbrev pub one_batch : Functions → Progress → List Request → Progress
-one_batch functions far requests = with_batch far (answered functions (begun far.last far.world) requests)
+abbrev pub one_batch : Functions → BatchProgress → List Request → BatchProgress
+one_batch functions far requests = with_batch far (answered functions (first_round far.last far.world) requests)
 
-abbrev pub in_batches : Functions → Progress → List (List Request) → Progress
+abbrev pub in_batches : Functions → BatchProgress → List (List Request) → BatchProgress
 in_batches functions far batches = fold (λ far batch. one_batch functions far batch) far batches
 
 -- the requests of batches, in order
-abbrev pub all_of : List (List Request) → List Request
-all_of batches = flat_map (λ batch. batch) batches
+abbrev pub all_requests : List (List Request) → List Request
+all_requests batches = flat_map (λ batch. batch) batches
 
 -- the same answers and the same last number, and the same world but for its position
-pub record IsAlike (one other : Progress) : Type 0 where
+pub record IsAlike (one other : BatchProgress) : Type 0 where
   pub told : one.told ≡ other.told
   pub last : one.last ≡ other.last
   pub world : without_position one.world ≡ without_position other.world

@@ -1,10 +1,10 @@
 //! Batches of requests.
 ghost use Rattle.std.specs.Prelude.{◌≡◌, ℕ, List};
-ghost use Rattle.message_laws.specs.Batches.{IsAlike, all_of, at_first, in_batches};
+ghost use Rattle.message_laws.specs.Batches.{IsAlike, all_requests, at_first, in_batches};
 ghost use Rattle.plist_state.specs.Sound.{IsSound};
 ghost use Rattle.plist_state.specs.State.{WorldState};
 ghost use Rattle.messages.specs.declared.request.Request.{Request};
-ghost use Rattle.messages.specs.Answers.{begun, each_request};
+ghost use Rattle.messages.specs.Answers.{first_round, each_request};
 ghost use Rattle.user_macros.specs.Functions.{Functions};
 
 /// Requests have the same answers in whichever batches they are answered. From a sound world on, as that of each store is
@@ -15,10 +15,10 @@ ghost use Rattle.user_macros.specs.Functions.{Functions};
 /// - `at_once`: so each request has the answer that it has in one batch of all.
 pub fn cuts_change_nothing()
     ensures alike { (functions : Functions) (world : WorldState) (last : ℕ) (batches others : List (List Request))
-        → IsSound world → all_of batches ≡ all_of others
+        → IsSound world → all_requests batches ≡ all_requests others
         → IsAlike (in_batches functions (at_first last world) batches) (in_batches functions (at_first last world) others) }
     ensures at_once { (functions : Functions) (world : WorldState) (last : ℕ) (batches : List (List Request))
         → IsSound world
         → (in_batches functions (at_first last world) batches).told
-        ≡ (each_request functions (begun last world) (all_of batches)).told }
+        ≡ (each_request functions (first_round last world) (all_requests batches)).told }
 {}

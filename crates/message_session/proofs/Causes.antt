@@ -23,7 +23,7 @@ use Rattle.prevalence_store.specs.calls.Snapshot.{Snapshots}
 use Rattle.prevalence_store.specs.calls.Store.{StoreView}
 use Rattle.sessions.specs.Streams.{Writes, WritesPart}
 use Rattle.prevalence_store.specs.declared.outcome.Outcome.TheVariants.{Refused}
-use Rattle.messages.specs.Answers.{begun}
+use Rattle.messages.specs.Answers.{first_round}
 use Rattle.user_macros.specs.Functions.{Functions}
 
 -- of one frame the first ones, if there are some, are one
@@ -45,8 +45,8 @@ module _ (functions : Functions) (last : ℕ) (w : WorldState) (tidy : IsTidy w.
     after_both : (more : List Sent) (now_last : ℕ) (store : StoreView D R) → HasCarriedOut functions mid_last first.after.left more now_last store → HasCarriedOut functions last w (frames ++ more) now_last store
     after_both more now_last store after = more_after functions last w tidy frames mid_last mid first.after more now_last store after
 
-    near_both : (more : List Sent) (now_last : ℕ) (later : WorldState) → Near (each_frame functions (begun mid_last first.after.left) more) (begun now_last later)
-        → Near (each_frame functions (begun last w) (frames ++ more)) (begun now_last later)
+    near_both : (more : List Sent) (now_last : ℕ) (later : WorldState) → Near (each_frame functions (first_round mid_last first.after.left) more) (first_round now_last later)
+        → Near (each_frame functions (first_round last w) (frames ++ more)) (first_round now_last later)
     near_both more now_last later near = more_near functions last w tidy frames mid_last mid first.after more now_last later near
 
     module _ (answered next : List Sent) where
@@ -190,7 +190,7 @@ module _ (functions : Functions) (last : ℕ) (w : WorldState) (tidy : IsTidy w.
           fault = inr (inr (inl (record {
             before = old;
             before_last = last;
-            after = record { left = w; known = known; near = near_itself functions (begun last w) tidy };
+            after = record { left = w; known = known; near = near_itself functions (first_round last w) tidy };
             requests = refuses.requests;
             asked = refuses.asked;
             refused = refuses.refused;
@@ -264,7 +264,7 @@ module _ (functions : Functions) (last : ℕ) (w : WorldState) (tidy : IsTidy w.
     fault = inr (inr (inr (record {
       before = old;
       before_last = last;
-      after = record { left = w; known = known; near = near_itself functions (begun last w) tidy };
+      after = record { left = w; known = known; near = near_itself functions (first_round last w) tidy };
       refused = refused;
       large = λ is. record {
         one = one_first frames refuses.front refuses.undone refuses.parts refuses.some (one is);

@@ -4,14 +4,14 @@ use Rattle.std.specs.Fmt.{decimal}
 use Rattle.std.specs.List.{flat_map}
 use Rattle.message_frames.specs.Frames.{Sent, frame_bytes, frame_head, sent, sized}
 use Rattle.message_frames.specs.Held as held
-use Rattle.message_frames.specs.declared.frame.Frame.{Frame}
+use Rattle.message_frames.specs.declared.frame.MessageFrame.{MessageFrame}
 use Rattle.message_frames.specs.declared.held.Next.{Next}
 use Rattle.message_frames.specs.declared.held.Next.TheVariants as next
 use Rattle.message_session.specs.Sessions.{text_limit}
 use Rattle.message_session.specs.Steps.{ComesAfter}
 
 -- as many frames as were wanted are some
-pub comes_after : (most : ℕ) (frames : List Frame) (rest : List ℕ) (after : Next) → 1 ≤ most → held.Follows text_limit most (length frames) rest after → ComesAfter (map sent frames) rest after
+pub comes_after : (most : ℕ) (frames : List MessageFrame) (rest : List ℕ) (after : Next) → 1 ≤ most → held.FrameFollows text_limit most (length frames) rest after → ComesAfter (map sent frames) rest after
 comes_after most frames rest next.Begun some follows = follows
 comes_after most frames rest next.Malformed some follows = follows
 comes_after most [] rest next.Unread some follows = absurd (omega (arith, follows))

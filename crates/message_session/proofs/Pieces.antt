@@ -5,7 +5,7 @@ use Rattle.std.specs.Io.KnownBytes.{Consumes}
 use Rattle.std.specs.List.{flat_map}
 use Rattle.disk_trait.specs.Disk.{State}
 use Rattle.lisp_object.specs.declared.refusal.TheConstants.{INPUT, NO_MEMORY}
-use Rattle.message_frames.specs.Frames.{AreFrames, IsBegun, IsMalformed, Sent, frame_bytes}
+use Rattle.message_frames.specs.Frames.{AreFrames, IsBegunFrame, IsMalformed, Sent, frame_bytes}
 use Rattle.message_frames.specs.declared.frame.Kind.TheVariants.{Ask}
 use Rattle.message_laws.specs.Near.{IsTidy}
 use Rattle.message_session.specs.Answers.{answered_bytes}
@@ -27,7 +27,7 @@ no_more rest [] none = sym (append-nil rest)
 no_more rest (b ∷ bs) none = absurd (omega (arith, none))
 
 -- nothing may begin a frame
-pub begun_none : IsBegun text_limit []
+pub begun_none : IsBegunFrame text_limit []
 begun_none = record {
   x = (Ask, []);
   more = frame_bytes (Ask, []);
@@ -38,7 +38,7 @@ begun_none = record {
 
 -- what is left may be a frame, or not
 pub as_begun : (functions : Functions) (old new : Session) (world : WorldState) {D R : Type 0} (state : D → State) (store : StoreView D R) (held written : Option (List ℕ)) (may : Bool) → may ≡ true
-    → AnswersAllHeld functions old new world state store held written (Ok may) → (frames : List Sent) × PassesFrames functions old new world state store held written frames × IsBegun text_limit new.held
+    → AnswersAllHeld functions old new world state store held written (Ok may) → (frames : List Sent) × PassesFrames functions old new world state store held written frames × IsBegunFrame text_limit new.held
 as_begun functions old new world state store held written true is answers = answers
 as_begun functions old new world state store held written false is answers = absurd (cc is)
 
@@ -90,7 +90,7 @@ module _ (functions : Functions) (last : ℕ) (w : WorldState) {D R : Type 0} (s
           (subst (λ n. HasCome has less held between mid mid_last (rest ++ takes.0) (came + n)) (sym takes.3) (come_fed less takes.0 takes.1))
 
       -- none came: the input has ended
-      pub ends_all : (less : Option (List ℕ)) (now_held : List ℕ) (count : ℕ) → TakesPiece left less rest now_held (Ok count) → count ≡ 0 → IsBegun text_limit rest
+      pub ends_all : (less : Option (List ℕ)) (now_held : List ℕ) (count : ℕ) → TakesPiece left less rest now_held (Ok count) → count ≡ 0 → IsBegunFrame text_limit rest
           → AnswersFramesOfInput functions last w state mid has less held between End
       ends_all less now_held count takes none begun = (
         far.read ++ takes.0,
@@ -100,7 +100,7 @@ module _ (functions : Functions) (last : ℕ) (w : WorldState) {D R : Type 0} (s
           rest ++ takes.0,
           mid_last,
           served_fed functions last w tidy state mid held between far.read far.frames rest mid_last takes.0 far.serves,
-          subst (IsBegun text_limit) (no_more rest takes.0 (omega (arith, takes.3, none))) begun,
+          subst (IsBegunFrame text_limit) (no_more rest takes.0 (omega (arith, takes.3, none))) begun,
           takes.4 none,
         ),
       )
@@ -151,7 +151,7 @@ module _ (functions : Functions) (last : ℕ) (w : WorldState) {D R : Type 0} (s
       )
 
       -- a read failed, which took nothing
-      pub ends_unread : (less : Option (List ℕ)) → Consumes left less [] → IsBegun text_limit rest → AnswersFramesOfInput functions last w state mid has less held between (Fault INPUT)
+      pub ends_unread : (less : Option (List ℕ)) → Consumes left less [] → IsBegunFrame text_limit rest → AnswersFramesOfInput functions last w state mid has less held between (Fault INPUT)
       ends_unread less reads begun = (
         far.read,
         subst (Consumes has less) (append-nil far.read) (read_both has left less far.read [] far.reads reads),
@@ -165,7 +165,7 @@ module _ (functions : Functions) (last : ℕ) (w : WorldState) {D R : Type 0} (s
       )
 
       -- so it is by a piece that is not held
-      pub ends_by_piece : (less : Option (List ℕ)) (now_held : List ℕ) (number : ℕ) → TakesPiece left less rest now_held (Err number) → IsBegun text_limit rest
+      pub ends_by_piece : (less : Option (List ℕ)) (now_held : List ℕ) (number : ℕ) → TakesPiece left less rest now_held (Err number) → IsBegunFrame text_limit rest
           → AnswersFramesOfInput functions last w state mid has less held between (Fault number)
       ends_by_piece less now_held number (inl input) begun =
           subst (λ n. AnswersFramesOfInput functions last w state mid has less held between (Fault n)) (sym input.0) (ends_unread less input.1 begun)

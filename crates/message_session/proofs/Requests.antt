@@ -21,7 +21,7 @@ use Rattle.plist_state.specs.State.{WorldState}
 use Rattle.prevalence_store.specs.calls.Store.{StoreView}
 use Rattle.messages.specs.declared.request.Replies.{Replies}
 use Rattle.messages.specs.declared.request.Request.{Request}
-use Rattle.messages.specs.Answers.{Round, answered, begun, each_request}
+use Rattle.messages.specs.Answers.{Round, answered, first_round, each_request}
 use Rattle.messages.specs.Calls.{AnswersRequests, AreAnswered, left_after}
 use Rattle.messages.specs.declared.request.TheConstants.{ANSWER_BYTES}
 use Rattle.messages.specs.Fronts.{AnswersFirst, answer_length}
@@ -52,16 +52,16 @@ of_first functions state old new w last frames requests replies count is alike f
 
 module _ (functions : Functions) {D R : Type 0} (state : D → State) (old new : StoreView D R) (w : WorldState) (last : ℕ) where
   module _ (sound : IsSound w) (frames : List Sent) (requests : List Request) (same : AskAlike requests frames)
-      (replies : Replies) (given : AreAnswered functions state old new w (answered functions (begun last w) requests) replies) where
-    stands : StandsAt functions (each_request functions (begun last w) requests) (with_batch (at_first last w) (answered functions (begun last w) requests))
+      (replies : Replies) (given : AreAnswered functions state old new w (answered functions (first_round last w) requests) replies) where
+    stands : StandsAt functions (each_request functions (first_round last w) requests) (with_batch (at_first last w) (answered functions (first_round last w) requests))
     stands =
         let first = stands_first functions last w (sound_tidy w sound) in
-        let again : begun (begun last w).last w ≡ begun last w = λ i. record { told = []; last = first.raised i; left = w; entries = []; wrote = false } in
-        subst (λ (b : Round). StandsAt functions (each_request functions (begun last w) requests) (with_batch (at_first last w) (answered functions b requests))) again
-        (one_stands functions requests (begun last w) (at_first last w) first)
+        let again : first_round (first_round last w).last w ≡ first_round last w = λ i. record { told = []; last = first.raised i; left = w; entries = []; wrote = false } in
+        subst (λ (b : Round). StandsAt functions (each_request functions (first_round last w) requests) (with_batch (at_first last w) (answered functions b requests))) again
+        (one_stands functions requests (first_round last w) (at_first last w) first)
 
-    rounds : each_request functions (begun last w) requests ≡ each_frame functions (begun last w) frames
-    rounds = same_rounds functions requests frames (begun last w) same
+    rounds : each_request functions (first_round last w) requests ≡ each_frame functions (first_round last w) frames
+    rounds = same_rounds functions requests frames (first_round last w) same
 
     pub bytes_are : flat_map answer_bytes (answers_to frames (map told_in replies.answers.items)) ≡ answered_bytes functions last w frames
     bytes_are =
@@ -69,10 +69,10 @@ module _ (functions : Functions) {D R : Type 0} (state : D → State) (old new :
 
     pub carried_out : HasCarriedOut functions last w frames replies.last new
     carried_out = record {
-      left = left_after (answered functions (begun last w) requests).wrote w (answered functions (begun last w) requests).left;
+      left = left_after (answered functions (first_round last w) requests).wrote w (answered functions (first_round last w) requests).left;
       known = given.logs.left;
-      near = subst (λ (r : Round). Near r (begun replies.last (left_after (answered functions (begun last w) requests).wrote w (answered functions (begun last w) requests).left))) rounds
-          (subst (λ n. Near (each_request functions (begun last w) requests) (begun n (left_after (answered functions (begun last w) requests).wrote w (answered functions (begun last w) requests).left)))
+      near = subst (λ (r : Round). Near r (first_round replies.last (left_after (answered functions (first_round last w) requests).wrote w (answered functions (first_round last w) requests).left))) rounds
+          (subst (λ n. Near (each_request functions (first_round last w) requests) (first_round n (left_after (answered functions (first_round last w) requests).wrote w (answered functions (first_round last w) requests).left)))
           (sym given.last) stands.near);
     }
 
@@ -96,7 +96,7 @@ refused_first functions state old new w last frames requests number alike any fi
   undone = drop (length first.front) frames;
   parts = sym (take-append-drop (length first.front) frames);
   some = subst (λ n. 0 < n) (sym (as_many_first first.front first.rest requests frames first.parts alike))
-      (some_first functions (begun last w) refl first.front first.rest (subst (λ rs. 0 < length rs) first.parts any) first.enough);
+      (some_first functions (first_round last w) refl first.front first.rest (subst (λ rs. 0 < length rs) first.parts any) first.enough);
   requests = first.front;
   asked = front_alike requests first.front first.rest frames first.parts alike;
   refused = subst (λ (s : StoreView _ _). AnswersRequests functions state old s w last first.front (Err number)) same first.answers;

@@ -16,7 +16,7 @@ use Rattle.message_session.specs.Sessions.{HasCarriedOut}
 use Rattle.plist_state.specs.State.{WorldState}
 use Rattle.prevalence_store.specs.calls.Store.{StoreView}
 use Rattle.messages.specs.declared.request.Request.{Request}
-use Rattle.messages.specs.Answers.{Round, begun, by_number, each_request, one_request}
+use Rattle.messages.specs.Answers.{Round, first_round, by_number, each_request, one_request}
 use Rattle.user_macros.specs.Functions.{Functions}
 
 pub answers_append : (xs ys : List Sent) (ts us : List (List ℕ × Bool)) → length ts ≡ length xs → answers_to (xs ++ ys) (ts ++ us) ≡ answers_to xs ts ++ answers_to ys us
@@ -61,17 +61,17 @@ module _ (functions : Functions) where
   both_rounds xs ys round = fold-append (λ (far : Round) frame. one_frame functions far frame) round xs ys
 
   module _ (last : ℕ) (w : WorldState) (tidy : IsTidy w.properties) where
-    itself : Near (begun last w) (begun last w)
-    itself = near_itself functions (begun last w) tidy
+    itself : Near (first_round last w) (first_round last w)
+    itself = near_itself functions (first_round last w) tidy
 
     -- the bytes of frames, by what is told of each
-    by_told : (frames more : List Sent) (ts : List (List ℕ × Bool)) → (each_frame functions (each_frame functions (begun last w) frames) more).told ≡ (each_frame functions (begun last w) frames).told ++ ts
+    by_told : (frames more : List Sent) (ts : List (List ℕ × Bool)) → (each_frame functions (each_frame functions (first_round last w) frames) more).told ≡ (each_frame functions (first_round last w) frames).told ++ ts
         → answered_bytes functions last w (frames ++ more) ≡ answered_bytes functions last w frames ++ flat_map answer_bytes (answers_to more ts)
     by_told frames more ts told =
-        let far = each_frame functions (begun last w) frames in
-        let here = each_near frames (begun last w) (begun last w) itself in
+        let far = each_frame functions (first_round last w) frames in
+        let here = each_near frames (first_round last w) (first_round last w) itself in
         let count : length far.told ≡ length frames = ap length here.here ∙ here.count in
-        ap (λ (r : Round). flat_map answer_bytes (answers_to (frames ++ more) r.told)) (both_rounds frames more (begun last w))
+        ap (λ (r : Round). flat_map answer_bytes (answers_to (frames ++ more) r.told)) (both_rounds frames more (first_round last w))
         ∙ ap (λ us. flat_map answer_bytes (answers_to (frames ++ more) us)) told
         ∙ ap (flat_map answer_bytes) (answers_append frames more far.told ts count)
         ∙ flat_map-append answer_bytes (answers_to frames far.told) (answers_to more ts)
@@ -83,17 +83,17 @@ module _ (functions : Functions) where
       -- what was told of the first is told after them of the others
       pub bytes_of_both : answered_bytes functions last w (frames ++ more) ≡ answered_bytes functions last w frames ++ answered_bytes functions mid_last before.left more
       bytes_of_both =
-          let far = each_frame functions (begun last w) frames in
-          let here = each_near more far (begun mid_last before.left) before.near in
+          let far = each_frame functions (first_round last w) frames in
+          let here = each_near more far (first_round mid_last before.left) before.near in
           by_told frames more here.told here.here
           ∙ ap (λ ts. answered_bytes functions last w frames ++ flat_map answer_bytes (answers_to more ts)) (sym here.there)
 
-      pub more_near : (new_last : ℕ) (left : WorldState) → Near (each_frame functions (begun mid_last before.left) more) (begun new_last left)
-          → Near (each_frame functions (begun last w) (frames ++ more)) (begun new_last left)
+      pub more_near : (new_last : ℕ) (left : WorldState) → Near (each_frame functions (first_round mid_last before.left) more) (first_round new_last left)
+          → Near (each_frame functions (first_round last w) (frames ++ more)) (first_round new_last left)
       more_near new_last left near =
-          let far = each_frame functions (begun last w) frames in
-          let here = each_near more far (begun mid_last before.left) before.near in
-          subst (λ (r : Round). Near r (begun new_last left)) (sym (both_rounds frames more (begun last w))) (near_on functions _ _ _ here.near near)
+          let far = each_frame functions (first_round last w) frames in
+          let here = each_near more far (first_round mid_last before.left) before.near in
+          subst (λ (r : Round). Near r (first_round new_last left)) (sym (both_rounds frames more (first_round last w))) (near_on functions _ _ _ here.near near)
 
       pub more_after : (new_last : ℕ) (new : StoreView D R) → HasCarriedOut functions mid_last before.left more new_last new → HasCarriedOut functions last w (frames ++ more) new_last new
       more_after new_last new after = record { left = after.left; known = after.known; near = more_near new_last after.left after.near }

@@ -7,7 +7,7 @@ use Rattle.disk_trait.specs.Moments.{joined, weaker}
 use Rattle.gate_log.specs.Layout.{LogRecord}
 use Rattle.lisp_object.specs.declared.refusal.TheConstants.{DEVICE, SNAPSHOT_TOO_LARGE}
 use Rattle.message_frames.specs.Frames.{Sent}
-use Rattle.message_session.specs.Account.{Account, AreLogged, AreNext, AreStored, AreUnderWay, first_account, round_after, with_frames}
+use Rattle.message_session.specs.Account.{Account, AreLogged, AreNext, AreStored, AreUnderWay, first_message_account, round_after, with_frames}
 use Rattle.message_session.specs.Answers.{AskAlike, answered_bytes, each_frame}
 use Rattle.message_session.specs.Standing.{AcknowledgesNone, ComeNext, IsAtRest, Rests, RestsOrStops}
 use Rattle.message_session.specs.Steps.{RenewsIfDue, StopsAfter}
@@ -29,7 +29,7 @@ use Rattle.prevalence_store.specs.declared.outcome.Outcome.{Outcome}
 use Rattle.prevalence_store.specs.declared.outcome.Outcome.TheVariants.{Accepted, Snapshotted, Refused}
 use Rattle.prevalence_store.specs.meaning.Acceptance.{after}
 use Rattle.prevalence_store.specs.meaning.Files.{MeansWorld}
-use Rattle.messages.specs.Answers.{Round, answered, begun, closed}
+use Rattle.messages.specs.Answers.{Round, answered, first_round, closed}
 use Rattle.messages.specs.Calls.{AnswersRequests, AreAnswered, Fail, entries_by, left_after}
 use Rattle.messages.specs.Fronts.{AnswersFirst}
 use Rattle.messages.proofs.Settling.{unchanged_or_failed}
@@ -161,18 +161,18 @@ module _ (functions : Functions) {D R : Type 0} (state : D → State) (sound : (
   -- ---- requests that frames are
 
   round_is : (old : StoreView D R) (last : ℕ) (frames : List Sent) (requests : List Request) → AskAlike requests frames → (account : Account D) (w : WorldState)
-      → IsAtRest functions state account old last w → answered functions (begun last w) requests ≡ round_after functions account frames
+      → IsAtRest functions state account old last w → answered functions (first_round last w) requests ≡ round_after functions account frames
   round_is old last frames requests alike account w rest =
-      ap closed (same_rounds functions requests frames (begun last w) alike) ∙ (λ i. closed (each_frame functions (begun (sym rest.last_is i) (sym rest.now i)) frames))
+      ap closed (same_rounds functions requests frames (first_round last w) alike) ∙ (λ i. closed (each_frame functions (first_round (sym rest.last_is i) (sym rest.now i)) frames))
 
   -- they are under way
   under_way : (old new : StoreView D R) (last : ℕ) (frames : List Sent) (requests : List Request) → AskAlike requests frames → (account : Account D) → AreNext account frames
       → (w : WorldState) → old.world ≡ Some w → IsAtRest functions state account old last w
-      → SurvivesAs functions state old new w (entries_by (answered functions (begun last w) requests).wrote (answered functions (begun last w) requests).entries) 0
-      → AllOrNone functions state old new w (entries_by (answered functions (begun last w) requests).wrote (answered functions (begun last w) requests).entries)
-      → (IsHonest (state account.disk) → IsMadeBy functions w (answered functions (begun last w) requests)) → AreUnderWay functions state account new
+      → SurvivesAs functions state old new w (entries_by (answered functions (first_round last w) requests).wrote (answered functions (first_round last w) requests).entries) 0
+      → AllOrNone functions state old new w (entries_by (answered functions (first_round last w) requests).wrote (answered functions (first_round last w) requests).entries)
+      → (IsHonest (state account.disk) → IsMadeBy functions w (answered functions (first_round last w) requests)) → AreUnderWay functions state account new
   under_way old new last frames requests alike account next w known rest survives all_or_none made =
-      let round = answered functions (begun last w) requests in
+      let round = answered functions (first_round last w) requests in
       record {
         frames = frames;
         next = next;
@@ -193,14 +193,14 @@ module _ (functions : Functions) {D R : Type 0} (state : D → State) (sound : (
         first : AnswersFirst functions state old new far.0 last requests (Err number)
         first = answers far.0 far.1
 
-        by : (new ≡ old) ⊎ Fail functions state old new far.0 (answered functions (begun last far.0) first.front) → AreUnderWay functions state account new
+        by : (new ≡ old) ⊎ Fail functions state old new far.0 (answered functions (first_round last far.0) first.front) → AreUnderWay functions state account new
         by (inl same) =
             subst (λ (s : StoreView D R). AreUnderWay functions state account s) (sym same) (none_at_rest told old last rests account is)
         by (inr failed) =
             under_way old new last (take (length first.front) frames) first.front (front_alike requests first.front first.rest frames first.parts alike)
             account (next_taken account frames (length first.front) (come account is)) far.0 far.1 far.2
             failed.survives failed.all_or_none
-            (λ _. made_of_some functions far.0 (answered functions (begun last far.0) first.front) failed.some failed.again)
+            (λ _. made_of_some functions far.0 (answered functions (first_round last far.0) first.front) failed.some failed.again)
 
       pub unanswered : (number ≢ DEVICE → new ≡ old) → (why : Stop) → StopsAfter number why → RestsOrStops functions state told new last (Err why)
       unanswered unchanged (stop.Untaken n) stops = λ account is.
@@ -217,7 +217,7 @@ module _ (functions : Functions) {D R : Type 0} (state : D → State) (sound : (
       none_told account is =
           let far = rests account is in
           let given = answers far.0 far.1 in
-          let round = answered functions (begun last far.0) given.0 in
+          let round = answered functions (first_round last far.0) given.0 in
           let taken = entries_by round.wrote round.entries in
           under_way old new last frames given.0 given.1 account (come account is) far.0 far.1 far.2
           (λ known honest keeps. fewer_survive functions (state old.disk) (state new.disk) far.0 taken (length taken) 0 new.world (given.2.survives known honest keeps) (omega arith)) given.2.all_or_none
@@ -269,14 +269,14 @@ module _ (functions : Functions) {D R : Type 0} (state : D → State) (sound : (
 
   -- the position
   pub rests_begun : (input : Option (List ℕ)) (now : Option (Account D)) (store : StoreView D R) (position : ℕ)
-      → ((later : Account D) → now ≡ Some later → (world : WorldState) × (store.world ≡ Some world) × (later ≡ first_account input position world store.disk))
+      → ((later : Account D) → now ≡ Some later → (world : WorldState) × (store.world ≡ Some world) × (later ≡ first_message_account input position world store.disk))
       → ((w : WorldState) → store.world ≡ Some w → IsHonest (state store.disk) → Keeps functions (state store.disk) w) → Rests functions state now store position
   rests_begun input now store position kept keeps later is =
       let first = kept later is in (
         first.0,
         first.1,
         subst (λ (a : Account D). IsAtRest functions state a store position first.0) (sym first.2) (record {
-          of_input = next_begun (first_account input position first.0 store.disk) refl;
+          of_input = next_begun (first_message_account input position first.0 store.disk) refl;
           last_is = refl;
           now = refl;
           since = λ honest. none_taken functions (state store.disk) first.0 (sound store.disk honest) (keeps first.0 first.1 honest);

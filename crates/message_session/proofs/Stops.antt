@@ -21,7 +21,7 @@ use Rattle.prevalence_store.specs.calls.Snapshot.{IsSnapshotted}
 use Rattle.prevalence_store.specs.calls.Store.{StoreView}
 use Rattle.messages.specs.declared.request.Request.{Request}
 use Rattle.messages.specs.Fronts.{AnswersFirst}
-use Rattle.messages.specs.Answers.{begun}
+use Rattle.messages.specs.Answers.{first_round}
 use Rattle.user_macros.specs.Functions.{Functions}
 
 module _ (functions : Functions) (last : ℕ) (w : WorldState) (tidy : IsTidy w.properties) {D R : Type 0} (state : D → State) (old new : StoreView D R) (known : old.world ≡ Some w) where
@@ -37,7 +37,7 @@ module _ (functions : Functions) (last : ℕ) (w : WorldState) (tidy : IsTidy w.
       fault = inr (inr (inl (record {
         before = old;
         before_last = last;
-        after = record { left = w; known = known; near = near_itself functions (begun last w) tidy };
+        after = record { left = w; known = known; near = near_itself functions (first_round last w) tidy };
         requests = first.front;
         asked = front_alike requests first.front first.rest frames first.parts alike;
         refused = first.answers;

@@ -10,7 +10,7 @@ use Rattle.prevalence_store.specs.Theorem.{Survives}
 use Rattle.prevalence_store.specs.calls.ExecuteAll.{MeansAllOrNone}
 use Rattle.prevalence_store.specs.calls.Store.{StoreView}
 use Rattle.prevalence_store.specs.meaning.Acceptance.{after}
-use Rattle.messages.specs.Answers.{Round, begun, closed}
+use Rattle.messages.specs.Answers.{Round, first_round, closed}
 use Rattle.messages.specs.Calls.{entries_by, left_after}
 use Rattle.messages.specs.Position.{position}
 use Rattle.user_macros.specs.Functions.{Functions}
@@ -29,12 +29,12 @@ abbrev pub IsToldIn : ℕ → WorldState → Type 0
 IsToldIn number world = number ≤ unwrap_or (position world) 0
 
 -- as this position is told in this world
-abbrev pub first_account : {D : Type 0} → Option (List ℕ) → ℕ → WorldState → D → Account D
-first_account input position world disk = record { input = input; answered = []; last = position; now = world; disk = disk }
+abbrev pub first_message_account : {D : Type 0} → Option (List ℕ) → ℕ → WorldState → D → Account D
+first_message_account input position world disk = record { input = input; answered = []; last = position; now = world; disk = disk }
 
 -- these frames after those that were answered: the answers, and what was logged together, with the position
 abbrev pub round_after : Functions → {D : Type 0} → Account D → List Sent → Round
-round_after functions account frames = closed (each_frame functions (begun account.last account.now) frames)
+round_after functions account frames = closed (each_frame functions (first_round account.last account.now) frames)
 
 -- after the answers to these frames
 abbrev pub with_frames : Functions → {D R : Type 0} → List Sent → StoreView D R → Account D → Account D

@@ -6,7 +6,7 @@ use Rattle.message_frames.specs.declared.frame.Kind.{Kind}
 use Rattle.message_frames.specs.declared.frame.Kind.TheVariants.{Do, Ask}
 use Rattle.plist_state.specs.State.{WorldState}
 use Rattle.messages.specs.declared.request.Request.{Request}
-use Rattle.messages.specs.Answers.{Round, begun, by_number}
+use Rattle.messages.specs.Answers.{Round, first_round, by_number}
 use Rattle.user_macros.specs.Functions.{Functions}
 
 -- a message has a number, a question none
@@ -40,7 +40,7 @@ answers_to (frame ∷ frames) (one ∷ more) = (frame.0, one.0) ∷ answers_to f
 
 -- the answers to frames, after the message of this number, in a world; and their bytes
 abbrev pub answers_of : Functions → ℕ → WorldState → List Sent → List Sent
-answers_of functions last world frames = answers_to frames (each_frame functions (begun last world) frames).told
+answers_of functions last world frames = answers_to frames (each_frame functions (first_round last world) frames).told
 
 abbrev pub answered_bytes : Functions → ℕ → WorldState → List Sent → List ℕ
 answered_bytes functions last world frames = flat_map answer_bytes (answers_of functions last world frames)

@@ -3,7 +3,7 @@ use Rattle.std.specs.Prelude.{ℕ, ◌+◌, ◌≡◌, ◌≢◌, ◌⊎◌, Lis
 use Rattle.std.specs.Io.KnownBytes.{Consumes, IsAtEnd}
 use Rattle.std.specs.List.{flat_map}
 use Rattle.disk_trait.specs.Disk.{State}
-use Rattle.message_frames.specs.Frames.{AreFrames, IsBegun, IsMalformed, Sent, frame_bytes, position_bytes}
+use Rattle.message_frames.specs.Frames.{AreFrames, IsBegunFrame, IsMalformed, Sent, frame_bytes, position_bytes}
 use Rattle.message_laws.specs.Near.{Near}
 use Rattle.message_session.specs.Answers.{AskAlike, each_frame, session_bytes}
 use Rattle.message_session.specs.declared.ended.Ended.{Ended}
@@ -16,7 +16,7 @@ use Rattle.prevalence_store.specs.calls.Store.{StoreView}
 use Rattle.sessions.specs.Streams.{Writes, WritesPart}
 use Rattle.messages.specs.declared.request.Request.{Request}
 use Rattle.prevalence_store.specs.declared.outcome.Outcome.TheVariants.{Refused}
-use Rattle.messages.specs.Answers.{begun}
+use Rattle.messages.specs.Answers.{first_round}
 use Rattle.messages.specs.Calls.{AnswersRequests, BeginsMessages}
 use Rattle.user_macros.specs.Functions.{Functions}
 use Rattle.world_text.specs.Snapshot.{snapshot}
@@ -38,7 +38,7 @@ module _ (functions : Functions) (last : ℕ) (world : WorldState) where
   pub record HasCarriedOut {D R : Type 0} (frames : List Sent) (now_last : ℕ) (store : StoreView D R) : Type 0 where
     pub left : WorldState
     pub known : store.world ≡ Some left
-    pub near : Near (each_frame functions (begun last world) frames) (begun now_last left)
+    pub near : Near (each_frame functions (first_round last world) frames) (first_round now_last left)
 
   -- a store that goes on has carried them out
   abbrev pub AreCarriedOut : {D R : Type 0} → List Sent → StoreView D R → Type 0
@@ -57,7 +57,7 @@ module _ (functions : Functions) (last : ℕ) (world : WorldState) where
       pub record IsUnread (rest : List ℕ) : Type 0 where
         pub input : number ≡ INPUT
         pub none_next : next ≡ []
-        pub begun : IsBegun text_limit rest
+        pub begun : IsBegunFrame text_limit rest
         pub carried_out : AreCarriedOut answered store
         pub output : Writes held written (bytes answered)
 
@@ -127,7 +127,7 @@ module _ (functions : Functions) (last : ℕ) (world : WorldState) where
       -- How it ends. At the end of the input, with less than a frame after those that were answered. At bytes that are no frame, however
       -- they go on, with so many bytes before them. Or at a fault.
       abbrev pub EndsBy : Option (List ℕ) → Ended → Type 0
-      EndsBy left End = (frames : List Sent) × (rest : List ℕ) × (now_last : ℕ) × AreServed frames rest now_last × IsBegun text_limit rest × IsAtEnd left
+      EndsBy left End = (frames : List Sent) × (rest : List ℕ) × (now_last : ℕ) × AreServed frames rest now_last × IsBegunFrame text_limit rest × IsAtEnd left
       EndsBy left (NoFrame place) = (frames : List Sent) × (rest : List ℕ) × (now_last : ℕ) × AreServed frames rest now_last × IsMalformed text_limit rest
           × (place ≡ length (flat_map frame_bytes frames))
       EndsBy left (Fault number) = IsBroken number
@@ -198,5 +198,5 @@ module _ (functions : Functions) {D R : Type 0} (state : D → State) where
     ServesMessages ended = IsUnbegun ended ⊎ (IsUntold ended ⊎ IsServed ended)
 
 -- A session over a store that has met a device fault does nothing.
-abbrev pub AsksToReopen : {D R I O : Type 0} → (old new : StoreView D R) → (input left : I) → (held written : O) → Ended → Type 0
-AsksToReopen old new input left held written ended = (ended ≡ Fault REOPEN) × (new ≡ old) × (left ≡ input) × (written ≡ held)
+abbrev pub SessionAsksToReopen : {D R I O : Type 0} → (old new : StoreView D R) → (input left : I) → (held written : O) → Ended → Type 0
+SessionAsksToReopen old new input left held written ended = (ended ≡ Fault REOPEN) × (new ≡ old) × (left ≡ input) × (written ≡ held)

@@ -3,7 +3,7 @@ use Rattle.std.specs.Prelude.{ℕ, ◌≡◌, ◌≢◌, ◌⊎◌, ◌<◌, Boo
 use Rattle.std.specs.Io.KnownBytes.{Consumes, IsAtEnd}
 use Rattle.disk_trait.specs.Disk.{State}
 use Rattle.lisp_object.specs.declared.refusal.TheConstants.{DEVICE, INPUT, LOG_FULL, NO_MEMORY, SNAPSHOT_TOO_LARGE}
-use Rattle.message_frames.specs.Frames.{AreFrames, IsBegun, IsMalformed, Sent}
+use Rattle.message_frames.specs.Frames.{AreFrames, IsBegunFrame, IsMalformed, Sent}
 use Rattle.message_frames.specs.declared.held.Next.{Next}
 use Rattle.message_frames.specs.declared.held.Next.TheVariants as next
 use Rattle.message_session.specs.Answers.{AskAlike, answered_bytes}
@@ -35,7 +35,7 @@ StopsAfter number (stop.Ended ended) = (ended ≡ Fault number) × (number ≢ L
 
 -- what comes after frames that were answered, of which there are some if nobody looked
 abbrev pub ComesAfter : List Sent → List ℕ → Next → Type 0
-ComesAfter frames rest next.Begun = IsBegun text_limit rest
+ComesAfter frames rest next.Begun = IsBegunFrame text_limit rest
 ComesAfter frames rest next.Malformed = IsMalformed text_limit rest
 ComesAfter frames rest next.Unread = frames ≢ []
 
@@ -126,7 +126,7 @@ module _ (functions : Functions) (old new : Session) (world : WorldState) {D R :
 
   -- all frames were answered that stand whole; true if more bytes may make a frame of what is left
   abbrev pub AnswersAllHeld : Result Bool Ended → Type 0
-  AnswersAllHeld (Ok true) = (frames : List Sent) × PassesFrames frames × IsBegun text_limit new.held
+  AnswersAllHeld (Ok true) = (frames : List Sent) × PassesFrames frames × IsBegunFrame text_limit new.held
   AnswersAllHeld (Ok false) = (frames : List Sent) × PassesFrames frames × IsMalformed text_limit new.held
   AnswersAllHeld (Err ended) = BreaksIn functions old.course.last world state store held written old.held ended
 

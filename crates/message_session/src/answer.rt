@@ -13,7 +13,7 @@ use crate::ended::Ended;
 use crate::recipient::AnswerRecipient;
 use disk_trait::Disk;
 use lisp_object::refusal::{LOG_FULL, NO_MEMORY, OUTPUT, SNAPSHOT_TOO_LARGE};
-use message_frames::{Frame, Kind, push_answer};
+use message_frames::{Kind, MessageFrame, push_answer};
 use messages::{Answer, Replies, Request, answer_first_requests};
 use prevalence_store::{Outcome, Store};
 use std::alloc::{AllocError, Global};
@@ -21,13 +21,13 @@ use user_macros::MacroFunctions;
 
 /// How far a session has come: the number of the last message, and how many messages wrote since the last snapshot.
 #[derive(Clone, Copy)]
-pub(crate) struct Course {
+pub(crate) struct MessageCourse {
     pub(crate) last: u64,
     pub(crate) wrote: u64,
     pub(crate) snapshot_every: u64,
 }
 
-impl Course {
+impl MessageCourse {
     /// The most frames that are answered together: as many as may write before the next snapshot.
     pub(crate) fn most(&self) -> usize
         ensures { 1 ≤ result }
@@ -114,8 +114,8 @@ impl Stop {
 pub(crate) fn answer_frames<D: Disk, R: MacroFunctions, O: AnswerRecipient<D, R>>(
     alloc: Global,
     store: &mut Store<D, R>,
-    course: &mut Course,
-    frames: &[Frame<'_>],
+    course: &mut MessageCourse,
+    frames: &[MessageFrame<'_>],
     output: &mut O,
 ) -> Result<(), Ended>
     requires rests { Rests R.Meaning.functions D.state (O.account output.old) store.old course.old.last }
@@ -144,8 +144,8 @@ pub(crate) fn answer_frames<D: Disk, R: MacroFunctions, O: AnswerRecipient<D, R>
 fn answer_front<D: Disk, R: MacroFunctions, O: AnswerRecipient<D, R>>(
     alloc: Global,
     store: &mut Store<D, R>,
-    course: &mut Course,
-    frames: &[Frame<'_>],
+    course: &mut MessageCourse,
+    frames: &[MessageFrame<'_>],
     output: &mut O,
 ) -> Result<usize, Ended>
     requires rests { Rests R.Meaning.functions D.state (O.account output.old) store.old course.old.last }
@@ -177,8 +177,8 @@ fn answer_front<D: Disk, R: MacroFunctions, O: AnswerRecipient<D, R>>(
 fn answer_in_turn<D: Disk, R: MacroFunctions, O: AnswerRecipient<D, R>>(
     alloc: Global,
     store: &mut Store<D, R>,
-    course: &mut Course,
-    frames: &[Frame<'_>],
+    course: &mut MessageCourse,
+    frames: &[MessageFrame<'_>],
     output: &mut O,
 ) -> Result<usize, Ended>
     requires rests { Rests R.Meaning.functions D.state (O.account output.old) store.old course.old.last }
@@ -210,8 +210,8 @@ fn answer_in_turn<D: Disk, R: MacroFunctions, O: AnswerRecipient<D, R>>(
 fn take_with_room<D: Disk, R: MacroFunctions, O: AnswerRecipient<D, R>>(
     alloc: Global,
     store: &mut Store<D, R>,
-    course: &mut Course,
-    frames: &[Frame<'_>],
+    course: &mut MessageCourse,
+    frames: &[MessageFrame<'_>],
     output: &mut O,
 ) -> Result<usize, Stop>
     requires rests { Rests R.Meaning.functions D.state (O.account output.old) store.old course.old.last }
@@ -256,8 +256,8 @@ fn take_with_room<D: Disk, R: MacroFunctions, O: AnswerRecipient<D, R>>(
 fn take_frames<D: Disk, R: MacroFunctions, O: AnswerRecipient<D, R>>(
     alloc: Global,
     store: &mut Store<D, R>,
-    course: &mut Course,
-    frames: &[Frame<'_>],
+    course: &mut MessageCourse,
+    frames: &[MessageFrame<'_>],
     output: &mut O,
 ) -> Result<usize, Stop>
     requires rests { Rests R.Meaning.functions D.state (O.account output.old) store.old course.old.last }
@@ -327,7 +327,10 @@ fn count_written(replies: &Replies) -> u64 {
 }
 
 // What is asked of the store.
-fn requests_of<'a>(alloc: Global, frames: &[Frame<'a>]) -> Result<Vec<Request<'a>>, AllocError>
+fn requests_of<'a>(
+    alloc: Global,
+    frames: &[MessageFrame<'a>],
+) -> Result<Vec<Request<'a>>, AllocError>
     ensures pairs { IfOk result (λ requests. AskAlike requests.items (map sent frames.now)) }
     ensures many { IfOk result (λ requests. length requests.items ≡ length frames.now) }
 {
@@ -351,7 +354,11 @@ fn number_in(kind: Kind) -> Option<u64>
 }
 
 // The answers to frames as bytes.
-fn bytes_of(alloc: Global, frames: &[Frame<'_>], answers: &[Answer]) -> Result<Vec<u8>, AllocError>
+fn bytes_of(
+    alloc: Global,
+    frames: &[MessageFrame<'_>],
+    answers: &[Answer],
+) -> Result<Vec<u8>, AllocError>
     ensures { IfOk result (λ bytes. bytes.items
         ≡ flat_map answer_bytes (answers_to (map sent frames.now) (map told_in answers.now))) }
 {

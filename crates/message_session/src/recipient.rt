@@ -2,12 +2,12 @@
 ghost use Rattle.std.specs.Prelude.{◌≡◌, ℕ, List, map, Option, None, Some, OnOk, OnErr};
 ghost use Rattle.std.specs.Option.{option_map};
 ghost use Rattle.message_frames.specs.Frames.{position_bytes, sent};
-ghost use Rattle.message_session.specs.Account.{Account, AreStored, IsToldIn, first_account, with_frames};
+ghost use Rattle.message_session.specs.Account.{Account, AreStored, IsToldIn, first_message_account, with_frames};
 ghost use Rattle.plist_state.specs.State.{WorldState};
 ghost use Rattle.sessions.specs.Streams.{Writes, WritesPart};
 
 use disk_trait::Disk;
-use message_frames::Frame;
+use message_frames::MessageFrame;
 use prevalence_store::Store;
 use sessions::OutputFault;
 use std::io::Write;
@@ -42,7 +42,7 @@ pub trait AnswerRecipient<D: Disk, R: MacroFunctions> {
         ensures part { OnErr result (WritesPart (contents self.old) (contents self.new) bytes.now) }
         ensures kept { (later : Account D) → account self.new ≡ Some later
             → (world : WorldState) × (store.now.world ≡ Some world)
-            × (later ≡ first_account (input self.old) position world store.now.disk) }
+            × (later ≡ first_message_account (input self.old) position world store.now.disk) }
         ensures input { input self.new ≡ input self.old };
 
     /// Takes the answers to these frames whole, or a part of them from their front.
@@ -50,7 +50,7 @@ pub trait AnswerRecipient<D: Disk, R: MacroFunctions> {
         &mut self,
         store: &Store<D, R>,
         bytes: &[u8],
-        frames: &[Frame<'_>],
+        frames: &[MessageFrame<'_>],
     ) -> Result<(), OutputFault>
         requires stored { (kept : Account D) → account self.old ≡ Some kept
             → AreStored R.Meaning.functions D.state kept store.now (map sent frames.now) bytes.now }
@@ -81,7 +81,7 @@ impl<D: Disk, R: MacroFunctions, W: Write> AnswerRecipient<D, R> for W {
         &mut self,
         _store: &Store<D, R>,
         bytes: &[u8],
-        _frames: &[Frame<'_>],
+        _frames: &[MessageFrame<'_>],
     ) -> Result<(), OutputFault> {
         write_whole(self, bytes)
     }

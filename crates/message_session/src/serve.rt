@@ -3,12 +3,12 @@ ghost use Rattle.std.specs.Prelude.{◌≡◌, ◌<◌, ◌≤◌, ℕ, List, []
 ghost use Rattle.lisp_object.specs.declared.refusal.TheConstants.{REOPEN};
 ghost use Rattle.message_frames.specs.declared.held.Next.TheVariants as next;
 ghost use Rattle.message_session.specs.Account.{Account, IsToldIn};
-ghost use Rattle.message_session.specs.Sessions.{AsksToReopen, HasNoRoomToBegin, ServesMessages};
+ghost use Rattle.message_session.specs.Sessions.{SessionAsksToReopen, HasNoRoomToBegin, ServesMessages};
 ghost use Rattle.message_session.specs.Standing.{AcknowledgesNone, AnswersFirstOf, ComesNext, IsReadIn, Rests, RestsOrEnds};
 ghost use Rattle.message_session.specs.Steps.{AnswersAllHeld, AnswersFramesOfInput, AnswersSomeHeld, MayBegin, TakesPiece};
 ghost use Rattle.plist_state.specs.State.{WorldState};
 
-use crate::answer::{Course, answer_frames, its_world_is_sound, renew_for_room};
+use crate::answer::{MessageCourse, answer_frames, its_world_is_sound, renew_for_room};
 use crate::ended::Ended;
 use crate::recipient::AnswerRecipient;
 use disk_trait::Disk;
@@ -59,7 +59,7 @@ pub fn serve_messages<D: Disk, R: MacroFunctions, I: Read, O: AnswerRecipient<D,
     requires begins { (kept : Account D) → O.account output.old ≡ Some kept → ⊥ }
     requires of_input { (all : List ℕ) → O.input output.old ≡ Some all → I.remaining input.old ≡ Some all }
     ensures reopen { store.old.world ≡ None
-        → AsksToReopen store.old store.new input.old input.new output.old output.new result }
+        → SessionAsksToReopen store.old store.new input.old input.new output.old output.new result }
     ensures serves { (w : WorldState) → store.old.world ≡ Some w
         → ServesMessages R.Meaning.functions D.state store.old store.new w
         (I.remaining input.old) (I.remaining input.new) (O.contents output.old) (O.contents output.new) result }
@@ -81,7 +81,7 @@ pub fn serve_messages<D: Disk, R: MacroFunctions, I: Read, O: AnswerRecipient<D,
         Ok(()) => {}
         Err(_) => return Ended::Fault(OUTPUT),
     }
-    let course = Course {
+    let course = MessageCourse {
         last,
         wrote: 0,
         snapshot_every,
@@ -127,7 +127,7 @@ fn serve_frames<D: Disk, R: MacroFunctions, I: Read, O: AnswerRecipient<D, R>>(
     store: &mut Store<D, R>,
     input: &mut I,
     output: &mut O,
-    course: Course,
+    course: MessageCourse,
 ) -> Ended
     requires rests { Rests R.Meaning.functions D.state (O.account output.old) store.old course.last }
     requires read { IsReadIn (O.account output.old) (I.remaining input.old) [] }
@@ -188,7 +188,7 @@ fn read_piece<I: Read>(input: &mut I, held: &mut Held, buffer: &mut [u8]) -> Res
 struct Session {
     alloc: Global,
     held: Held,
-    course: Course,
+    course: MessageCourse,
 }
 
 impl Session {

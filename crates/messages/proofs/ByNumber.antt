@@ -10,7 +10,7 @@ use Rattle.prevalence_store.specs.declared.failure.Unlogged.TheVariants.{Full, D
 use Rattle.messages.specs.declared.own.Own.{Own}
 use Rattle.messages.specs.declared.request.Request.{Request}
 use Rattle.prevalence_store.specs.meaning.Acceptance.{IsFormNumber, accepts}
-use Rattle.messages.specs.Answers.{answered, begun}
+use Rattle.messages.specs.Answers.{answered, first_round}
 use Rattle.messages.specs.Position.{own_text}
 use Rattle.messages.specs.Calls.{AnswersRequests, AreLeft, IsOwnRefused, RefusesOwn}
 use Rattle.prevalence_store.specs.steps.Failure.{failure_number}
@@ -25,11 +25,11 @@ module _ (functions : Functions)
   own_number w own number (inr other) = omega (arith, other.0)
 
   module _ {D R : Type 0} (state : D → State) (old new : StoreView D R) (world : WorldState) (last : ℕ) (requests : List Request) where
-    form_number : (number : ℕ) → RefusesOwn functions (begun last world) requests number → number < DEVICE
+    form_number : (number : ℕ) → RefusesOwn functions (first_round last world) requests number → number < DEVICE
     form_number number (inl before) = own_number _ _ number before.4.1.1
     form_number number (inr after) = own_number _ _ number after.1
 
-    by_form : (number : ℕ) → RefusesOwn functions (begun last world) requests number → new ≡ old → AreRefusedBy functions state old new world last requests number
+    by_form : (number : ℕ) → RefusesOwn functions (first_round last world) requests number → new ≡ old → AreRefusedBy functions state old new world last requests number
     by_form number own same = let below = form_number number own in record {
       device = λ is. absurd (omega (arith, is, below));
       unchanged = λ _. same;
@@ -37,7 +37,7 @@ module _ (functions : Functions)
       own = λ _ _ _. (below, own);
     }
 
-    by_cause : (cause : Unlogged) → AreLeft functions state old new world (answered functions (begun last world) requests) cause
+    by_cause : (cause : Unlogged) → AreLeft functions state old new world (answered functions (first_round last world) requests) cause
         → AreRefusedBy functions state old new world last requests (failure_number cause)
     by_cause Full left = record {
       device = λ is. absurd (omega (arith, is));

@@ -21,10 +21,10 @@ use Rattle.messages.specs.declared.request.Answer.{Answer}
 use Rattle.messages.specs.declared.request.Replies.{Replies}
 use Rattle.messages.specs.declared.request.Request.{Request}
 use Rattle.messages.specs.declared.request.TheConstants.{ANSWER_BYTES}
-use Rattle.prevalence_store.specs.calls.ExecuteAll.{left_by, told_of}
+use Rattle.prevalence_store.specs.calls.ExecuteAll.{world_left_after, told_of}
 use Rattle.prevalence_store.specs.calls.Store.{StoreView}
 use Rattle.prevalence_store.specs.meaning.Acceptance.{accepts}
-use Rattle.messages.specs.Answers.{Round, answer_in, answer_to_question, begun, by_number, cleared, closed, each_request, one_request, with_message, with_old, with_own, wrote_by}
+use Rattle.messages.specs.Answers.{Round, answer_in, answer_to_question, first_round, by_number, cleared, closed, each_request, one_request, with_message, with_old, with_own, wrote_by}
 use Rattle.messages.specs.Calls.{AnswersRequests, RefusesOwn, RefusesRequest}
 use Rattle.messages.specs.Fronts.{AnswersFirst, answer_length, first_of, is_full, is_none_left, room_left}
 use Rattle.messages.specs.Position.{position_property}
@@ -73,7 +73,7 @@ module _ (functions : Functions) where
     either true = (_, refl)
     either false =
         let given = accepts functions (cleared round).left Current text in
-        ((answer_in (left_by (cleared round).left given) (told_of given), wrote_by given), ap (λ ts. ts ++ (answer_in (left_by (cleared round).left given) (told_of given), wrote_by given) ∷ []) (cleared_told round))
+        ((answer_in (world_left_after (cleared round).left given) (told_of given), wrote_by given), ap (λ ts. ts ++ (answer_in (world_left_after (cleared round).left given) (told_of given), wrote_by given) ∷ []) (cleared_told round))
 
   pub one_answer : (round : Round) (request : Request) → (answer : List ℕ × Bool) × ((one_request functions round request).told ≡ round.told ++ answer ∷ [])
   one_answer round request = by_answer round request.number request.text.now
@@ -223,21 +223,21 @@ module _ (functions : Functions) where
   module _ {D R : Type 0} (state : D → State) (old new : StoreView D R) (world : WorldState) (last : ℕ) where
     counted : (front : List Request) (result : Result Replies ℕ) → AnswersRequests functions state old new world last front result → IfOk result (λ replies. length replies.answers.items ≡ length front)
     counted front (Ok replies) is =
-        sym (length-map replies.answers.items told_in) ∙ ap length (is.told ∙ closed_told (each_request functions (begun last world) front))
-        ∙ each_counted (begun last world) front ∙ omega arith
+        sym (length-map replies.answers.items told_in) ∙ ap length (is.told ∙ closed_told (each_request functions (first_round last world) front))
+        ∙ each_counted (first_round last world) front ∙ omega arith
     counted front (Err number) is = tt
 
-    pub first_answered : (requests : List Request) (result : Result Replies ℕ) → AnswersRequests functions state old new world last (first_of functions (Some ANSWER_BYTES) (begun last world) requests) result
+    pub first_answered : (requests : List Request) (result : Result Replies ℕ) → AnswersRequests functions state old new world last (first_of functions (Some ANSWER_BYTES) (first_round last world) requests) result
         → AnswersFirst functions state old new world last requests result
     first_answered requests result is =
-        let front = first_of functions (Some ANSWER_BYTES) (begun last world) requests in
-        let parts = first_parts ANSWER_BYTES (begun last world) requests in
+        let front = first_of functions (Some ANSWER_BYTES) (first_round last world) requests in
+        let parts = first_parts ANSWER_BYTES (first_round last world) requests in
         record {
           front = front;
           rest = parts.0;
           parts = parts.1;
           enough = parts.2;
-          needed = first_needed ANSWER_BYTES requests (begun last world) (lit< tt);
+          needed = first_needed ANSWER_BYTES requests (first_round last world) (lit< tt);
           answers = is;
           count = counted front result is;
         }
@@ -249,7 +249,7 @@ module _ (functions : Functions) where
         omega (arith, counts, count)
     most_answered requests (Err number) is = tt
 
-    some_front : (front rest : List Request) → front ++ rest ≢ [] → (rest ≢ [] → ANSWER_BYTES ≤ answer_length (each_request functions (begun last world) front)) → 0 < length front
+    some_front : (front rest : List Request) → front ++ rest ≢ [] → (rest ≢ [] → ANSWER_BYTES ≤ answer_length (each_request functions (first_round last world) front)) → 0 < length front
     some_front [] [] some enough = absurd (some refl)
     some_front [] (request ∷ later) some enough = absurd (let over = enough (λ none. absurd (cc)) in omega (arith, over))
     some_front (request ∷ front) rest some enough = omega arith

@@ -30,8 +30,8 @@ use Rattle.messages.specs.declared.round.Round.{Round as Held}
 use Rattle.prevalence_store.specs.declared.outcome.Outcome.{Outcome}
 use Rattle.session_words.specs.declared.mode.Mode.TheVariants.{Current, Rescue}
 use Rattle.prevalence_store.specs.meaning.Acceptance.{Acceptance, accepts, after, logged, records_of, transacted}
-use Rattle.prevalence_store.specs.calls.ExecuteAll.{entries_of, left_by, told_by, told_of}
-use Rattle.messages.specs.Answers.{Round, answer_in, answer_to_question, asked_in, by_number, cleared, given_in, one_request, with_answer, with_asked, with_given, with_message, with_old, with_own, wrote_by}
+use Rattle.prevalence_store.specs.calls.ExecuteAll.{logged_entries, world_left_after, told_by, told_of}
+use Rattle.messages.specs.Answers.{Round, answer_in, answer_to_question, after_question, by_number, cleared, given_in, one_request, with_answer, with_asked, with_given, with_message, with_old, with_own, wrote_by}
 use Rattle.messages.specs.Position.{own_form, own_left, own_text, position_property, with_position, without_position}
 use Rattle.messages.specs.Rounds.{IsMade, IsNeeded, IsOwnForm, round_in, told_in}
 use Rattle.prevalence_store.specs.steps.Batch.{IsNotAdded, entries_in}
@@ -120,7 +120,7 @@ module _ (functions : Functions) where
     pub given_made : (number : ℕ) (text : List ℕ) → IsMade functions w (given_in functions number text round)
     given_made number text =
         let one = one_replayed functions Current round.left text in
-        let made = entries_made (entries_of Current (accepts functions round.left Current text)) _ one.again one.fit in
+        let made = entries_made (logged_entries Current (accepts functions round.left Current text)) _ one.again one.fit in
         record { again = made.0; fit = made.1 }
 
     pub own_made : (own : Own) → after functions round.left (logged Rescue (own_text own) ∷ []) ≡ Some (own_left own round.left)
@@ -167,14 +167,14 @@ module _ (functions : Functions) where
 -- ---- answers
 
 -- whether a text wrote shows in how many records there are
-wrote_shown : (given : Result Acceptance ℕ) (old new : List LogRecord) → new ≡ old ++ entries_of Current given → nat_lt (length old) (length new) ≡ wrote_by given
+wrote_shown : (given : Result Acceptance ℕ) (old new : List LogRecord) → new ≡ old ++ logged_entries Current given → nat_lt (length old) (length new) ≡ wrote_by given
 wrote_shown (Ok given) old new is = by given.wrote refl where
   by : (b : Bool) → given.wrote ≡ b → nat_lt (length old) (length new) ≡ b
   by true wrote =
-      let longer : length new ≡ length old + 1 = ap length is ∙ length-append old (entries_of Current (Ok given)) ∙ ap (λ (b : Bool). length old + length (records_of b Current given.text)) wrote in
+      let longer : length new ≡ length old + 1 = ap length is ∙ length-append old (logged_entries Current (Ok given)) ∙ ap (λ (b : Bool). length old + length (records_of b Current given.text)) wrote in
       lt-ltb (length old) (length new) (omega (arith, longer))
   by false wrote =
-      let same : length new ≡ length old + 0 = ap length is ∙ length-append old (entries_of Current (Ok given)) ∙ ap (λ (b : Bool). length old + length (records_of b Current given.text)) wrote in
+      let same : length new ≡ length old + 0 = ap length is ∙ length-append old (logged_entries Current (Ok given)) ∙ ap (λ (b : Bool). length old + length (records_of b Current given.text)) wrote in
       le-ltb (length old) (length new) (omega (arith, same))
 wrote_shown (Err number) old new is =
     let same : length new ≡ length old + 0 = ap length is ∙ length-append old [] in
@@ -188,7 +188,7 @@ pub given_round : (held : Held) (batch : Batch) (outcome : Outcome) (w v : World
 given_round held batch outcome w v given number text kept now both kept_is now_is both_is turn text_is =
     let wrote : nat_lt kept now ≡ wrote_by given =
     ap (λ n. nat_lt n now) kept_is ∙ ap (nat_lt (length (entries_in held.batch))) now_is ∙ wrote_shown given (entries_in held.batch) (entries_in batch) turn.entries in
-    let answer : text ≡ answer_in (left_by w given) (told_of given) = text_is ∙ (λ i. answer_in (turn.left i) (turn.told i)) in
+    let answer : text ≡ answer_in (world_left_after w given) (told_of given) = text_is ∙ (λ i. answer_in (turn.left i) (turn.told i)) in
     let any : both ≡ (held.wrote || wrote_by given) = both_is ∙ ap (λ (b : Bool). held.wrote || b) wrote in
     λ i. record {
       told = map told_in held.answers.items ++ (answer i, wrote i) ∷ [];
@@ -202,7 +202,7 @@ given_round held batch outcome w v given number text kept now both kept_is now_i
 pub asked_round : (functions : Functions) (held : Held) (before : Round) (u v : WorldState) (asked text : List ℕ) → v ≡ u → text ≡ answer_to_question functions u asked → round_in held u ≡ cleared before
     → with_answer text false (round_in held v) ≡ with_asked functions asked before
 asked_round functions held before u v asked text same answer is =
-    (λ i. with_answer (answer i) false (round_in held (same i))) ∙ ap (asked_in functions asked) is
+    (λ i. with_answer (answer i) false (round_in held (same i))) ∙ ap (after_question functions asked) is
 
 pub told_made : (functions : Functions) (held : Held) (first u v : WorldState) (text : List ℕ) → v ≡ u → IsMade functions first (round_in held u) → IsMade functions first (with_answer text false (round_in held v))
 told_made functions held first u v text same made = record { again = made.again ∙ ap Some (sym same); fit = made.fit }

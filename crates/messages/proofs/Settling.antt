@@ -20,7 +20,7 @@ use Rattle.messages.specs.declared.request.Request.{Request}
 use Rattle.messages.specs.declared.round.Round.{Round as Held}
 use Rattle.prevalence_store.specs.calls.Store.{StoreView}
 use Rattle.prevalence_store.specs.meaning.Acceptance.{after}
-use Rattle.messages.specs.Answers.{Round, answered, begun}
+use Rattle.messages.specs.Answers.{Round, answered, first_round}
 use Rattle.messages.specs.Calls.{AnswersRequests, AreLeft, Fail, entries_by, left_after}
 use Rattle.messages.specs.Rounds.{IsMade as IsMadeBy, round_in, told_in}
 use Rattle.messages.specs.Turn.{AreReplied, MakesReplies, front, round_of}
@@ -133,12 +133,12 @@ module _ (functions : Functions) (turn : FirstRequests) (w : WorldState) where
 
 -- requests that are not answered leave the store as it is, or the device failed
 module _ (functions : Functions) {D R : Type 0} (state : D → State) (old new : StoreView D R) (w : WorldState) (last : ℕ) (requests : List Request) where
-  by_device : (cause : Unlogged) (failed : Bool) → is_device_failure cause ≡ failed → AreLeft functions state old new w (answered functions (begun last w) requests) cause
-      → (new ≡ old) ⊎ Fail functions state old new w (answered functions (begun last w) requests)
+  by_device : (cause : Unlogged) (failed : Bool) → is_device_failure cause ≡ failed → AreLeft functions state old new w (answered functions (first_round last w) requests) cause
+      → (new ≡ old) ⊎ Fail functions state old new w (answered functions (first_round last w) requests)
   by_device cause false calm left = inl (left.unchanged calm)
   by_device cause true device left = inr (left.stopped device)
 
   pub unchanged_or_failed : (number : ℕ) → AnswersRequests functions state old new w last requests (Err number)
-      → (new ≡ old) ⊎ Fail functions state old new w (answered functions (begun last w) requests)
+      → (new ≡ old) ⊎ Fail functions state old new w (answered functions (first_round last w) requests)
   unchanged_or_failed number (inl own) = inl own.1
   unchanged_or_failed number (inr unlogged) = by_device unlogged.0 (is_device_failure unlogged.0) refl unlogged.2

@@ -17,15 +17,15 @@ use Rattle.messages.specs.declared.own.Own.TheVariants.{Clearing, Position}
 use Rattle.session_words.specs.declared.mode.Mode.TheVariants.{Current, Rescue}
 use Rattle.prevalence_store.specs.meaning.Acceptance.{Acceptance, accepts, logged, read_in}
 use Rattle.prevalence_store.specs.meaning.Forgetting.{questioned}
-use Rattle.prevalence_store.specs.calls.ExecuteAll.{entries_of, left_by, told_of}
+use Rattle.prevalence_store.specs.calls.ExecuteAll.{logged_entries, world_left_after, told_of}
 use Rattle.messages.specs.Position.{own_left, own_text, position, position_property}
 use Rattle.user_macros.specs.Functions.{Functions}
 
 -- ---- one answer: the line that a session writes, without its newline
 
 -- a value, as it is printed in the world after its form
-abbrev pub value_text : WorldState → Object → List ℕ
-value_text world x = printed world.packages world.current_package x
+abbrev pub printed_value : WorldState → Object → List ℕ
+printed_value world x = printed world.packages world.current_package x
 
 abbrev pub refusal_text : ℕ → List ℕ → List ℕ
 refusal_text number name = codes "! " ++ decimal number ++ 32 ∷ name
@@ -36,12 +36,12 @@ refusal_answer number = refusal_text number (name_of number)
 
 -- a value or a refusal, in the world after it
 abbrev pub answer_in : WorldState → Result Object ℕ → List ℕ
-answer_in world (Ok x) = value_text world x
+answer_in world (Ok x) = printed_value world x
 answer_in world (Err number) = refusal_answer number
 
 -- what evaluation gave for a question: one that would write is refused
 abbrev pub answer_to_asked : Evaluation Object → List ℕ
-answer_to_asked (Ok done) = if done.wrote then refusal_text QUESTION_WRITES (codes "QUESTION-WRITES") else value_text done.state done.value
+answer_to_asked (Ok done) = if done.wrote then refusal_text QUESTION_WRITES (codes "QUESTION-WRITES") else printed_value done.state done.value
 answer_to_asked (Err number) = refusal_answer number
 
 abbrev pub answer_by_reading : Functions → WorldState → List ℕ → Reading → List ℕ
@@ -66,8 +66,8 @@ pub record Round : Type 0 where
   pub wrote : Bool
 
 -- Before the first, after a message of this number. The position is the number of a message too, so no number up to it is carried out.
-abbrev pub begun : ℕ → WorldState → Round
-begun last world = record { told = []; last = max last (unwrap_or (position world) 0); left = world; entries = []; wrote = false }
+abbrev pub first_round : ℕ → WorldState → Round
+first_round last world = record { told = []; last = max last (unwrap_or (position world) 0); left = world; entries = []; wrote = false }
 
 -- one answer more
 abbrev pub with_answer : List ℕ → Bool → Round → Round
@@ -89,10 +89,10 @@ wrote_by (Err number) = false
 -- a message more of this number, by what its text gives
 abbrev pub with_given : ℕ → Result Acceptance ℕ → Round → Round
 with_given number given round = record {
-  told = round.told ++ (answer_in (left_by round.left given) (told_of given), wrote_by given) ∷ [];
+  told = round.told ++ (answer_in (world_left_after round.left given) (told_of given), wrote_by given) ∷ [];
   last = number;
-  left = left_by round.left given;
-  entries = round.entries ++ entries_of Current given;
+  left = world_left_after round.left given;
+  entries = round.entries ++ logged_entries Current given;
   wrote = round.wrote || wrote_by given;
 }
 
@@ -104,11 +104,11 @@ abbrev pub with_message : Functions → ℕ → List ℕ → Round → Round
 with_message functions number text round = given_in functions number text (cleared round)
 
 -- so is a question asked
-abbrev pub asked_in : Functions → List ℕ → Round → Round
-asked_in functions text round = with_answer (answer_to_question functions round.left text) false round
+abbrev pub after_question : Functions → List ℕ → Round → Round
+after_question functions text round = with_answer (answer_to_question functions round.left text) false round
 
 abbrev pub with_asked : Functions → List ℕ → Round → Round
-with_asked functions text round = asked_in functions text (cleared round)
+with_asked functions text round = after_question functions text (cleared round)
 
 -- a message whose number is not over the last one is refused, and does nothing
 abbrev pub with_old : Round → Round

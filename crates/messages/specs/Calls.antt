@@ -22,7 +22,7 @@ use Rattle.prevalence_store.specs.calls.Execute.{DeviceFails, Executes, IsAccept
 use Rattle.prevalence_store.specs.calls.ExecuteAll.{AllOrNone, LogsAll}
 use Rattle.prevalence_store.specs.calls.Store.{StoreView}
 use Rattle.prevalence_store.specs.meaning.Acceptance.{accepts, after, read_in}
-use Rattle.messages.specs.Answers.{Round, answered, begun, each_request}
+use Rattle.messages.specs.Answers.{Round, answered, first_round, each_request}
 use Rattle.messages.specs.Position.{is_hidden, own_form, own_text, position, position_property}
 use Rattle.messages.specs.Rounds.{told_in}
 use Rattle.prevalence_store.specs.steps.Failure.{failure_number, is_device_failure}
@@ -103,10 +103,10 @@ module _ (functions : Functions) {D R : Type 0} (state : D → State) (old new :
 module _ (functions : Functions) {D R : Type 0} (state : D → State) (old new : StoreView D R) (world : WorldState) where
   -- What `answer_requests` answers, each answer with its cause: a form of the store's own is refused, or what they need is not logged.
   abbrev pub AnswersRequests : ℕ → List Request → Result Replies ℕ → Type 0
-  AnswersRequests last requests (Ok replies) = AreAnswered functions state old new world (answered functions (begun last world) requests) replies
+  AnswersRequests last requests (Ok replies) = AreAnswered functions state old new world (answered functions (first_round last world) requests) replies
   AnswersRequests last requests (Err number) =
-      (RefusesOwn functions (begun last world) requests number × (new ≡ old))
-      ⊎ ((cause : Unlogged) × (number ≡ failure_number cause) × AreLeft functions state old new world (answered functions (begun last world) requests) cause)
+      (RefusesOwn functions (first_round last world) requests number × (new ≡ old))
+      ⊎ ((cause : Unlogged) × (number ≡ failure_number cause) × AreLeft functions state old new world (answered functions (first_round last world) requests) cause)
 
   -- the form that sets the position to 0 was accepted, and logged if it wrote
   abbrev pub SetsFirst : Type 0

@@ -6,7 +6,7 @@ use Rattle.prevalence_store.specs.calls.Store.{StoreView}
 use Rattle.messages.specs.declared.request.Replies.{Replies}
 use Rattle.messages.specs.declared.request.Request.{Request}
 use Rattle.messages.specs.declared.request.TheConstants.{ANSWER_BYTES}
-use Rattle.messages.specs.Answers.{Round, begun, each_request, one_request}
+use Rattle.messages.specs.Answers.{Round, first_round, each_request, one_request}
 use Rattle.messages.specs.Calls.{AnswersRequests}
 use Rattle.user_macros.specs.Functions.{Functions}
 
@@ -22,10 +22,10 @@ module _ (functions : Functions) {D R : Type 0} (state : D → State) (old new :
     pub rest : List Request
     pub parts : requests ≡ front ++ rest
     -- There is a rest only after answers of so many bytes: so the first request, if there is one, is among those that are answered.
-    pub enough : rest ≢ [] → ANSWER_BYTES ≤ answer_length (each_request functions (begun last world) front)
+    pub enough : rest ≢ [] → ANSWER_BYTES ≤ answer_length (each_request functions (first_round last world) front)
     -- and before each of them the answers had fewer
     pub needed : (before : List Request) (request : Request) (later : List Request) → front ≡ before ++ request ∷ later
-        → answer_length (each_request functions (begun last world) before) < ANSWER_BYTES
+        → answer_length (each_request functions (first_round last world) before) < ANSWER_BYTES
     pub answers : AnswersRequests functions state old new world last front result
     -- each of them has an answer
     pub count : IfOk result (λ replies. length replies.answers.items ≡ length front)

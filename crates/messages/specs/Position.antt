@@ -19,12 +19,12 @@ abbrev pub position_property : WorldState → Option Object
 position_property world = property world position_symbol position_symbol
 
 -- the number of 64 bits that an object is
-abbrev pub number_in : Object → Option ℕ
-number_in (integer (pos n)) = if nat_lt n (2 ^ 64) then Some n else None
-number_in _ = None
+abbrev pub number_of_object : Object → Option ℕ
+number_of_object (integer (pos n)) = if nat_lt n (2 ^ 64) then Some n else None
+number_of_object _ = None
 
 abbrev pub position : WorldState → Option ℕ
-position world = option_and_then number_in (position_property world)
+position world = option_and_then number_of_object (position_property world)
 
 -- whether a name in COMMON-LISP-USER stands for a symbol of another home, by what it stands for
 abbrev pub is_of_another : Result Resolution PackageError → Bool

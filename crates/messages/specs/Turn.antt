@@ -5,7 +5,7 @@ use Rattle.plist_state.specs.State.{WorldState}
 use Rattle.messages.specs.declared.first_requests.FirstRequests.{FirstRequests}
 use Rattle.messages.specs.declared.request.Replies.{Replies}
 use Rattle.messages.specs.declared.request.Request.{Request}
-use Rattle.messages.specs.Answers.{Round, answered, begun}
+use Rattle.messages.specs.Answers.{Round, answered, first_round}
 use Rattle.messages.specs.Calls.{RefusesOwn, entries_by, left_after}
 use Rattle.messages.specs.Fronts.{first_of}
 use Rattle.messages.specs.Rounds.{IsMade, told_in}
@@ -22,12 +22,12 @@ pub record AreReplied (functions : Functions) (world : WorldState) (round : Roun
 module _ (functions : Functions) (turn : FirstRequests) (world : WorldState) where
   -- those that are to be answered together
   abbrev pub front : List Request
-  front = first_of functions turn.most (begun turn.last world) turn.requests.now
+  front = first_of functions turn.most (first_round turn.last world) turn.requests.now
 
   abbrev pub round_of : Round
-  round_of = answered functions (begun turn.last world) front
+  round_of = answered functions (first_round turn.last world) front
 
   -- what is made of them: replies, or the number with which a form of the store's own is refused
   abbrev pub MakesReplies : (left : WorldState) → List LogRecord → Result Replies ℕ → Type 0
   MakesReplies left records (Ok replies) = AreReplied functions world round_of left records replies
-  MakesReplies left records (Err number) = RefusesOwn functions (begun turn.last world) front number × (left ≡ world) × (records ≡ [])
+  MakesReplies left records (Err number) = RefusesOwn functions (first_round turn.last world) front number × (left ≡ world) × (records ≡ [])

@@ -3,7 +3,7 @@ ghost use Rattle.std.specs.Prelude.{◌≡◌, ◌≢◌, ◌<◌, ◌≤◌, []
 ghost use Rattle.std.specs.Option.{option_and_then};
 ghost use Rattle.lisp_object.specs.declared.refusal.TheConstants.{DEVICE as DEVICE_FAULT, REOPEN as NOT_OPEN};
 ghost use Rattle.plist_state.specs.State.{WorldState};
-ghost use Rattle.messages.specs.Answers.{begun};
+ghost use Rattle.messages.specs.Answers.{first_round};
 ghost use Rattle.messages.specs.Calls.{AnswersRequests, BeginsMessages};
 ghost use Rattle.messages.specs.Fronts.{AnswersFirst, first_of};
 ghost use Rattle.messages.specs.Position.{is_hidden, position as position_of, position_property};
@@ -134,7 +134,7 @@ fn answer_up_to<D: Disk, R: MacroFunctions>(
     ensures reopen { store.old.world ≡ None → (result ≡ Err NOT_OPEN) × (store.new ≡ store.old) }
     ensures answer { (world : WorldState) → store.old.world ≡ Some world
         → AnswersRequests R.Meaning.functions D.state store.old store.new world last
-        (first_of R.Meaning.functions most (begun last world) requests.now) result }
+        (first_of R.Meaning.functions most (first_round last world) requests.now) result }
     ensures unchanged { IfErr result (λ number. number ≢ DEVICE_FAULT → store.new ≡ store.old) }
     ensures honest { (D.state store.new.disk).honest ≡ (D.state store.old.disk).honest }
     ensures macros { store.new.macros ≡ store.old.macros }

@@ -2,7 +2,7 @@
 ghost use Rattle.std.specs.Prelude.{◌≡◌, IfOk, IfSome, is_some, true};
 ghost use Rattle.std.specs.Option.{option_map};
 ghost use Rattle.lisp_object.specs.Datum.{is_proper, object_of};
-ghost use Rattle.messages.specs.Position.{is_hidden, number_in, position, position_property};
+ghost use Rattle.messages.specs.Position.{is_hidden, number_of_object, position, position_property};
 
 use lisp_object::Datum;
 use package_table::Resolved;
@@ -76,7 +76,7 @@ impl PositionPlace {
 // The number of 64 bits that a datum is.
 fn number_of(datum: &Datum) -> Option<u64>
     requires { is_proper datum.now ≡ true }
-    ensures { result ≡ number_in (object_of datum.now) }
+    ensures { result ≡ number_of_object (object_of datum.now) }
 {
     match datum {
         Datum::Integer(number) => match u64::try_from(*number) {

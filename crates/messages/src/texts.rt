@@ -3,7 +3,7 @@ ghost use Rattle.std.specs.Prelude.{◌≡◌, true, IfOk};
 ghost use Rattle.lisp_object.specs.Datum.{is_proper, object_of};
 ghost use Rattle.prevalence_store.specs.calls.Execute.{IsProperOutcome};
 ghost use Rattle.prevalence_store.specs.calls.ExecuteAll.{told_by};
-ghost use Rattle.messages.specs.Answers.{answer_in, refusal_answer, refusal_text, value_text};
+ghost use Rattle.messages.specs.Answers.{answer_in, refusal_answer, refusal_text, printed_value};
 
 use canon_printer::print;
 use lisp_object::Datum;
@@ -19,7 +19,7 @@ pub(crate) fn text_of_value(
     value: &Datum,
 ) -> Result<Vec<u8>, AllocError>
     requires { is_proper value.now ≡ true }
-    ensures { IfOk result (λ text. text.items ≡ value_text world.now.0 (object_of value.now)) }
+    ensures { IfOk result (λ text. text.items ≡ printed_value world.now.0 (object_of value.now)) }
 {
     world.soundness();
     print(alloc, value, world.packages(), world.current_package())

@@ -9,7 +9,7 @@ use Rattle.std.specs.List.{list_any}
 use Rattle.std.proofs.lemmas.List.{length_push, take_all, take-take, take-append-le}
 use Rattle.package_sets.specs.declared.sizes.Sizes.{Sizes}
 use Rattle.package_sets.specs.Kept.{Kept, Name, cut, sizes_of, pair_at, AreUpTo}
-use Rattle.package_sets.specs.Changes.{with_name, number_in, with_package, with_symbol, with_import, with_external, with_use}
+use Rattle.package_sets.specs.Changes.{with_name, number_among, with_package, with_symbol, with_import, with_external, with_use}
 
 pub cut_itself : (k : Kept) → length k.imported ≡ length k.imports → cut (sizes_of k) k ≡ k
 cut_itself k as_many = λ i. record {
@@ -57,7 +57,7 @@ module _ (n : Sizes) (k : Kept) (less : AreUpTo n (sizes_of k)) where
   pub cut_symbol : (h : ℕ) (name : Name) → cut n (with_symbol k h name) ≡ cut n k
   cut_symbol h name = λ i. record (cut n k) {
     names = named_back name i;
-    symbols = take-append-le n.symbols k.symbols ((h, number_in k.names name) ∷ []) less.symbols i;
+    symbols = take-append-le n.symbols k.symbols ((h, number_among k.names name) ∷ []) less.symbols i;
   }
 
   pub cut_import : length k.imported ≡ length k.imports → (p s : ℕ) → cut n (with_import k p s) ≡ cut n k
@@ -86,7 +86,7 @@ module _ (n : Sizes) (k : Kept) (less : AreUpTo n (sizes_of k)) where
   up_to_symbol h name = record {
     names = by (list_any (bytes_eq name) k.names);
     packages = less.packages;
-    symbols = omega (arith, less.symbols, length_push k.symbols (h, number_in k.names name));
+    symbols = omega (arith, less.symbols, length_push k.symbols (h, number_among k.names name));
     imports = less.imports;
     externals = less.externals;
     uses = less.uses;

@@ -8,8 +8,8 @@ use Rattle.std.proofs.lemmas.List.{length_push, get_or_append_left, get_or_push,
 use Rattle.std.proofs.Math.Seq.{take-append_seam}
 use Rattle.std.proofs.lemmas.Map.Keys.{IsDistinct-push}
 use Rattle.package_sets.specs.Kept.{Kept, Name, nothing, pair_at, pair_eq}
-use Rattle.package_sets.specs.Good.{AreDistinctNames, AreDistinctPairs, AreWithin, IsGood, IsNamed}
-use Rattle.package_sets.specs.Changes.{with_name, number_in, symbol_named, with_package, with_symbol, with_import, with_external, with_use}
+use Rattle.package_sets.specs.Good.{AreDistinctNames, AreDistinctPairs, AreWithin, IsGood, IsImportedByName}
+use Rattle.package_sets.specs.Changes.{with_name, number_among, symbol_named, with_package, with_symbol, with_import, with_external, with_use}
 use Rattle.package_sets.proofs.Places.{none_any, any_none, any_some, any_is_within, none_is_length, all_at, all_push, all_weaker}
 
 pub pair_equiv : IsEquivalence pair_eq
@@ -55,7 +55,7 @@ pub record Named (ns : List Name) (n : Name) : Type 0 where
   pub distinct : AreDistinctNames (with_name ns n)
   pub longer : length ns ≤ length (with_name ns n)
   pub by_one : length (with_name ns n) ≤ length ns + 1
-  pub there : number_in ns n < length (with_name ns n)
+  pub there : number_among ns n < length (with_name ns n)
   pub back : take (length ns) (with_name ns n) ≡ ns
 
 pub named : (ns : List Name) (n : Name) → AreDistinctNames ns → Named ns n
@@ -76,7 +76,7 @@ named ns n distinct = by (list_any (bytes_eq n) ns) refl
     by false e =
         let same : ns ++ n ∷ [] ≡ with_name ns n = ap (λ b. cond b ns (ns ++ n ∷ [])) (sym e) in
         let size : length ns + 1 ≡ length (with_name ns n) = sym (length_push ns n) ∙ ap length same in
-        let last : number_in ns n ≡ length ns = none_is_length (bytes_eq n) ns e in
+        let last : number_among ns n ≡ length ns = none_is_length (bytes_eq n) ns e in
         record {
           distinct = subst AreDistinctNames same (IsDistinct-push nat_list_eq_equiv ns n distinct e);
           longer = omega (arith, size);
@@ -118,10 +118,10 @@ module _ (k : Kept) (good : IsGood k) where
       }
 
   -- there is no such symbol by the number that its name will have
-  pub absent_symbol : (h : ℕ) (n : Name) → symbol_named k h n ≡ None → position (pair_eq (h, number_in k.names n)) k.symbols ≡ None
+  pub absent_symbol : (h : ℕ) (n : Name) → symbol_named k h n ≡ None → position (pair_eq (h, number_among k.names n)) k.symbols ≡ None
   absent_symbol h n none = by (list_any (bytes_eq n) k.names) refl
     where
-      by : (b : Bool) → list_any (bytes_eq n) k.names ≡ b → position (pair_eq (h, number_in k.names n)) k.symbols ≡ None
+      by : (b : Bool) → list_any (bytes_eq n) k.names ≡ b → position (pair_eq (h, number_among k.names n)) k.symbols ≡ None
       by true e = sym (ap (option_and_then (λ (i : ℕ). position (pair_eq (h, i)) k.symbols)) (any_some (bytes_eq n) k.names e)) ∙ none
       by false e =
           ap (λ (i : ℕ). position (pair_eq (h, i)) k.symbols) (none_is_length (bytes_eq n) k.names e)
@@ -130,7 +130,7 @@ module _ (k : Kept) (good : IsGood k) where
   pub good_symbol : (h : ℕ) (n : Name) → h < length k.packages → symbol_named k h n ≡ None → IsGood (with_symbol k h n)
   good_symbol h n inside none =
       let name = named k.names n good.distinct.names in
-      let s : ℕ × ℕ = (h, number_in k.names n) in
+      let s : ℕ × ℕ = (h, number_among k.names n) in
       let size = length_push k.symbols s in
       let packages : length k.packages ≤ length k.packages = omega arith in
       let names : length k.names ≤ length (with_name k.names n) = name.longer in
@@ -184,7 +184,7 @@ module _ (k : Kept) (good : IsGood k) where
         few_names = good.few_names;
       }
     where
-      named_at : (i : ℕ) → i < length (k.imports ++ (p, (pair_at k.symbols s).1) ∷ []) → (b : Bool) → nat_lt i (length k.imports) ≡ b → IsNamed (with_import k p s) i
+      named_at : (i : ℕ) → i < length (k.imports ++ (p, (pair_at k.symbols s).1) ∷ []) → (b : Bool) → nat_lt i (length k.imports) ≡ b → IsImportedByName (with_import k p s) i
       named_at i within true e =
           let less : i < length k.imports = grind arith in
           ap (λ (j : ℕ). (pair_at k.symbols j).1) (get_or_append_left k.imported (s ∷ []) 0 i (omega (arith, less, good.as_many)))

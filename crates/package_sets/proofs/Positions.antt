@@ -5,7 +5,7 @@ use Rattle.std.proofs.Math.Seq.{take-append_seam}
 use Rattle.std.proofs.lemmas.List.{length-map, length_push, map-set, get_or-map, get_or-set_same, get_or-set_other, get_or_past}
 use Rattle.std.proofs.lemmas.Bool.Decides.{Decides-eqb}
 use Rattle.package_sets.specs.Kept.{positions_from, positions_of}
-use Rattle.package_sets.specs.Groups.{group_at, IsGrouped, IsNoted}
+use Rattle.package_sets.specs.Groups.{group_at, IsGrouped, IsInGroup}
 
 pub take_last : {X : Type 0} (xs : List X) (x : X) → take (length (xs ++ x ∷ []) - 1) (xs ++ x ∷ []) ≡ xs
 take_last xs x = ap (λ n. take (n - 1) (xs ++ x ∷ [])) (length_push xs x) ∙ ap (λ n. take n (xs ++ x ∷ [])) (less (length xs)) ∙ take-append_seam xs (x ∷ [])
@@ -76,7 +76,7 @@ group_there gs f some =
 
 -- after a pair is added
 pub grouped_push : (gs hs : List (Vec ℕ)) (ps : List (ℕ × ℕ)) (p : ℕ × ℕ) → IsGrouped gs ps
-    → IsNoted p.0 (length ps) gs hs → IsGrouped hs (ps ++ p ∷ [])
+    → IsInGroup p.0 (length ps) gs hs → IsGrouped hs (ps ++ p ∷ [])
 grouped_push gs hs ps p grouped noted f =
     noted f ∙ ap (λ (l : List ℕ). cond (nat_eq p.0 f) (l ++ length ps ∷ []) l) (grouped f) ∙ sym (positions_push f ps p)
 

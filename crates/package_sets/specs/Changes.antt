@@ -8,8 +8,8 @@ abbrev pub with_name : List Name → Name → List Name
 with_name ns n = if list_any (bytes_eq n) ns then ns else ns ++ n ∷ []
 
 -- the number that n has then
-abbrev pub number_in : List Name → Name → ℕ
-number_in ns n = position_or_len (bytes_eq n) ns
+abbrev pub number_among : List Name → Name → ℕ
+number_among ns n = position_or_len (bytes_eq n) ns
 
 -- the number of the symbol of the home h with the name n, if there is one
 abbrev pub symbol_named : Kept → ℕ → Name → Option ℕ
@@ -24,7 +24,7 @@ with_package k n = record k { packages = k.packages ++ n ∷ [] }
 abbrev pub with_symbol : Kept → ℕ → Name → Kept
 with_symbol k h n = record k {
   names = with_name k.names n;
-  symbols = k.symbols ++ (h, number_in k.names n) ∷ [];
+  symbols = k.symbols ++ (h, number_among k.names n) ∷ [];
 }
 
 -- where p imports the symbol of number s

@@ -23,7 +23,7 @@ pub record HasDistinct (k : Kept) : Type 0 where
   pub uses : AreDistinctPairs k.uses
 
 -- each number is that of something that is kept
-pub record IsWithin (k : Kept) : Type 0 where
+pub record HasNumbersWithin (k : Kept) : Type 0 where
   pub symbols : AreWithin (length k.packages) (length k.names) k.symbols
   pub imports : AreWithin (length k.packages) (length k.names) k.imports
   pub imported : AllByRecursion (λ s. s < length k.symbols) k.imported
@@ -31,15 +31,15 @@ pub record IsWithin (k : Kept) : Type 0 where
   pub uses : AreWithin (length k.packages) (length k.packages) k.uses
 
 -- a symbol that is imported has the name by which it is
-abbrev pub IsNamed : Kept → ℕ → Type 0
-IsNamed k i = (pair_at k.symbols (get_or k.imported i 0)).1 ≡ (pair_at k.imports i).1
+abbrev pub IsImportedByName : Kept → ℕ → Type 0
+IsImportedByName k i = (pair_at k.symbols (get_or k.imported i 0)).1 ≡ (pair_at k.imports i).1
 
 -- Things are distinct and their numbers are within; there is a symbol for each import, with the same name; no package uses
 -- itself; and there are no more names than symbols.
 pub record IsGood (k : Kept) : Type 0 where
   pub distinct : HasDistinct k
-  pub within : IsWithin k
+  pub within : HasNumbersWithin k
   pub as_many : length k.imported ≡ length k.imports
-  pub named : (i : ℕ) → i < length k.imports → IsNamed k i
+  pub named : (i : ℕ) → i < length k.imports → IsImportedByName k i
   pub apart : AllByRecursion (λ u. u.0 ≡ u.1 → ⊥) k.uses
   pub few_names : length k.names ≤ length k.symbols

@@ -19,8 +19,8 @@ abbrev pub HaveSameGroups : List (Vec ℕ) → List (Vec ℕ) → Type 0
 HaveSameGroups gs hs = (f : ℕ) → group_at hs f ≡ group_at gs f
 
 -- the position i is last in the group of n, and the other groups are the same
-abbrev pub IsNoted : ℕ → ℕ → List (Vec ℕ) → List (Vec ℕ) → Type 0
-IsNoted n i gs hs =
+abbrev pub IsInGroup : ℕ → ℕ → List (Vec ℕ) → List (Vec ℕ) → Type 0
+IsInGroup n i gs hs =
     (f : ℕ) → group_at hs f ≡ (if nat_eq n f then group_at gs f ++ i ∷ [] else group_at gs f)
 
 abbrev pub IsGrouped : List (Vec ℕ) → List (ℕ × ℕ) → Type 0

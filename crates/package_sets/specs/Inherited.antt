@@ -12,7 +12,7 @@ pub record IsInherited (k : Kept) (p j x : ℕ) : Type 0 where
   pub used : is_some (position (pair_eq (p, (pair_at k.externals x).0)) k.uses) ≡ true
 
 -- what a search says of them
-abbrev pub Tells : Kept → ℕ → ℕ → Inherited → Type 0
-Tells k p j (External x) = IsInherited k p j x
-Tells k p j Nothing = (x : ℕ) → IsInherited k p j x → ⊥
-Tells k p j Unknown = Unit {0}
+abbrev pub TellsInherited : Kept → ℕ → ℕ → Inherited → Type 0
+TellsInherited k p j (External x) = IsInherited k p j x
+TellsInherited k p j Nothing = (x : ℕ) → IsInherited k p j x → ⊥
+TellsInherited k p j Unknown = Unit {0}

@@ -17,6 +17,6 @@ kept_of a = record {
 }
 
 -- what is kept is good, and what is external is found by its name
-pub record IsKept (a : Inside) : Type 0 where
+pub record HasKeptSets (a : Inside) : Type 0 where
   pub good : IsGood (kept_of a)
   pub chained : AreChained (external_name a.symbols a.externals) (length a.externals) a.chains

@@ -2,7 +2,7 @@
 ghost use Rattle.std.specs.Prelude.{◌≡◌, ◌<◌, length, get_or, position, bytes_eq, is_some};
 ghost use Rattle.package_sets.specs.Kept.{import_of, name_at, pair_at, pair_eq, positions_of};
 ghost use Rattle.package_sets.specs.Groups.{pair_of};
-ghost use Rattle.package_sets.specs.Inherited.{Tells};
+ghost use Rattle.package_sets.specs.Inherited.{TellsInherited};
 
 use crate::{PackageSets, Pair};
 
@@ -177,7 +177,7 @@ impl PackageSets {
     /// An external symbol of this name in a package that `owner` uses. It looks at what is external by this name, at
     /// no more places than `owner` uses packages.
     pub fn find_inherited(&self, owner: u32, name: u32) -> Inherited
-        ensures { Tells self.now owner name result }
+        ensures { TellsInherited self.now owner name result }
     {
         let mut last = self.chains.last(name);
         for _ in self.uses.of(owner) {

@@ -2,7 +2,7 @@
 ghost use Rattle.std.specs.Prelude.{◌≡◌, ◌<◌, ◌++◌, ◌∷◌, [], length, take, position, bytes_eq, None, IfOk, IfSome, OnOk, OnErr};
 ghost use Rattle.package_sets.specs.Kept.{name_at};
 ghost use Rattle.package_sets.specs.Good.{AreDistinctNames};
-ghost use Rattle.package_sets.specs.Changes.{number_in, with_name};
+ghost use Rattle.package_sets.specs.Changes.{number_among, with_name};
 
 use crate::Seed;
 use crate::hints::Hints;
@@ -176,7 +176,7 @@ impl Names {
     /// The number of a name, which is added if it is not there. After a failure nothing has changed.
     pub fn intern(&mut self, alloc: Global, name: &[u8]) -> Result<u32, AllocError>
         ensures ok { OnOk result (self.new ≡ with_name self.old name.now) }
-        ensures number { IfOk result (λ n. n ≡ number_in self.old name.now) }
+        ensures number { IfOk result (λ n. n ≡ number_among self.old name.now) }
         ensures err { OnErr result (self.new ≡ self.old) }
     {
         if self.set.len() >= u32::MAX as usize {

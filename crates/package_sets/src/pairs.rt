@@ -2,7 +2,7 @@
 ghost use Rattle.std.specs.Prelude.{◌≡◌, ◌-◌, ◌<◌, ◌++◌, ◌∷◌, [], length, take, position, None, IfOk, OnOk, OnErr};
 ghost use Rattle.package_sets.specs.Kept.{pair_at, pair_eq, positions_of};
 ghost use Rattle.package_sets.specs.Good.{AreDistinctPairs};
-ghost use Rattle.package_sets.specs.Groups.{pair_of, HaveSameGroups, IsNoted};
+ghost use Rattle.package_sets.specs.Groups.{pair_of, HaveSameGroups, IsInGroup};
 
 use crate::{Pair, Seed};
 use indexmap::IndexSet;
@@ -40,7 +40,7 @@ fn note(
     first: usize,
     position: u32,
 ) -> Result<(), AllocError>
-    ensures ok { OnOk result (IsNoted first position groups.old.items groups.new.items) }
+    ensures ok { OnOk result (IsInGroup first position groups.old.items groups.new.items) }
     ensures err { OnErr result (HaveSameGroups groups.old.items groups.new.items) }
 {
     while groups.len() <= first {

@@ -48,11 +48,11 @@ impl Model for PackageSets {
 
     ghost coded = { kept_code };
 
-    ghost use Rattle.package_sets.specs.Shown.{kept_of, IsKept};
+    ghost use Rattle.package_sets.specs.Shown.{kept_of, HasKeptSets};
 
     ghost view = { kept_of };
 
-    ghost invariant = { IsKept };
+    ghost invariant = { HasKeptSets };
 }
 
 impl PackageSets {

@@ -11,7 +11,7 @@ use Rattle.package_sets.specs.Kept.{Kept, import_of, name_at, pair_at, pair_eq}
 use Rattle.package_sets.specs.Good.{IsGood}
 use Rattle.package_sets.specs.Changes.{with_external, with_import, with_package, with_use}
 use Rattle.package_table.specs.Table.{Name, Present, Package, empty_package}
-use Rattle.package_table.specs.Numbers.{with_numbered, with_use as with_used_number, with_package_made}
+use Rattle.package_table.specs.Numbers.{with_numbered, with_used_package as with_used_number, with_package_made}
 use Rattle.package_table.specs.Meaning.{map_by, number_in, is_shown_in, present_in, package_in, numbers_in, table_of, all_numbers_of, numbered_of}
 use Rattle.package_table.proofs.Names.{none_some}
 use Rattle.package_table.proofs.Mapped.{position_push, named, got_at, put, more, more_put, none_by}

@@ -12,7 +12,7 @@ use Rattle.std.specs.List.{list_any, IsDistinct}
 use Rattle.package_sets.specs.declared.sizes.Sizes.{Sizes}
 use Rattle.package_sets.specs.Kept.{Kept, cut, import_of, name_at, pair_at, pair_eq, sizes_of, AreUpTo}
 use Rattle.package_sets.specs.Good.{IsGood}
-use Rattle.package_sets.specs.Changes.{with_external, with_import, with_name, with_package, with_symbol, with_use, symbol_named, number_in as name_number}
+use Rattle.package_sets.specs.Changes.{with_external, with_import, with_name, with_package, with_symbol, with_use, symbol_named, number_among as name_number}
 use Rattle.package_table.specs.Table.{Name, common_lisp, keyword, is_locked}
 use Rattle.package_table.specs.Numbers.{Numbered, with_numbered}
 use Rattle.package_table.specs.Meaning.{number_in, is_shown_in, numbered_of}

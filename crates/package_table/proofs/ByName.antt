@@ -13,7 +13,7 @@ use Rattle.package_sets.specs.Good.{IsGood}
 use Rattle.package_table.specs.Table.{Name, Present, Package, entry_at, IsPackage, IsPresent}
 use Rattle.package_table.specs.Lookup.{external_home, is_present, is_symbol, is_used}
 use Rattle.package_table.specs.Numbers.{number_at, number_of}
-use Rattle.package_table.specs.Numbering.{IsNumbered, Keeps}
+use Rattle.package_table.specs.Numbering.{IsNumbered, KeepsNumbers}
 use Rattle.package_table.specs.Meaning.{number_in, present_in, package_in, home_in, symbol_name, numbered_of}
 use Rattle.package_table.specs.Adds.{Adds}
 use Rattle.package_table.proofs.Names.{same_some, none_some}
@@ -218,7 +218,7 @@ module _ (k : Kept) (good : IsGood k) where
       → (◌≡◌ {A = Option (Name × Name)} None (Some (h, n))) ↔ (number_of (numbered_of k) h n ≡ Some i)
   symbol_missing i past h n = (λ none. absurd (none_some (h, n) none), λ is. absurd (let less = number_fits h n i is in omega (arith, less, past)))
 
-pub keeps_of : (k u : Kept) → IsGood k → IsGood u → Adds k u → Keeps (numbered_of k) (numbered_of u)
+pub keeps_of : (k u : Kept) → IsGood k → IsGood u → Adds k u → KeepsNumbers (numbered_of k) (numbered_of u)
 keeps_of k u good good_then adds h n present =
     let at = present_number k good h n h present in
     number_there u good_then h at.p (adds.packages h at.p at.owner) n at.j (adds.names n at.j at.name)

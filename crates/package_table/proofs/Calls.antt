@@ -14,10 +14,10 @@ use Rattle.package_table.specs.Table.{Name, Table, IsSound, symbol_count}
 use Rattle.package_table.specs.Changes.{after_intern, Gives, TellsChange, Yields}
 use Rattle.package_table.specs.Growth.{Grows, IsSameBut, Tells}
 use Rattle.package_table.specs.Numbers.{Tables, numbered}
-use Rattle.package_table.specs.Numbering.{Keeps}
+use Rattle.package_table.specs.Numbering.{KeepsNumbers}
 use Rattle.package_table.specs.Meaning.{numbered_of}
 use Rattle.package_table.specs.Adds.{Adds, AddsNoSymbol}
-use Rattle.package_table.specs.Shown.{IsKept, IsMark, IsState, tables_at, tables_of}
+use Rattle.package_table.specs.Shown.{HasKeptTable, IsMark, IsState, tables_at, tables_of}
 use Rattle.package_table.proofs.Growing.{Kept as Keeps_sound}
 use Rattle.package_table.proofs.KeptChanges.{stays_after, stays_but, told_after}
 use Rattle.package_table.proofs.Adding.{adds_same}
@@ -53,13 +53,13 @@ same_tables k u (Ok x) unchanged = unchanged
 same_tables k u (Err e) unchanged = ap (λ (k : Kept). (numbered_of k).0) unchanged
 
 pub record Left (ts : Tables) (a b : Inside) : Type 0 where
-  pub kept : IsKept b
+  pub kept : HasKeptTable b
   pub grows : Grows ts.0 (numbered_of b.sets).0
-  pub numbers : Keeps (numbered ts) (numbered_of b.sets)
+  pub numbers : KeepsNumbers (numbered ts) (numbered_of b.sets)
   pub marked : tables_at a.marks.items b.sets ≡ ts.1.marked
 
 -- what is left of packages that are sound and counted
-left_by : (a : Inside) (ts : Tables) (u : Kept) → tables_of a ≡ ts → IsKept a → Adds a.sets u → IsSound (numbered_of u).0 → Grows (numbered_of a.sets).0 (numbered_of u).0
+left_by : (a : Inside) (ts : Tables) (u : Kept) → tables_of a ≡ ts → HasKeptTable a → Adds a.sets u → IsSound (numbered_of u).0 → Grows (numbered_of a.sets).0 (numbered_of u).0
     → length u.symbols ≡ symbol_count (numbered_of u).0 → Left ts a (record a { sets = u })
 left_by a ts u seen before adds sound grows counted = record {
   kept = record {
@@ -68,12 +68,12 @@ left_by a ts u seen before adds sound grows counted = record {
     rising = before.rising;
   };
   grows = subst (λ (ts : Tables). Grows ts.0 (numbered_of u).0) seen grows;
-  numbers = subst (λ (ts : Tables). Keeps (numbered ts) (numbered_of u)) seen (keeps_of a.sets u before.state.good adds.good adds);
+  numbers = subst (λ (ts : Tables). KeepsNumbers (numbered ts) (numbered_of u)) seen (keeps_of a.sets u before.state.good adds.good adds);
   marked = same_marked a.sets u adds a.marks.items before.marked ∙ ap (λ (ts : Tables). ts.1.marked) seen;
 }
 
 pub left_after : {A : Type 0} (a : Inside) (ts : Tables) (u : Kept) (changes : Bool) (r : Result A PackageError) (said : Result Table PackageError)
-    → (said ≡ Ok (numbered_of u).0 → Keeps_sound (numbered_of a.sets).0 (numbered_of u).0 changes × (symbol_count (numbered_of u).0 ≡ symbol_count (numbered_of a.sets).0)) → tables_of a ≡ ts → IsKept a
+    → (said ≡ Ok (numbered_of u).0 → Keeps_sound (numbered_of a.sets).0 (numbered_of u).0 changes × (symbol_count (numbered_of u).0 ≡ symbol_count (numbered_of a.sets).0)) → tables_of a ≡ ts → HasKeptTable a
     → Gives (λ _. (numbered_of u).0) r said → IfErr r (λ _. u ≡ a.sets) → IfOk r (λ _. AddsNoSymbol a.sets u) → Left ts a (record a { sets = u })
 left_after a ts u changes r said kept seen before gives unchanged adds =
     let stays = stays_after (numbered_of a.sets).0 (numbered_of u).0 changes r said before.state.sound gives (same_tables a.sets u r unchanged) kept in
@@ -84,7 +84,7 @@ pub record LeftBut (ts : Tables) (a b : Inside) (p n : Name) : Type 0 where
   pub left : Left ts a b
   pub others : IsSameBut ts.0 (numbered_of b.sets).0 p n
 
-pub left_interned : {A : Type 0} (a : Inside) (ts : Tables) (u : Kept) (p n : Name) (home : A → Name) (r : Result A PackageError) → All (λ b. b < 128) n → tables_of a ≡ ts → IsKept a
+pub left_interned : {A : Type 0} (a : Inside) (ts : Tables) (u : Kept) (p n : Name) (home : A → Name) (r : Result A PackageError) → All (λ b. b < 128) n → tables_of a ≡ ts → HasKeptTable a
     → Gives (λ x. (home x, (numbered_of u).0)) r (after_intern (numbered_of a.sets).0 p n) → IfErr r (λ _. u ≡ a.sets) → IfOk r (λ _. Adds a.sets u) → length u.symbols ≡ symbol_count (numbered_of u).0
     → LeftBut ts a (record a { sets = u }) p n
 left_interned a ts u p n home r ascii seen before gives unchanged adds counted =

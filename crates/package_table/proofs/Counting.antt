@@ -12,7 +12,7 @@ use Rattle.std.specs.Ordering.{is_eq, is_lt}
 use Rattle.std.specs.FinMap as finite
 use Rattle.std.specs.FinMap.Entries.{find, put, is_sorted, below_all, by_order}
 use Rattle.std.proofs.lemmas.List.{nil_from_length}
-use Rattle.package_table.specs.Table.{Name, name_cmp, Present, Package, Table, entry_at, IsPackage, with_package, with_entry, with_used, empty_package, symbol_count, own_count, with_new_package}
+use Rattle.package_table.specs.Table.{Name, name_cmp, Present, Package, Table, entry_at, IsPackage, with_changed_package, with_entry, with_used, empty_package, symbol_count, own_count, with_new_package}
 use Rattle.package_table.proofs.Names.{name_total, name_exact}
 use Rattle.package_table.proofs.Frames.{equal_itself, not_equal, package_there}
 
@@ -77,12 +77,12 @@ own_as_sum : (p : Name) (es : List (Name × Present)) → length (filter (λ s. 
 own_as_sum p es = length-filter (λ (s : Name × Present). bytes_eq s.1.home p) es
 
 -- after a change of a package that is there
-symbols-change : (t : Table) (p : Name) (f : Package → Package) (k : Package) → finite.get t p ≡ Some k → symbol_count (with_package t p f) + own_count p k ≡ symbol_count t + own_count p (f k)
+symbols-change : (t : Table) (p : Name) (f : Package → Package) (k : Package) → finite.get t p ≡ Some k → symbol_count (with_changed_package t p f) + own_count p k ≡ symbol_count t + own_count p (f k)
 symbols-change t p f k e =
-    let inserted : with_package t p f ≡ finite.insert t p (f k) = ap (λ (o : Option Package). option_map_or (λ k. finite.insert t p (f k)) o t) e in
+    let inserted : with_changed_package t p f ≡ finite.insert t p (f k) = ap (λ (o : Option Package). option_map_or (λ k. finite.insert t p (f k)) o t) e in
     let sums : weight own_count (finite.entries (finite.insert t p (f k))) + weight_of own_count p (finite.get t p) ≡ weight own_count (finite.entries t) + own_count p (f k) = weight-insert own_count t p (f k) in
     let was : weight_of own_count p (finite.get t p) ≡ own_count p k = ap (weight_of own_count p) e in
-    let is : symbol_count (with_package t p f) ≡ symbol_count (finite.insert t p (f k)) = ap symbol_count inserted in
+    let is : symbol_count (with_changed_package t p f) ≡ symbol_count (finite.insert t p (f k)) = ap symbol_count inserted in
     omega (arith, sums, was, is)
 
 module _ (t : Table) (p n : Name) (e : Present) (there : IsPackage t p) where
@@ -135,7 +135,7 @@ symbols_with_new t p absent =
     let none : own_count p empty_package ≡ 0 = ap (λ (es : List (Name × Present)). length (filter (λ s. bytes_eq s.1.home p) es)) no_symbols in
     omega (arith, sums, was, none)
 
-pub len_with_package : (t : Table) (p : Name) (f : Package → Package) → finite.len (with_package t p f) ≡ finite.len t
+pub len_with_package : (t : Table) (p : Name) (f : Package → Package) → finite.len (with_changed_package t p f) ≡ finite.len t
 len_with_package t p f =
     elim (finite.get t p) as (λ o. finite.get t p ≡ o → finite.len (option_map_or (λ k. finite.insert t p (f k)) o t) ≡ finite.len t) [
       | None ↦ λ e. refl

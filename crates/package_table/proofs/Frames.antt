@@ -12,7 +12,7 @@ use Rattle.std.specs.Ordering.{eq_by_cmp}
 use Rattle.std.specs.Cmp.Lexicographic.{texts_ties}
 use Rattle.std.specs.FinMap as finite
 use Rattle.package_table.proofs.Names.{name_total, tied_same, same_tied}
-use Rattle.package_table.specs.Table.{Name, name_cmp, Present, Package, Table, entry_at, IsPackage, Uses, with_package, with_entry, with_used, with_new_package, empty_package}
+use Rattle.package_table.specs.Table.{Name, name_cmp, Present, Package, Table, entry_at, IsPackage, Uses, with_changed_package, with_entry, with_used, with_new_package, empty_package}
 
 pub not_same : (q p : Name) → q ≢ p → eq_by_cmp name_cmp q p ≡ false
 not_same q p differ =
@@ -61,30 +61,30 @@ package_there t p there =
     ] refl there
 
 module _ (t : Table) (p : Name) (f : Package → Package) where
-  pub get_with_same : (k : Package) → finite.get t p ≡ Some k → finite.get (with_package t p f) p ≡ Some (f k)
+  pub get_with_same : (k : Package) → finite.get t p ≡ Some k → finite.get (with_changed_package t p f) p ≡ Some (f k)
   get_with_same k e =
       subst (λ (o : Option Package). finite.get (option_map_or (λ k. finite.insert t p (f k)) o t) p ≡ Some (f k)) (sym e) (get_inserted t p (f k))
 
-  pub get_with_other : (q : Name) → q ≢ p → finite.get (with_package t p f) q ≡ finite.get t q
+  pub get_with_other : (q : Name) → q ≢ p → finite.get (with_changed_package t p f) q ≡ finite.get t q
   get_with_other q differ =
       elim (finite.get t p) as (λ o. finite.get (option_map_or (λ k. finite.insert t p (f k)) o t) q ≡ finite.get t q) [
         | None ↦ refl
         | Some k ↦ get_kept t p (f k) q differ
       ]
 
-  pub get_with_none : finite.get t p ≡ None → with_package t p f ≡ t
+  pub get_with_none : finite.get t p ≡ None → with_changed_package t p f ≡ t
   get_with_none e = ap (λ o. option_map_or (λ k. finite.insert t p (f k)) o t) e
 
-  pub seen_same : {Y : Type 0} (look : Option Package → Y) → ((k : Package) → look (Some (f k)) ≡ look (Some k)) → (q : Name) → look (finite.get (with_package t p f) q) ≡ look (finite.get t q)
+  pub seen_same : {Y : Type 0} (look : Option Package → Y) → ((k : Package) → look (Some (f k)) ≡ look (Some k)) → (q : Name) → look (finite.get (with_changed_package t p f) q) ≡ look (finite.get t q)
   seen_same look alike q =
       elim (name_cases q p) [
-        | inl same ↦ subst (λ (r : Name). look (finite.get (with_package t p f) r) ≡ look (finite.get t r)) (sym same) seen_here
+        | inl same ↦ subst (λ (r : Name). look (finite.get (with_changed_package t p f) r) ≡ look (finite.get t r)) (sym same) seen_here
         | inr differ ↦ ap look (get_with_other q differ)
       ]
     where
-      seen_here : look (finite.get (with_package t p f) p) ≡ look (finite.get t p)
+      seen_here : look (finite.get (with_changed_package t p f) p) ≡ look (finite.get t p)
       seen_here =
-          elim (finite.get t p) as (λ o. finite.get t p ≡ o → look (finite.get (with_package t p f) p) ≡ look o) [
+          elim (finite.get t p) as (λ o. finite.get t p ≡ o → look (finite.get (with_changed_package t p f) p) ≡ look o) [
             | None ↦ λ e. ap look (ap (λ u. finite.get u p) (get_with_none e) ∙ e)
             | Some k ↦ λ e. ap look (get_with_same k e) ∙ alike k
           ] refl

@@ -12,7 +12,7 @@ use Rattle.std.specs.FinMap as finite
 use Rattle.std.specs.FinMap.Entries.{find}
 use Rattle.package_sets.proofs.Places.{none_any}
 use Rattle.package_table.specs.Table.{Name, name_cmp}
-use Rattle.package_table.specs.Meaning.{entries_by, map_by}
+use Rattle.package_table.specs.Meaning.{entries_by_position, map_by}
 use Rattle.package_table.proofs.Names.{name_total, name_exact}
 use Rattle.package_table.proofs.Frames.{equal_names, equal_itself}
 
@@ -60,35 +60,35 @@ named q ns i is = let at = position-Some (bytes_eq q) ns i [] is in (at.0, equal
 
 module _ {X : Type 0} where
   -- a name that is none of these
-  absent : (q : Name) (ns : List Name) (f : ℕ → Option X) → AllByRecursion (λ n. bytes_eq q n ≡ false) ns → find name_cmp q (entries_by ns f) ≡ None
-  unfolding entries_by
+  absent : (q : Name) (ns : List Name) (f : ℕ → Option X) → AllByRecursion (λ n. bytes_eq q n ≡ false) ns → find name_cmp q (entries_by_position ns f) ≡ None
+  unfolding entries_by_position
   absent q [] f apart = refl
   absent q (n ∷ ns) f apart =
-      elim (f 0) as (λ o. find name_cmp q (cons_option (option_map (λ x. (n, x)) o) (entries_by ns (λ i. f (1 + i)))) ≡ None) [
+      elim (f 0) as (λ o. find name_cmp q (cons_option (option_map (λ x. (n, x)) o) (entries_by_position ns (λ i. f (1 + i)))) ≡ None) [
         | None ↦ absent q ns (λ i. f (1 + i)) apart.1
-        | Some x ↦ ap (λ b. cond b (Some x) (find name_cmp q (entries_by ns (λ i. f (1 + i))))) (sym (texts_ties q n) ∙ apart.0) ∙ absent q ns (λ i. f (1 + i)) apart.1
+        | Some x ↦ ap (λ b. cond b (Some x) (find name_cmp q (entries_by_position ns (λ i. f (1 + i))))) (sym (texts_ties q n) ∙ apart.0) ∙ absent q ns (λ i. f (1 + i)) apart.1
       ]
 
-  pub found_by : (q : Name) (ns : List Name) (f : ℕ → Option X) → IsDistinct bytes_eq ns → find name_cmp q (entries_by ns f) ≡ option_and_then f (position (bytes_eq q) ns)
-  unfolding entries_by IsDistinct
+  pub found_by : (q : Name) (ns : List Name) (f : ℕ → Option X) → IsDistinct bytes_eq ns → find name_cmp q (entries_by_position ns f) ≡ option_and_then f (position (bytes_eq q) ns)
+  unfolding entries_by_position IsDistinct
   found_by q [] f distinct = refl
   found_by q (n ∷ ns) f distinct =
-      elim (bytes_eq q n) as (λ b. bytes_eq q n ≡ b → find name_cmp q (entries_by (n ∷ ns) f) ≡ option_and_then f (cond b (Some 0) (option_map (λ i. 1 + i) (position (bytes_eq q) ns)))) [
+      elim (bytes_eq q n) as (λ b. bytes_eq q n ≡ b → find name_cmp q (entries_by_position (n ∷ ns) f) ≡ option_and_then f (cond b (Some 0) (option_map (λ i. 1 + i) (position (bytes_eq q) ns)))) [
         | true ↦ λ same. here same
         | false ↦ λ differs. skipped differs (f 0) ∙ found_by q ns (λ i. f (1 + i)) distinct.1 ∙ shifted (position (bytes_eq q) ns)
       ] refl
       ∙ sym (ap (option_and_then f) (position_cons (bytes_eq q) n ns))
     where
-      here : bytes_eq q n ≡ true → find name_cmp q (cons_option (option_map (λ x. (n, x)) (f 0)) (entries_by ns (λ i. f (1 + i)))) ≡ f 0
+      here : bytes_eq q n ≡ true → find name_cmp q (cons_option (option_map (λ x. (n, x)) (f 0)) (entries_by_position ns (λ i. f (1 + i)))) ≡ f 0
       here same =
-          elim (f 0) as (λ o. find name_cmp q (cons_option (option_map (λ x. (n, x)) o) (entries_by ns (λ i. f (1 + i)))) ≡ o) [
+          elim (f 0) as (λ o. find name_cmp q (cons_option (option_map (λ x. (n, x)) o) (entries_by_position ns (λ i. f (1 + i)))) ≡ o) [
             | None ↦ absent q ns (λ i. f (1 + i)) (subst (λ r. AllByRecursion (λ n. bytes_eq r n ≡ false) ns) (sym (equal_names q n same)) distinct.0)
-            | Some x ↦ ap (λ b. cond b (Some x) (find name_cmp q (entries_by ns (λ i. f (1 + i))))) (sym (texts_ties q n) ∙ same)
+            | Some x ↦ ap (λ b. cond b (Some x) (find name_cmp q (entries_by_position ns (λ i. f (1 + i))))) (sym (texts_ties q n) ∙ same)
           ]
 
-      skipped : bytes_eq q n ≡ false → (o : Option X) → find name_cmp q (cons_option (option_map (λ x. (n, x)) o) (entries_by ns (λ i. f (1 + i)))) ≡ find name_cmp q (entries_by ns (λ i. f (1 + i)))
+      skipped : bytes_eq q n ≡ false → (o : Option X) → find name_cmp q (cons_option (option_map (λ x. (n, x)) o) (entries_by_position ns (λ i. f (1 + i)))) ≡ find name_cmp q (entries_by_position ns (λ i. f (1 + i)))
       skipped differs None = refl
-      skipped differs (Some x) = ap (λ b. cond b (Some x) (find name_cmp q (entries_by ns (λ i. f (1 + i))))) (sym (texts_ties q n) ∙ differs)
+      skipped differs (Some x) = ap (λ b. cond b (Some x) (find name_cmp q (entries_by_position ns (λ i. f (1 + i))))) (sym (texts_ties q n) ∙ differs)
 
       shifted : (o : Option ℕ) → option_and_then (λ i. f (1 + i)) o ≡ option_and_then f (option_map (λ i. 1 + i) o)
       shifted None = refl
@@ -97,7 +97,7 @@ module _ {X : Type 0} where
   module _ (ns : List Name) (distinct : IsDistinct bytes_eq ns) where
     pub got : (f : ℕ → Option X) (q : Name) → finite.get (map_by ns f) q ≡ option_and_then f (position (bytes_eq q) ns)
     unfolding map_by
-    got f q = finite.get-from_entries name_total (entries_by ns f) q ∙ found_by q ns f distinct
+    got f q = finite.get-from_entries name_total (entries_by_position ns f) q ∙ found_by q ns f distinct
 
     pub got_at : (f : ℕ → Option X) (q : Name) (i : ℕ) → position (bytes_eq q) ns ≡ Some i → finite.get (map_by ns f) q ≡ f i
     got_at f q i is = got f q ∙ ap (option_and_then f) is
@@ -167,19 +167,19 @@ module _ {X : Type 0} (ns : List Name) (distinct : IsDistinct bytes_eq ns) (n : 
 
 -- where nothing is given
 pub none_by : {X : Type 0} (ns : List Name) → map_by {X = X} ns (λ _. None) ≡ finite.empty
-unfolding map_by entries_by
+unfolding map_by entries_by_position
 none_by {X = X} ns = ap finite.from_entries (none_among ns)
   where
-    none_among : (ns : List Name) → entries_by {X = X} ns (λ _. None) ≡ []
+    none_among : (ns : List Name) → entries_by_position {X = X} ns (λ _. None) ≡ []
     none_among [] = refl
     none_among (n ∷ ns) = none_among ns
 
 -- as many as there are names, where each has something
 pub count_by : {X : Type 0} (ns : List Name) (f : ℕ → X) → IsDistinct bytes_eq ns → finite.len (map_by ns (λ i. Some (f i))) ≡ length ns
-unfolding map_by IsDistinct entries_by
+unfolding map_by IsDistinct entries_by_position
 count_by {X = X} [] f distinct = finite.len-empty name_cmp X
 count_by (n ∷ ns) f distinct =
-    finite.len-insert name_total (finite.from_entries (entries_by ns (λ i. Some (f (1 + i))))) n (f 0)
-    ∙ ap (λ o. cond (is_some o) (finite.len (finite.from_entries {R = name_cmp} (entries_by ns (λ i. Some (f (1 + i)))))) (finite.len (finite.from_entries {R = name_cmp} (entries_by ns (λ i. Some (f (1 + i))))) + 1))
-    (finite.get-from_entries name_total (entries_by ns (λ i. Some (f (1 + i)))) n ∙ absent n ns (λ i. Some (f (1 + i))) distinct.0)
+    finite.len-insert name_total (finite.from_entries (entries_by_position ns (λ i. Some (f (1 + i))))) n (f 0)
+    ∙ ap (λ o. cond (is_some o) (finite.len (finite.from_entries {R = name_cmp} (entries_by_position ns (λ i. Some (f (1 + i)))))) (finite.len (finite.from_entries {R = name_cmp} (entries_by_position ns (λ i. Some (f (1 + i))))) + 1))
+    (finite.get-from_entries name_total (entries_by_position ns (λ i. Some (f (1 + i)))) n ∙ absent n ns (λ i. Some (f (1 + i))) distinct.0)
     ∙ ap (λ c. c + 1) (count_by ns (λ i. f (1 + i)) distinct.1) ∙ add-one (length ns)

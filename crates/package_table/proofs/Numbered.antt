@@ -12,7 +12,7 @@ use Rattle.std.specs.Option.{option_map, option_map_or}
 use Rattle.package_table.specs.Table.{Name, Present, IsPresent, entry_at}
 use Rattle.package_table.specs.Lookup.{is_symbol}
 use Rattle.package_table.specs.Numbers.{Numbered, number_at, number_of}
-use Rattle.package_table.specs.Numbering.{IsNumbered, Keeps}
+use Rattle.package_table.specs.Numbering.{IsNumbered, KeepsNumbers}
 use Rattle.package_table.specs.Growth.{Grows}
 use Rattle.package_table.proofs.Names.{same_some, none_some}
 use Rattle.package_table.proofs.Frames.{equal_names, equal_itself}
@@ -46,14 +46,14 @@ number_apart s count numbered h n g m i a b =
     let there = number_there s g m i b in
     numbered.apart h n g m i here there (sym (at_symbol s h n here) ∙ a) (sym (at_symbol s g m there) ∙ b)
 
-pub number_kept : (s u : Numbered) → Keeps s u → (h n : Name) → IsPresent s.0 h n h → IsPresent u.0 h n h → number_of u h n ≡ number_of s h n
+pub number_kept : (s u : Numbered) → KeepsNumbers s u → (h n : Name) → IsPresent s.0 h n h → IsPresent u.0 h n h → number_of u h n ≡ number_of s h n
 number_kept s u keeps h n before after = at_symbol u h n after ∙ keeps h n before ∙ sym (at_symbol s h n before)
 
 pub number_none : (s : Numbered) (h n : Name) → is_symbol s.0 h n ≡ false → number_of s h n ≡ None
 number_none s h n none = ap (λ b. cond b (number_at s.1 h n) None) none
 
-pub keeps_same : (s u : Numbered) → u ≡ s → Keeps s u
+pub keeps_same : (s u : Numbered) → u ≡ s → KeepsNumbers s u
 keeps_same s u same h n _ = ap (λ (s : Numbered). number_at s.1 h n) same
 
-pub keeps_both : (s u v : Numbered) → Grows s.0 u.0 → Keeps s u → Keeps u v → Keeps s v
+pub keeps_both : (s u v : Numbered) → Grows s.0 u.0 → KeepsNumbers s u → KeepsNumbers u v → KeepsNumbers s v
 keeps_both s u v grows first then h n there = then h n (grows.homes h n h there) ∙ first h n there

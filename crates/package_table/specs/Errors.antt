@@ -4,15 +4,15 @@ use Rattle.lisp_object.specs.declared.refusal.TheConstants.{NO_PACKAGE, NOT_EXTE
 use Rattle.package_table.specs.declared.error.PackageError.{PackageError}
 use Rattle.package_table.specs.declared.error.PackageError.TheVariants.{NoPackage, NotExternal, LockedPackage, EmptyName, NoSuchPackage, PackageExists, PackageIsLocked, NameConflict, NotAccessible, Limit, OutOfMemory}
 
-abbrev pub number_of : PackageError → ℕ
-number_of NoPackage = NO_PACKAGE
-number_of NotExternal = NOT_EXTERNAL
-number_of LockedPackage = LOCKED_PACKAGE
-number_of EmptyName = ARGUMENT_KIND
-number_of NoSuchPackage = NO_SUCH_PACKAGE
-number_of PackageExists = PACKAGE_EXISTS
-number_of PackageIsLocked = PACKAGE_IS_LOCKED
-number_of NameConflict = NAME_CONFLICT
-number_of NotAccessible = NOT_ACCESSIBLE
-number_of Limit = LIMIT
-number_of OutOfMemory = NO_MEMORY
+abbrev pub package_error_number : PackageError → ℕ
+package_error_number NoPackage = NO_PACKAGE
+package_error_number NotExternal = NOT_EXTERNAL
+package_error_number LockedPackage = LOCKED_PACKAGE
+package_error_number EmptyName = ARGUMENT_KIND
+package_error_number NoSuchPackage = NO_SUCH_PACKAGE
+package_error_number PackageExists = PACKAGE_EXISTS
+package_error_number PackageIsLocked = PACKAGE_IS_LOCKED
+package_error_number NameConflict = NAME_CONFLICT
+package_error_number NotAccessible = NOT_ACCESSIBLE
+package_error_number Limit = LIMIT
+package_error_number OutOfMemory = NO_MEMORY

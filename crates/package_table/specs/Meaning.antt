@@ -8,12 +8,12 @@ use Rattle.package_table.specs.Table.{Name, name_cmp, Present, Package, Table}
 use Rattle.package_table.specs.Numbers.{Numbers, Numbered}
 
 -- the names at whose positions f gives something, each with what it gives
-unfoldable pub entries_by : {X : Type 0} → List Name → (ℕ → Option X) → List (Name × X)
-entries_by [] f = []
-entries_by (n ∷ ns) f = cons_option (option_map (λ x. (n, x)) (f 0)) (entries_by ns (λ i. f (1 + i)))
+unfoldable pub entries_by_position : {X : Type 0} → List Name → (ℕ → Option X) → List (Name × X)
+entries_by_position [] f = []
+entries_by_position (n ∷ ns) f = cons_option (option_map (λ x. (n, x)) (f 0)) (entries_by_position ns (λ i. f (1 + i)))
 
 unfoldable pub map_by : {X : Type 0} → List Name → (ℕ → Option X) → finite.FinMap name_cmp X
-map_by ns f = finite.from_entries (entries_by ns f)
+map_by ns f = finite.from_entries (entries_by_position ns f)
 
 module _ (k : Kept) where
   -- the number of the symbol that is at home in the package p by the name j, and else of the one that p imports by it

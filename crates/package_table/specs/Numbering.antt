@@ -13,5 +13,5 @@ abbrev pub IsNumberedSound : Numbered → Type 0
 IsNumberedSound s = IsSound s.0 × IsNumbered s (symbol_count s.0)
 
 -- Each symbol that was there keeps its number.
-abbrev pub Keeps : Numbered → Numbered → Type 0
-Keeps s u = (h n : Name) → IsPresent s.0 h n h → number_at u.1 h n ≡ number_at s.1 h n
+abbrev pub KeepsNumbers : Numbered → Numbered → Type 0
+KeepsNumbers s u = (h n : Name) → IsPresent s.0 h n h → number_at u.1 h n ≡ number_at s.1 h n

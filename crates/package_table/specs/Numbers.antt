@@ -65,8 +65,8 @@ abbrev pub with_numbered : Numbered → Name → Name → Present → ℕ → Nu
 with_numbered s p n e i = (with_entry s.0 p n e, with_numbers s.1 p (λ m. finite.insert m n i))
 
 -- the table where p uses q
-abbrev pub with_use : Numbered → Name → Name → Numbered
-with_use s p q = (with_used s.0 p q, s.1)
+abbrev pub with_used_package : Numbered → Name → Name → Numbered
+with_used_package s p q = (with_used s.0 p q, s.1)
 
 -- the table with a new package, which has no symbols and uses nothing
 abbrev pub with_package_made : Numbered → Name → Numbered

@@ -24,8 +24,8 @@ home_of (found_at h) = h
 home_of (new_in p) = p
 
 -- A call that takes no memory answers what the definition says.
-abbrev pub Answers : {A B : Type 0} → (B → A) → Result B PackageError → Result A PackageError → Type 0
-Answers view said is = MatchResult said (λ x. is ≡ Ok (view x)) (λ e. is ≡ Err e)
+abbrev pub AnswersLookUp : {A B : Type 0} → (B → A) → Result B PackageError → Result A PackageError → Type 0
+AnswersLookUp view said is = MatchResult said (λ x. is ≡ Ok (view x)) (λ e. is ≡ Err e)
 
 -- a name in p: it may be new, but not in COMMON-LISP
 abbrev pub resolution : Table → Name → Name → Result Resolution PackageError

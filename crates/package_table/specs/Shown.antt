@@ -35,7 +35,7 @@ abbrev pub IsRising : List Sizes → Type 0
 IsRising [] = Unit {0}
 IsRising (n ∷ ns) = AllByRecursion (AreUpTo n) ns × IsRising ns
 
-pub record IsKept (a : Inside) : Type 0 where
+pub record HasKeptTable (a : Inside) : Type 0 where
   pub state : IsState a.sets
   pub marked : AllByRecursion (IsMark a.sets) a.marks.items
   pub rising : IsRising a.marks.items

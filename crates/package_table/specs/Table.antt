@@ -106,16 +106,16 @@ abbrev pub symbol_count : Table → ℕ
 symbol_count t = sum_by (λ r. own_count r.0 r.1) (finite.entries t)
 
 -- the table after a change of the package p, if there is one
-abbrev pub with_package : Table → Name → (Package → Package) → Table
-with_package t p change = option_map_or (λ k. finite.insert t p (change k)) (finite.get t p) t
+abbrev pub with_changed_package : Table → Name → (Package → Package) → Table
+with_changed_package t p change = option_map_or (λ k. finite.insert t p (change k)) (finite.get t p) t
 
 -- the table where e is at the name n in p
 abbrev pub with_entry : Table → Name → Name → Present → Table
-with_entry t p n e = with_package t p (λ k. record k { symbols = finite.insert k.symbols n e })
+with_entry t p n e = with_changed_package t p (λ k. record k { symbols = finite.insert k.symbols n e })
 
 -- the table where p uses q
 abbrev pub with_used : Table → Name → Name → Table
-with_used t p q = with_package t p (λ k. record k { uses = finite.insert k.uses q tt })
+with_used t p q = with_changed_package t p (λ k. record k { uses = finite.insert k.uses q tt })
 
 abbrev pub empty_package : Package
 empty_package = record { symbols = finite.empty; uses = finite.empty }

@@ -1,6 +1,6 @@
 //! Why a call on packages is refused.
 ghost use Rattle.std.specs.Prelude.{◌≡◌};
-ghost use Rattle.package_table.specs.Errors.{number_of};
+ghost use Rattle.package_table.specs.Errors.{package_error_number};
 
 use lisp_object::refusal;
 use std::alloc::AllocError;
@@ -35,7 +35,7 @@ pub enum PackageError {
 impl PackageError {
     /// The number of the refusal: 11 to 13, 33 to 38, 46 or 90.
     pub fn number(self) -> u16
-        ensures { result ≡ number_of self }
+        ensures { result ≡ package_error_number self }
     {
         match self {
             PackageError::NoPackage => refusal::NO_PACKAGE,

@@ -6,7 +6,7 @@ ghost use Rattle.package_table.specs.Lookup.{found};
 ghost use Rattle.package_table.specs.Changes.{after_intern, intern_changes, Gives};
 ghost use Rattle.package_table.specs.Growth.{Grows, IsSameBut, Tells};
 ghost use Rattle.package_table.specs.Numbers.{numbered};
-ghost use Rattle.package_table.specs.Numbering.{Keeps};
+ghost use Rattle.package_table.specs.Numbering.{KeepsNumbers};
 ghost use Rattle.package_table.specs.Meaning.{numbered_of};
 ghost use Rattle.package_table.specs.Adds.{Adds, IsPlaced};
 
@@ -112,7 +112,7 @@ impl Packages {
         ensures others { IsSameBut self.old.0 self.new.0 owner.now name.now }
         ensures grows { Grows self.old.0 self.new.0 }
         ensures unchanged { IfErr result (λ _. self.new ≡ self.old) }
-        ensures numbers { Keeps (numbered self.old) (numbered self.new) }
+        ensures numbers { KeepsNumbers (numbered self.old) (numbered self.new) }
         ensures marked { self.new.1.marked ≡ self.old.1.marked }
     {
         intern_symbol(self.alloc, &mut self.sets, owner, name)

@@ -27,7 +27,7 @@
 //!
 //! Each symbol has a number (`specs/Numbers.antt`, `specs/Numbering.antt`), which `number_of` gives: its place in the
 //! list. The numbers are beside the table (`Beside`): tables with the same symbols are equal whatever their numbers. A
-//! symbol keeps its number over each call that writes (`Keeps`), and has the one of the mark after going back.
+//! symbol keeps its number over each call that writes (`KeepsNumbers`), and has the one of the mark after going back.
 //!
 //! # Laws for the crates above
 //!

@@ -3,7 +3,7 @@ ghost use Rattle.std.specs.Prelude.{◌≡◌, ◌<◌, length};
 ghost use Rattle.package_sets.specs.Kept.{name_at};
 ghost use Rattle.package_table.specs.Table.{IsJoined};
 ghost use Rattle.package_table.specs.Meaning.{numbered_of};
-ghost use Rattle.package_table.specs.Resolving.{resolution, resolution_of, Answers};
+ghost use Rattle.package_table.specs.Resolving.{resolution, resolution_of, AnswersLookUp};
 
 use crate::look_ups::found_home;
 use crate::standardized::COMMON_LISP;
@@ -52,7 +52,7 @@ impl<'a> OnePackage<'a> {
     /// `LockedPackage` for a new name in COMMON-LISP.
     #[inline]
     pub fn resolve(&self, name: &[u8]) -> Result<Resolved<'a>, PackageError>
-        ensures { Answers resolution_of result (resolution self.now.0 self.now.1 name.now) }
+        ensures { AnswersLookUp resolution_of result (resolution self.now.0 self.now.1 name.now) }
     {
         if let Some(home) = found_home(self.sets, self.number, name) {
             return Ok(Resolved::Found(home));

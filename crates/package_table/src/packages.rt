@@ -3,7 +3,7 @@ ghost use Rattle.std.specs.Prelude.{◌≡◌, [], IfOk, IfErr, IfSome, All, opt
 ghost use Rattle.package_table.specs.Table.{initial, is_locked, package_named, symbol_count, IsPackage, IsSound};
 ghost use Rattle.package_table.specs.Numbers.{numbered, without_marks};
 ghost use Rattle.package_table.specs.Numbering.{IsNumbered, IsNumberedSound};
-ghost use Rattle.package_table.specs.Resolving.{resolution, external_resolution, internal_resolution, resolution_of, Answers};
+ghost use Rattle.package_table.specs.Resolving.{resolution, external_resolution, internal_resolution, resolution_of, AnswersLookUp};
 ghost use Rattle.package_table.specs.Readers.{names_of, package_names, used_names, own_names, external_names, imports, ListRefused};
 
 use crate::find::{is_locked, package_name};
@@ -43,11 +43,11 @@ impl Model for Packages {
 
     ghost coded = { tables_code };
 
-    ghost use Rattle.package_table.specs.Shown.{tables_of, IsKept};
+    ghost use Rattle.package_table.specs.Shown.{tables_of, HasKeptTable};
 
     ghost view = { tables_of };
 
-    ghost invariant = { IsKept };
+    ghost invariant = { HasKeptTable };
 }
 
 impl Packages {
@@ -234,7 +234,7 @@ impl Packages {
     /// `LockedPackage` for a new name in COMMON-LISP.
     pub fn resolve(&self, current: &[u8], name: &[u8]) -> Result<Resolved<'_>, PackageError>
         requires { IsPackage self.now.0 current.now }
-        ensures { Answers resolution_of result (resolution self.now.0 current.now name.now) }
+        ensures { AnswersLookUp resolution_of result (resolution self.now.0 current.now name.now) }
     {
         self.package(current).resolve(name)
     }
@@ -245,7 +245,7 @@ impl Packages {
     /// # Errors
     /// `NoPackage` if `prefix` names no package, then `NotExternal` if `name` is not external there.
     pub fn resolve_external(&self, prefix: &[u8], name: &[u8]) -> Result<&[u8], PackageError>
-        ensures { Answers (λ h. h.now) result (external_resolution self.now.0 prefix.now name.now) }
+        ensures { AnswersLookUp (λ h. h.now) result (external_resolution self.now.0 prefix.now name.now) }
     {
         resolve_external(&self.sets, prefix, name)
     }
@@ -256,7 +256,7 @@ impl Packages {
     /// # Errors
     /// `NoPackage` if `prefix` names no package, then `LockedPackage` for a new name in COMMON-LISP.
     pub fn resolve_internal(&self, prefix: &[u8], name: &[u8]) -> Result<Resolved<'_>, PackageError>
-        ensures { Answers resolution_of result
+        ensures { AnswersLookUp resolution_of result
             (internal_resolution self.now.0 prefix.now name.now) }
     {
         resolve_internal(&self.sets, prefix, name)

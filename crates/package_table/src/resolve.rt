@@ -2,7 +2,7 @@
 ghost use Rattle.std.specs.Prelude.{◌≡◌};
 ghost use Rattle.package_table.specs.Table.{IsJoined};
 ghost use Rattle.package_table.specs.Meaning.{numbered_of};
-ghost use Rattle.package_table.specs.Resolving.{external_resolution, internal_resolution, resolution_of, Answers};
+ghost use Rattle.package_table.specs.Resolving.{external_resolution, internal_resolution, resolution_of, AnswersLookUp};
 
 use crate::find::{full_name, package_name};
 use crate::look_ups::{external_home, package_number};
@@ -24,7 +24,7 @@ pub(crate) fn resolve_external<'a>(
     prefix: &[u8],
     name: &[u8],
 ) -> Result<&'a [u8], PackageError>
-    ensures { Answers (λ h. h.now) result
+    ensures { AnswersLookUp (λ h. h.now) result
         (external_resolution (numbered_of sets.now).0 prefix.now name.now) }
 {
     let Some(owner) = package_name(sets, prefix) else {
@@ -43,7 +43,7 @@ pub(crate) fn resolve_internal<'a>(
     name: &[u8],
 ) -> Result<Resolved<'a>, PackageError>
     requires { IsJoined (numbered_of sets.now).0 }
-    ensures { Answers resolution_of result
+    ensures { AnswersLookUp resolution_of result
         (internal_resolution (numbered_of sets.now).0 prefix.now name.now) }
 {
     match package_number(sets, full_name(prefix)) {

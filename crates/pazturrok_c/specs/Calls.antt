@@ -39,7 +39,7 @@ pub record TellsEnd (engine : Engine) (number answer : ℕ) (done : Done) : Type
   pub orders : done.orders ≡ orders_of engine
 
 -- The engine was asked: it does this, unless orders are open; and it tells how long its answer is and its orders are.
-pub record IsAsked (old new : Engine) (answer : ℕ) (done : Done) (Does : Type 0) : Type 0 where
+pub record EngineIsAsked (old new : Engine) (answer : ℕ) (done : Done) (Does : Type 0) : Type 0 where
   pub barred : IsBarred (pending_of old.store.disk) old new done.number
   pub does : pending_of old.store.disk ≡ [] → Does
   pub answer_is : done.number ≡ 0 → done.answer ≡ answer
@@ -48,21 +48,21 @@ pub record IsAsked (old new : Engine) (answer : ℕ) (done : Done) (Does : Type 
 
 module _ (old new : Engine) (rescue : Bool) where
   abbrev pub ExecutesForm : List ℕ → Done → Type 0
-  ExecutesForm text done = IsAsked old new (length new.answer.items) done (IsExecuted old.store new.store (mode_in rescue) text done.number new.answer.items)
+  ExecutesForm text done = EngineIsAsked old new (length new.answer.items) done (IsExecuted old.store new.store (mode_in rescue) text done.number new.answer.items)
 
   abbrev pub ExecutesForms : List ℕ → List ℕ → Done → Type 0
   ExecutesForms texts ends done =
-      IsAsked old new (length new.answer.items) done (ExecutesMany old.store new.store (mode_in rescue) texts ends done.number new.answer.items)
+      EngineIsAsked old new (length new.answer.items) done (ExecutesMany old.store new.store (mode_in rescue) texts ends done.number new.answer.items)
 
 abbrev pub TakesSnapshot : Engine → Engine → Done → Type 0
-TakesSnapshot old new done = IsAsked old new 0 done (IsSnapshotted old.store new.store done.number)
+TakesSnapshot old new done = EngineIsAsked old new 0 done (IsSnapshotted old.store new.store done.number)
 
 abbrev pub BeginsWithMessages : Engine → Engine → ℕ → Done → Type 0
-BeginsWithMessages old new position done = IsAsked old new 0 done (IsBegun old.store new.store done.number position)
+BeginsWithMessages old new position done = EngineIsAsked old new 0 done (IsBegun old.store new.store done.number position)
 
 abbrev pub AnswersEach : Engine → Engine → ℕ → List ℕ → List RequestHead → Done → Type 0
 AnswersEach old new last texts heads done =
-    IsAsked old new (length new.answer.items) done (AnswersAll old.store new.store last texts heads done.number new.answer.items)
+    EngineIsAsked old new (length new.answer.items) done (AnswersAll old.store new.store last texts heads done.number new.answer.items)
 
 -- so many bytes of orders were reported done
 pub record IsPerformed (old new : Engine) (count : ℕ) : Type 0 where

@@ -4,7 +4,7 @@ use Rattle.std.specs.Borrow.{Bor}
 use Rattle.std.specs.Int.{w16, w64, to_le_bytes}
 use Rattle.std.specs.List.{flat_map}
 use Rattle.canon_printer.specs.Printed.{printed}
-use Rattle.deferred_disk.specs.Calls.{begun}
+use Rattle.deferred_disk.specs.Calls.{first_calls}
 use Rattle.deferred_disk.specs.Disk.{calls_of, pending_of, state_of}
 use Rattle.disk_trait.specs.Orders.{OrderValue}
 use Rattle.deferred_disk.specs.declared.disk.DeferredDisk.{DeferredDisk}
@@ -31,24 +31,24 @@ mode_in false = Current
 -- ---- what is handed out of an outcome
 
 -- the value as it is printed in a world; nothing is printed where there is none
-abbrev pub value_in : Option WorldState → Object → List ℕ
-value_in (Some world) value = printed world.packages world.current_package value
-value_in None value = []
+abbrev pub value_text_in : Option WorldState → Object → List ℕ
+value_text_in (Some world) value = printed world.packages world.current_package value
+value_text_in None value = []
 
 -- The number of an outcome, and the answer to a form that was accepted. Where there is no room for its text the number is 90.
 abbrev pub IsAnswered : Option WorldState → Outcome → ℕ → List ℕ → Type 0
-IsAnswered left (Accepted value) number answer = ((number ≡ 0) × (answer ≡ value_in left (object_of value))) ⊎ (number ≡ NO_MEMORY)
+IsAnswered left (Accepted value) number answer = ((number ≡ 0) × (answer ≡ value_text_in left (object_of value))) ⊎ (number ≡ NO_MEMORY)
 IsAnswered left Snapshotted number answer = number ≡ 0
 IsAnswered left (Refused refusal) number answer = number ≡ refusal
 
 -- of one outcome of many its number, the length of its answer, and the answer, the lowest byte of a number first
-abbrev pub told : ℕ → List ℕ → List ℕ
-told number answer = to_le_bytes w16 number ++ (to_le_bytes w64 (length answer) ++ answer)
+abbrev pub numbered_answer : ℕ → List ℕ → List ℕ
+numbered_answer number answer = to_le_bytes w16 number ++ (to_le_bytes w64 (length answer) ++ answer)
 
 abbrev pub outcome_bytes : Option WorldState → Outcome → List ℕ
-outcome_bytes left (Accepted value) = told 0 (value_in left (object_of value))
-outcome_bytes left Snapshotted = told 0 []
-outcome_bytes left (Refused number) = told number []
+outcome_bytes left (Accepted value) = numbered_answer 0 (value_text_in left (object_of value))
+outcome_bytes left Snapshotted = numbered_answer 0 []
+outcome_bytes left (Refused number) = numbered_answer number []
 
 -- The number of many outcomes, and what is told of them. Where there is no room for that the number is 90.
 abbrev pub AreAnswered : Option WorldState → List Outcome → ℕ → List ℕ → Type 0
@@ -63,14 +63,14 @@ IsBarred pending old new number = (pending ≡ [] → ⊥) → (number ≡ REOPE
 -- two files of these bytes were opened
 pub record IsOpenedOn {R : Type 0} (a b : List ℕ) (limit : ℕ) (store : StoreView DeferredDisk R) : Type 0 where
   pub disk : DeferredDisk
-  pub begins : calls_of disk ≡ begun a b
+  pub begins : calls_of disk ≡ first_calls a b
   pub macros : R
   pub opened : IsOpened six_functions state_of disk macros limit store
 
 -- they were refused with this number
 pub record IsUnopenedOn (a b : List ℕ) (limit number : ℕ) : Type 0 where
   pub disk : DeferredDisk
-  pub begins : calls_of disk ≡ begun a b
+  pub begins : calls_of disk ≡ first_calls a b
   pub whole : Bool
   pub back : DeferredDisk
   pub unopened : IsUnopened six_functions state_of disk whole limit number back

@@ -4,7 +4,7 @@ use Rattle.std.specs.List.{flat_map}
 use Rattle.deferred_disk.specs.Disk.{state_of}
 use Rattle.deferred_disk.specs.declared.disk.DeferredDisk.{DeferredDisk}
 use Rattle.lisp_object.specs.declared.refusal.TheConstants.{NO_MEMORY, REOPEN}
-use Rattle.pazturrok_c.specs.Requests.{answer_bytes, request_in, requests_in}
+use Rattle.pazturrok_c.specs.Requests.{bytes_of_answer, request_in, requests_in}
 use Rattle.pazturrok_c.specs.declared.done.RequestHead.{RequestHead}
 use Rattle.plist_state.specs.State.{WorldState}
 use Rattle.prevalence_store.specs.calls.Store.{StoreView}
@@ -15,7 +15,7 @@ use Rattle.six_functions.specs.MacroFunctions.{six_functions}
 
 -- The number of replies, and what is told of them. Where there is no room for that the number is 90.
 abbrev pub AreTold : Replies → ℕ → List ℕ → Type 0
-AreTold replies number answers = ((number ≡ 0) × (answers ≡ flat_map answer_bytes replies.answers.items)) ⊎ (number ≡ NO_MEMORY)
+AreTold replies number answers = ((number ≡ 0) × (answers ≡ flat_map bytes_of_answer replies.answers.items)) ⊎ (number ≡ NO_MEMORY)
 
 -- the same of what the store gave: replies, or the number of a refusal
 abbrev pub IsTold : Result Replies ℕ → ℕ → List ℕ → Type 0

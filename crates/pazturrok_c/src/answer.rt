@@ -1,7 +1,7 @@
 // The bytes of answers.
 ghost use Rattle.std.specs.Prelude.{◌≡◌, true, IfOk};
 ghost use Rattle.lisp_object.specs.Datum.{is_proper, object_of};
-ghost use Rattle.pazturrok_c.specs.Engine.{value_in};
+ghost use Rattle.pazturrok_c.specs.Engine.{value_text_in};
 
 use canon_printer::print;
 use deferred_disk::DeferredDisk;
@@ -21,7 +21,7 @@ pub(crate) fn printed(
     value: &Datum,
 ) -> Result<Vec<u8>, AllocError>
     requires { is_proper value.now ≡ true }
-    ensures { IfOk result (λ text. text.items ≡ value_in store.now.world (object_of value.now)) }
+    ensures { IfOk result (λ text. text.items ≡ value_text_in store.now.world (object_of value.now)) }
 {
     let Some(world) = store.world() else {
         return Err(AllocError);

@@ -11,7 +11,7 @@ ghost use Rattle.pazturrok_c.specs.declared.engine.Engine.{Engine as AnEngine};
 use crate::calls::copy_out;
 use crate::done::{Done, RequestHead, Setting, Told};
 use crate::engine::Engine;
-use crate::slot::Slot;
+use crate::slot::EngineSlot;
 use lisp_object::refusal::{NO_MEMORY, REOPEN, name_of};
 use std::alloc::Global;
 
@@ -43,7 +43,7 @@ fn opened(alloc: Global, a: &[u8], b: &[u8], setting: &Setting) -> Result<Box<En
 #[unsafe(no_mangle)]
 pub extern "C" fn pzt_open(
     alloc: Global,
-    slot: &mut Slot,
+    slot: &mut EngineSlot,
     a: &[u8],
     b: &[u8],
     setting: &Setting,
@@ -74,7 +74,7 @@ pub extern "C" fn pzt_open(
 #[unsafe(no_mangle)]
 pub extern "C" fn pzt_execute(
     alloc: Global,
-    slot: &mut Slot,
+    slot: &mut EngineSlot,
     rescue: bool,
     text: &[u8],
     answer: &mut [u8],
@@ -98,7 +98,7 @@ pub extern "C" fn pzt_execute(
 #[unsafe(no_mangle)]
 pub extern "C" fn pzt_execute_all(
     alloc: Global,
-    slot: &mut Slot,
+    slot: &mut EngineSlot,
     rescue: bool,
     texts: &[u8],
     ends: &[u64],
@@ -120,7 +120,7 @@ pub extern "C" fn pzt_execute_all(
 #[unsafe(no_mangle)]
 pub extern "C" fn pzt_begin_messages(
     alloc: Global,
-    slot: &mut Slot,
+    slot: &mut EngineSlot,
     position: &mut u64,
     done: &mut Done,
 )
@@ -142,7 +142,7 @@ pub extern "C" fn pzt_begin_messages(
 #[unsafe(no_mangle)]
 pub extern "C" fn pzt_answer_requests(
     alloc: Global,
-    slot: &mut Slot,
+    slot: &mut EngineSlot,
     last: u64,
     texts: &[u8],
     heads: &[RequestHead],
@@ -162,7 +162,7 @@ pub extern "C" fn pzt_answer_requests(
 
 /// Takes a snapshot.
 #[unsafe(no_mangle)]
-pub extern "C" fn pzt_snapshot(alloc: Global, slot: &mut Slot, done: &mut Done)
+pub extern "C" fn pzt_snapshot(alloc: Global, slot: &mut EngineSlot, done: &mut Done)
     ensures asks { OnEngine slot.old.handle.engine slot.new.handle.engine done.new.number
         (λ old new. TakesSnapshot old new done.new) }
     ensures none { slot.old.handle.engine ≡ None → TellsNothing done.new }
@@ -177,7 +177,12 @@ pub extern "C" fn pzt_snapshot(alloc: Global, slot: &mut Slot, done: &mut Done)
 
 /// Copies the last answer from a place on, as far as there is room. Gives how many bytes.
 #[unsafe(no_mangle)]
-pub extern "C" fn pzt_answer(alloc: Global, slot: &mut Slot, at: usize, out: &mut [u8]) -> usize
+pub extern "C" fn pzt_answer(
+    alloc: Global,
+    slot: &mut EngineSlot,
+    at: usize,
+    out: &mut [u8],
+) -> usize
     ensures same { slot.new.handle.engine ≡ slot.old.handle.engine }
     ensures copies { (engine : AnEngine) → slot.old.handle.engine ≡ Some engine
         → IsCopied engine.answer.items at out.old out.new result }
@@ -193,7 +198,12 @@ pub extern "C" fn pzt_answer(alloc: Global, slot: &mut Slot, at: usize, out: &mu
 
 /// Copies the orders from a place on, as far as there is room. Gives how many bytes.
 #[unsafe(no_mangle)]
-pub extern "C" fn pzt_orders(alloc: Global, slot: &mut Slot, at: usize, out: &mut [u8]) -> usize
+pub extern "C" fn pzt_orders(
+    alloc: Global,
+    slot: &mut EngineSlot,
+    at: usize,
+    out: &mut [u8],
+) -> usize
     ensures same { slot.new.handle.engine ≡ slot.old.handle.engine }
     ensures copies { (engine : AnEngine) → slot.old.handle.engine ≡ Some engine
         → IsCopied (orders_bytes (pending_of engine.store.disk)) at out.old out.new result }
@@ -209,7 +219,7 @@ pub extern "C" fn pzt_orders(alloc: Global, slot: &mut Slot, at: usize, out: &mu
 
 /// Says that so many bytes of orders were carried out: all that there were.
 #[unsafe(no_mangle)]
-pub extern "C" fn pzt_performed(alloc: Global, slot: &mut Slot, count: usize)
+pub extern "C" fn pzt_performed(alloc: Global, slot: &mut EngineSlot, count: usize)
     ensures { OnEngine slot.old.handle.engine slot.new.handle.engine reopen
         (λ old new. IsPerformed old new count) }
 {
@@ -221,7 +231,7 @@ pub extern "C" fn pzt_performed(alloc: Global, slot: &mut Slot, count: usize)
 
 /// What the store tells of its half in use.
 #[unsafe(no_mangle)]
-pub extern "C" fn pzt_tell(alloc: Global, slot: &mut Slot, told: &mut Told)
+pub extern "C" fn pzt_tell(alloc: Global, slot: &mut EngineSlot, told: &mut Told)
     ensures same { slot.new.handle.engine ≡ slot.old.handle.engine }
     ensures tells { (engine : AnEngine) → slot.old.handle.engine ≡ Some engine
         → (told.new.generation ≡ engine.store.generation) × (told.new.records ≡ engine.store.record_count)
@@ -242,7 +252,7 @@ pub extern "C" fn pzt_tell(alloc: Global, slot: &mut Slot, told: &mut Told)
 
 /// Lets the engine go. Orders that were not carried out are lost, as in a crash.
 #[unsafe(no_mangle)]
-pub extern "C" fn pzt_close(alloc: Global, slot: &mut Slot)
+pub extern "C" fn pzt_close(alloc: Global, slot: &mut EngineSlot)
     ensures { slot.new.handle.engine ≡ None }
 {
     let _engine = slot.take(alloc);

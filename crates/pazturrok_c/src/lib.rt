@@ -25,4 +25,4 @@ mod requests;
 mod slot;
 
 pub use done::{Done, RequestHead, Setting, Told};
-pub use slot::Slot;
+pub use slot::EngineSlot;

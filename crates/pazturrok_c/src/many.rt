@@ -1,7 +1,7 @@
 // Many texts that are handed over in one, and the answers to many forms.
 ghost use Rattle.std.specs.Prelude.{◌≡◌, ◌++◌, IfOk, OnOk, map};
 ghost use Rattle.std.specs.List.{All, flat_map};
-ghost use Rattle.pazturrok_c.specs.Engine.{outcome_bytes, told};
+ghost use Rattle.pazturrok_c.specs.Engine.{outcome_bytes, numbered_answer};
 ghost use Rattle.pazturrok_c.specs.Texts.{texts_in};
 ghost use Rattle.prevalence_store.specs.calls.Execute.{IsProperOutcome};
 
@@ -32,7 +32,7 @@ pub(crate) fn texts_of<'a>(
 
 /// What is told of one form more: its number, the length of its answer, and the answer.
 pub(crate) fn tell(bytes: &mut Vec<u8>, number: u16, answer: &[u8]) -> Result<(), AllocError>
-    ensures { OnOk result (bytes.new.items ≡ bytes.old.items ++ told number answer.now) }
+    ensures { OnOk result (bytes.new.items ≡ bytes.old.items ++ numbered_answer number answer.now) }
 {
     bytes.extend_from_slice(&number.to_le_bytes())?;
     bytes.extend_from_slice(&(answer.len() as u64).to_le_bytes())?;

@@ -1,7 +1,7 @@
 // Messages with numbers and questions that are handed over in one, and the answers to them.
 ghost use Rattle.std.specs.Prelude.{◌≡◌, IfOk, map};
 ghost use Rattle.std.specs.List.{flat_map};
-ghost use Rattle.pazturrok_c.specs.Requests.{answer_bytes, request_in, requests_in};
+ghost use Rattle.pazturrok_c.specs.Requests.{bytes_of_answer, request_in, requests_in};
 
 use crate::done::RequestHead;
 use crate::many::tell;
@@ -36,7 +36,7 @@ pub(crate) fn requests_of<'a>(
 
 /// What is told of these answers, one after the other.
 pub(crate) fn told_of(alloc: Global, answers: &[Answer]) -> Result<Vec<u8>, AllocError>
-    ensures { IfOk result (λ bytes. bytes.items ≡ flat_map answer_bytes answers.now) }
+    ensures { IfOk result (λ bytes. bytes.items ≡ flat_map bytes_of_answer answers.now) }
 {
     let mut bytes = Vec::new(alloc);
     for answer in answers {

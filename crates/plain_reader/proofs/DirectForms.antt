@@ -23,7 +23,7 @@ use Rattle.package_table.specs.Table.{IsSound}
 use Rattle.lisp_reading.specs.declared.found.Found.TheVariants.{One as one}
 use Rattle.lisp_reading.specs.Plans.{gives}
 use Rattle.lisp_reading.specs.Reading.{is_whitespace, attempt}
-use Rattle.plain_reader.specs.declared.context.Context.{Context}
+use Rattle.plain_reader.specs.declared.context.PlainContext.{PlainContext}
 use Rattle.plain_reader.specs.declared.objects.Taken.{Taken}
 use Rattle.plain_reader.specs.declared.direct.NamedProperty.{NamedProperty}
 use Rattle.plain_reader.specs.declared.direct.Literal.{Literal}
@@ -52,7 +52,7 @@ fronts c d (x ∷ y ∷ zs) some e f =
 -- ---- items
 
 -- the symbol that a token is
-pub named_object : (with : Context) (t : Taken) (text home name : List ℕ) (d : Datum) → t.token ≡ true → object_of d ≡ t.object → d ≡ Datum.Symbol home name
+pub named_object : (with : PlainContext) (t : Taken) (text home name : List ℕ) (d : Datum) → t.token ≡ true → object_of d ≡ t.object → d ≡ Datum.Symbol home name
     → (room : ℕ) → Takes with room text t → TakesObject with room text true (symbol home name) t.rest.now
 named_object with t text home name d token same e room takes = λ functions.
     let here = setting with functions in
@@ -61,23 +61,23 @@ named_object with t text home name d token same e room takes = λ functions.
     (subst (λ (x : Object). ComesTo here (attempt here room) text (gives (one t.token x)) t.rest.now) is (takes functions))
 
 -- an object where no list ends
-pub object_item : (with : Context) (room : ℕ) (text rest : List ℕ) (token : Bool) (x y : Object) → 1 ≤ length text → (get_or text 0 0 ≡ 41 → ⊥) → x ≡ y
+pub object_item : (with : PlainContext) (room : ℕ) (text rest : List ℕ) (token : Bool) (x y : Object) → 1 ≤ length text → (get_or text 0 0 ≡ 41 → ⊥) → x ≡ y
     → TakesObject with room text token x rest → TakesItems with room text (y ∷ []) rest
 object_item with room text rest token x y some other same taken = λ xs functions.
     object_at (setting with functions) room xs (xs ++ y ∷ []) text rest token x some other with.closes (ap (λ (x : Object). xs ++ x ∷ []) (sym same)) (taken functions)
 
-no_end_by : (with : Context) (c : ℕ) → is_whitespace with.readtable.now c ≡ true → (b : Bool) → (c == 41) ≡ b → b ≡ false
+no_end_by : (with : PlainContext) (c : ℕ) → is_whitespace with.readtable.now c ≡ true → (b : Bool) → (c == 41) ≡ b → b ≡ false
 no_end_by with c blank false e = refl
 no_end_by with c blank true e =
     let same : c ≡ 41 = eqb-true c 41 e in
     let never : true ≡ false = sym blank ∙ ap (is_whitespace with.readtable.now) same ∙ with.closes in
     absurd cc
 
-no_end : (with : Context) (c : ℕ) → is_whitespace with.readtable.now c ≡ true → (c == 41) ≡ false
+no_end : (with : PlainContext) (c : ℕ) → is_whitespace with.readtable.now c ≡ true → (c == 41) ≡ false
 no_end with c blank = no_end_by with c blank (c == 41) refl
 
 -- items behind whitespace
-pub spaced : (with : Context) (room c : ℕ) (cs rest : List ℕ) (ys : List Object) → is_whitespace with.readtable.now c ≡ true
+pub spaced : (with : PlainContext) (room c : ℕ) (cs rest : List ℕ) (ys : List Object) → is_whitespace with.readtable.now c ≡ true
     → TakesItems with room cs ys rest → TakesItems with room (c ∷ cs) ys rest
 spaced with room c cs rest ys blank taken = λ xs functions.
     let here = setting with functions in
@@ -85,7 +85,7 @@ spaced with room c cs rest ys blank taken = λ xs functions.
     (blank_items here room xs c cs (no_end with c blank) blank) (taken xs functions)
 
 -- a quoted object
-pub quoted_items : (with : Context) (room : ℕ) (cs rest : List ℕ) (token : Bool) (x : Object) → 0 < room → with.quotes ≡ true
+pub quoted_items : (with : PlainContext) (room : ℕ) (cs rest : List ℕ) (token : Bool) (x : Object) → 0 < room → with.quotes ≡ true
     → TakesObject with (room - 1) cs token x rest → TakesItems with room (39 ∷ cs) (quote_of x ∷ []) rest
 quoted_items with room cs rest token x some quotes taken = λ xs functions.
     let here = setting with functions in
@@ -96,7 +96,7 @@ quoted_items with room cs rest token x some quotes taken = λ xs functions.
     object_items here room xs 39 cs rest token (quote_of x) with.closes refl whole
 
 -- two items, and the end of the list
-pub two_end : (with : Context) (room : ℕ) (text second rest last : List ℕ) (x y : Object) → TakesItems with room text (x ∷ []) second
+pub two_end : (with : PlainContext) (room : ℕ) (text second rest last : List ℕ) (x y : Object) → TakesItems with room text (x ∷ []) second
     → TakesItems with room second (y ∷ []) last → 41 ∷ rest ≡ last → EndsList with room text (x ∷ y ∷ []) rest
 two_end with room text second rest last x y first next is = λ xs functions.
     let here = setting with functions in
@@ -107,7 +107,7 @@ two_end with room text second rest last x y first next is = λ xs functions.
     (closed_items here room ((xs ++ x ∷ []) ++ y ∷ []) rest)))
 
 -- a list that an operator heads, whose opening parenthesis was before the text
-pub headed_list : (with : Context) (room : ℕ) (text after rest : List ℕ) (x : Object) (ys : List Object) → 0 < room
+pub headed_list : (with : PlainContext) (room : ℕ) (text after rest : List ℕ) (x : Object) (ys : List Object) → 0 < room
     → TakesItems with (room - 1) text (x ∷ []) after → EndsList with (room - 1) after ys rest → TakesObject with room (40 ∷ text) false (list_of (x ∷ ys)) rest
 headed_list with room text after rest x ys some first next = λ functions.
     let here = setting with functions in
@@ -117,7 +117,7 @@ headed_list with room text after rest x ys some first next = λ functions.
     (onward here (items_from here (room - 1) []) (items_from here (room - 1) (x ∷ [])) (gives (x ∷ ys, true)) text after rest (first [] functions) (next (x ∷ []) functions)))
 
 -- a list behind whitespace
-pub list_item : (with : Context) (room c : ℕ) (cs rest : List ℕ) (x : Object) → is_whitespace with.readtable.now c ≡ true
+pub list_item : (with : PlainContext) (room c : ℕ) (cs rest : List ℕ) (x : Object) → is_whitespace with.readtable.now c ≡ true
     → TakesObject with room (40 ∷ cs) false x rest → TakesItems with room (c ∷ 40 ∷ cs) (x ∷ []) rest
 list_item with room c cs rest x blank taken =
     spaced with room c (40 ∷ cs) rest (x ∷ []) blank
@@ -125,7 +125,7 @@ list_item with room c cs rest x blank taken =
 
 -- ---- what a call takes, from what the call in it took
 
-pub argument_taken : (with : Context) (room c : ℕ) (cs text : List ℕ) (result : Result (Option ReadSymbol) AllocError) → 0 < room → with.quotes ≡ true
+pub argument_taken : (with : PlainContext) (room c : ℕ) (cs text : List ℕ) (result : Result (Option ReadSymbol) AllocError) → 0 < room → with.quotes ≡ true
     → is_whitespace with.readtable.now c ≡ true → c ∷ 39 ∷ cs ≡ text
     → IfOk result (λ found. IfSome found (λ s. TakesObject with (room - 1) cs true (named_symbol s.symbol) s.rest.now))
     → IfOk result (λ found. IfSome found (λ s. TakesItems with room text (quote_of (named_symbol s.symbol) ∷ []) s.rest.now))
@@ -136,7 +136,7 @@ argument_taken with room c cs text (Ok (Some s)) some quotes blank is taken =
     subst (λ text. TakesItems with room text (quote_of x ∷ []) s.rest.now) is
     (spaced with room c (39 ∷ cs) s.rest.now (quote_of x ∷ []) blank (quoted_items with room cs s.rest.now true x some quotes taken))
 
-pub place_item : (with : Context) (room c : ℕ) (cs text : List ℕ) (result : Result (Option ReadProperty) AllocError)
+pub place_item : (with : PlainContext) (room c : ℕ) (cs text : List ℕ) (result : Result (Option ReadProperty) AllocError)
     → is_whitespace with.readtable.now c ≡ true → c ∷ 40 ∷ cs ≡ text
     → IfOk result (λ found. IfSome found (λ p. TakesObject with room (40 ∷ cs) false (named_place p.property) p.rest.now))
     → IfOk result (λ found. IfSome found (λ p. TakesItems with room text (named_place p.property ∷ []) p.rest.now))
@@ -146,7 +146,7 @@ place_item with room c cs text (Ok (Some p)) blank is taken =
     subst (λ text. TakesItems with room text (named_place p.property ∷ []) p.rest.now) is
     (list_item with room c cs p.rest.now (named_place p.property) blank taken)
 
-pub place_taken : (with : Context) (room : ℕ) (text after : List ℕ) (result : Result (Option ReadProperty) AllocError) → 0 < room
+pub place_taken : (with : PlainContext) (room : ℕ) (text after : List ℕ) (result : Result (Option ReadProperty) AllocError) → 0 < room
     → TakesItems with (room - 1) text (lisp (codes "GET") ∷ []) after
     → IfOk result (λ found. IfSome found (λ p. EndsList with (room - 1) after (quoted_names p.property) p.rest.now))
     → IfOk result (λ found. IfSome found (λ p. TakesObject with room (40 ∷ text) false (named_place p.property) p.rest.now))
@@ -155,7 +155,7 @@ place_taken with room text after (Ok None) some first next = tt
 place_taken with room text after (Ok (Some p)) some first next =
     headed_list with room text after p.rest.now (lisp (codes "GET")) (quoted_names p.property) some first next
 
-pub literal_spaced : (with : Context) (room c : ℕ) (cs text : List ℕ) (result : Result (Option ReadLiteral) AllocError)
+pub literal_spaced : (with : PlainContext) (room c : ℕ) (cs text : List ℕ) (result : Result (Option ReadLiteral) AllocError)
     → is_whitespace with.readtable.now c ≡ true → c ∷ cs ≡ text
     → IfOk result (λ found. IfSome found (λ l. TakesItems with room cs (literal_of l.literal ∷ []) l.rest.now))
     → IfOk result (λ found. IfSome found (λ l. TakesItems with room text (literal_of l.literal ∷ []) l.rest.now))
@@ -176,31 +176,31 @@ still_both gives_both first next = λ e.
     let before = first later.0 in
     (before.0, gives_both before.1 later.1)
 
-pub same_there : (with : Context) (x y : Object) → x ≡ y → AreThere with x → AreThere with y
+pub same_there : (with : PlainContext) (x y : Object) → x ≡ y → AreThere with x → AreThere with y
 same_there with x y same there = subst (λ (x : Object). AreThere with x) same there
 
-pub two_there : (with : Context) (x y : Object) → AreThere with x → AreThere with y → AllAreThere with (x ∷ y ∷ [])
+pub two_there : (with : PlainContext) (x y : Object) → AreThere with x → AreThere with y → AllAreThere with (x ∷ y ∷ [])
 two_there with x y first next =
     let t = with.packages.now.0 in
     and_from (are_there t x) (are_there t y && true) first (and_from (are_there t y) true next refl)
 
-pub all_there : (with : Context) (x : Object) (ys : List Object) → IsSound with.packages.now.0 → AreThere with x → AllAreThere with ys
+pub all_there : (with : PlainContext) (x : Object) (ys : List Object) → IsSound with.packages.now.0 → AreThere with x → AllAreThere with ys
     → AreThere with (list_of (x ∷ ys))
 all_there with x ys sound first others =
     let t = with.packages.now.0 in
     list_there t (x ∷ ys) sound (and_from (are_there t x) (list_all (are_there t) ys) first others)
 
-pub quoted_there : (with : Context) (x : Object) → IsSound with.packages.now.0 → AreThere with x → AreThere with (quote_of x)
+pub quoted_there : (with : PlainContext) (x : Object) → IsSound with.packages.now.0 → AreThere with x → AreThere with (quote_of x)
 quoted_there with x sound there = headed_there with.packages.now.0 x sound there
 
-pub argument_there : (with : Context) (a b : Bool) (result : Result (Option ReadSymbol) AllocError) → IsSound with.packages.now.0
+pub argument_there : (with : PlainContext) (a b : Bool) (result : Result (Option ReadSymbol) AllocError) → IsSound with.packages.now.0
     → IfOk result (λ found. IfStill a b (IfSome found (λ s. AreThere with (named_symbol s.symbol))))
     → IfOk result (λ found. IfStill a b (IfSome found (λ s. AreThere with (quote_of (named_symbol s.symbol)))))
 argument_there with a b (Err e) sound known = tt
 argument_there with a b (Ok None) sound known = known
 argument_there with a b (Ok (Some s)) sound known = still (quoted_there with (named_symbol s.symbol) sound) known
 
-pub place_there : (with : Context) (a b c : Bool) (result : Result (Option ReadProperty) AllocError) → IsSound with.packages.now.0
+pub place_there : (with : PlainContext) (a b c : Bool) (result : Result (Option ReadProperty) AllocError) → IsSound with.packages.now.0
     → IfStill a b (AreThere with (lisp (codes "GET")))
     → IfOk result (λ found. IfStill b c (IfSome found (λ p. AllAreThere with (quoted_names p.property))))
     → IfOk result (λ found. IfStill a c (IfSome found (λ p. AreThere with (named_place p.property))))

@@ -11,7 +11,7 @@ use Rattle.lisp_reading.specs.Reading.{is_whitespace, attempt}
 use Rattle.plain_reader.specs.Coming.{ComesTo}
 use Rattle.plain_reader.specs.Plain.{setting, Gathers, Closes, TakesList, Puts, items_from}
 use Rattle.plain_reader.specs.Direct.{TakesObject}
-use Rattle.plain_reader.specs.declared.context.Context.{Context}
+use Rattle.plain_reader.specs.declared.context.PlainContext.{PlainContext}
 use Rattle.plain_reader.specs.declared.objects.ClosedList.{ClosedList}
 use Rattle.plain_reader.proofs.Calls.{list_taken, quote_taken}
 use Rattle.plain_reader.proofs.Coming.{onward}
@@ -34,7 +34,7 @@ object_at setting room xs ys (c ∷ cs) rest token x some other closes e comes =
     subst (λ ys. ComesTo setting (items_from setting room xs) (c ∷ cs) (items_from setting room ys) rest) (sym e)
     (object_items setting room xs c cs rest token x closes (ne_eqb c 41 other) comes)
 
-pub list_closes : (with : Context) (room : ℕ) (text rest : List ℕ) (xs : List Object) (result : Option ClosedList) → 0 < room
+pub list_closes : (with : PlainContext) (room : ℕ) (text rest : List ℕ) (xs : List Object) (result : Option ClosedList) → 0 < room
     → Gathers with (room - 1) [] text xs rest → ((setting : Setting) (room : ℕ) → IfSome result (λ g. Closes setting room xs rest g.rest.now))
     → IfSome result (λ g. g.items ≡ xs) → IfSome result (λ g. TakesList with room text g.items g.rest.now)
 list_closes with room text rest xs None some gathers closes items = tt
@@ -52,12 +52,12 @@ shorter_still text rest None within shorter = tt
 shorter_still text rest (Some g) within shorter = omega (arith, shorter)
 
 -- what an attempt takes is put to the items of a list
-pub put_object : (with : Context) (room : ℕ) (xs ys : List Object) (text rest : List ℕ) → 1 ≤ length text → (get_or text 0 0 ≡ 41 → ⊥)
+pub put_object : (with : PlainContext) (room : ℕ) (xs ys : List Object) (text rest : List ℕ) → 1 ≤ length text → (get_or text 0 0 ≡ 41 → ⊥)
     → is_whitespace with.readtable.now 41 ≡ false → Puts with room xs text ys rest → Gathers with room xs text ys rest
 put_object with room xs ys text rest some other closes puts = λ functions.
     object_at (setting with functions) room xs ys text rest puts.token puts.object some other closes puts.items (puts.takes functions)
 
-pub quote_at : (with : Context) (room : ℕ) (text rest : List ℕ) (token : Bool) (x : Object) (functions : _) → 0 < room → with.quotes ≡ true
+pub quote_at : (with : PlainContext) (room : ℕ) (text rest : List ℕ) (token : Bool) (x : Object) (functions : _) → 0 < room → with.quotes ≡ true
     → ((functions : _) → ComesTo (setting with functions) (attempt (setting with functions) (room - 1)) text (gives (one token x)) rest)
     → ComesTo (setting with functions) (attempt (setting with functions) room) (39 ∷ text) (gives (one token (headed (codes "QUOTE") x))) rest
 quote_at with room text rest token x functions some quotes takes =
@@ -67,7 +67,7 @@ quote_at with room text rest token x functions some quotes takes =
     (quote_taken here (room - 1) text rest token x with.sound (with.quoting quotes) (takes functions))
 
 -- an object that is read behind a quote is put to the items with its quote
-pub put_quote : (with : Context) (room : ℕ) (xs ys both : List Object) (x : Object) (text rest : List ℕ) → 0 < room → with.quotes ≡ true
+pub put_quote : (with : PlainContext) (room : ℕ) (xs ys both : List Object) (x : Object) (text rest : List ℕ) → 0 < room → with.quotes ≡ true
     → Puts with (room - 1) (symbol (codes "COMMON-LISP") (codes "QUOTE") ∷ []) text both rest → x ≡ list_of both → ys ≡ xs ++ x ∷ []
     → Puts with room xs (39 ∷ text) ys rest
 put_quote with room xs ys both x text rest some quotes puts is items = record {
@@ -78,7 +78,7 @@ put_quote with room xs ys both x text rest some quotes puts is items = record {
 }
 
 -- an object that alone is put to no items is what an attempt takes
-pub only_put : (with : Context) (room : ℕ) (text rest : List ℕ) (xs ys : List Object) (x : Object) → xs ≡ [] → ys ≡ x ∷ [] → Puts with room xs text ys rest
+pub only_put : (with : PlainContext) (room : ℕ) (text rest : List ℕ) (xs ys : List Object) (x : Object) → xs ≡ [] → ys ≡ x ∷ [] → Puts with room xs text ys rest
     → (token : Bool) × TakesObject with room text token x rest
 only_put with room text rest xs ys x none is puts =
     let same : x ≡ puts.object = ap (λ (l : List Object). get_or l 0 x) (sym is ∙ puts.items ∙ ap (λ (l : List Object). l ++ puts.object ∷ []) none) in (

@@ -20,16 +20,16 @@ use Rattle.token_meaning.specs.declared.refusal.MeaningRefusal.TheVariants.{Numb
 use Rattle.token_meaning.specs.declared.token.TokenName.TheVariants.{Unqualified}
 use Rattle.token_meaning.specs.Folding.{folded}
 use Rattle.token_meaning.specs.Numerals.{is_digit_in, is_empty, is_numeral, are_digits, value}
-use Rattle.token_meaning.specs.Numbers.{integer_of, number_of}
+use Rattle.token_meaning.specs.Numbers.{integer_of, number_in_base}
 use Rattle.token_meaning.specs.Grammar.{absent}
-use Rattle.token_meaning.specs.Meanings.{number, name, is_plain, is_package_marker, pattern, name_of, meaning_of}
+use Rattle.token_meaning.specs.Meanings.{number, name, is_unescaped, is_package_marker, pattern, name_of, meaning_of}
 use Rattle.token_meaning.proofs.NumberFronts.{begins_number, no_number}
 use Rattle.token_meaning.proofs.Spelled.{digits_given}
 use Rattle.package_table.specs.Resolving.{Resolution, home_of, resolution}
-use Rattle.lisp_reading.specs.Naming.{told_of, symbol_in}
+use Rattle.lisp_reading.specs.Naming.{told_meaning, symbol_in}
 use Rattle.lisp_reading.specs.declared.told.Told.TheVariants.{Object as told_object}
-use Rattle.plain_reader.specs.declared.context.Context.{Context}
-use Rattle.plain_reader.specs.Tokens.{marks_of, IsToken}
+use Rattle.plain_reader.specs.declared.context.PlainContext.{PlainContext}
+use Rattle.plain_reader.specs.Tokens.{marks_of_bytes, IsToken}
 use Rattle.plain_reader.specs.Words.{is_word}
 
 -- ---- characters beyond the digits
@@ -77,15 +77,15 @@ same_name bytes (Ok b) none is = is ∙ sym (no_lower bytes none)
 
 -- ---- marks of plain characters
 
-pub plain_all : (cs : List ℕ) → list_all is_plain (marks_of cs) ≡ true
+pub plain_all : (cs : List ℕ) → list_all is_unescaped (marks_of_bytes cs) ≡ true
 plain_all [] = refl
 plain_all (c ∷ cs) = plain_all cs
 
-pub plain_characters : (cs : List ℕ) → characters (marks_of cs) ≡ cs
+pub plain_characters : (cs : List ℕ) → characters (marks_of_bytes cs) ≡ cs
 plain_characters [] = refl
 plain_characters (c ∷ cs) = ap (λ (ds : List ℕ). c ∷ ds) (plain_characters cs)
 
-pub upcased : (cs : List ℕ) → folded Upcase (marks_of cs) ≡ marks_of (map upper_case cs)
+pub upcased : (cs : List ℕ) → folded Upcase (marks_of_bytes cs) ≡ marks_of_bytes (map upper_case cs)
 upcased [] = refl
 upcased (c ∷ cs) = ap (λ (ms : List Mark). Plain (upper_case c) ∷ ms) (upcased cs)
 
@@ -101,7 +101,7 @@ none_of false false e = (refl, refl)
 none_of true d e = absurd cc
 none_of false true e = absurd cc
 
-unmarked : (cs : List ℕ) → list_any (λ c. c == 58) cs ≡ false → list_any is_package_marker (marks_of (map upper_case cs)) ≡ false
+unmarked : (cs : List ℕ) → list_any (λ c. c == 58) cs ≡ false → list_any is_package_marker (marks_of_bytes (map upper_case cs)) ≡ false
 unmarked [] e = refl
 unmarked (c ∷ cs) e =
     let both : ((c == 58) ≡ false) × (list_any (λ c. c == 58) cs ≡ false) = none_of (c == 58) (list_any (λ c. c == 58) cs) e in
@@ -115,22 +115,22 @@ whole_part (m ∷ ms) h =
 
 -- ---- words
 
-by_first : (c : ℕ) (cs : List ℕ) → 58 ≤ c → meaning_of 10 (marks_of (c ∷ cs)) ≡ name_of (marks_of (c ∷ cs))
+by_first : (c : ℕ) (cs : List ℕ) → 58 ≤ c → meaning_of 10 (marks_of_bytes (c ∷ cs)) ≡ name_of (marks_of_bytes (c ∷ cs))
 by_first c cs h =
     let fails : begins_number c ≡ false = beyond c h in
     let no_point : (c == 46) ≡ false = ne_eqb c 46 (λ e. omega arith) in
-    let none : number_of 10 (c ∷ characters (marks_of cs)) ≡ None = no_number (c ∷ characters (marks_of cs)) fails in
+    let none : number_in_base 10 (c ∷ characters (marks_of_bytes cs)) ≡ None = no_number (c ∷ characters (marks_of_bytes cs)) fails in
     rw (plain_all cs, no_point, none) refl
 
-pub word_means : (cs : List ℕ) → is_word cs ≡ true → meaning_of 10 (folded Upcase (marks_of cs)) ≡ Ok (name (Unqualified (map upper_case cs)))
+pub word_means : (cs : List ℕ) → is_word cs ≡ true → meaning_of 10 (folded Upcase (marks_of_bytes cs)) ≡ Ok (name (Unqualified (map upper_case cs)))
 word_means [] e = absurd cc
 word_means (c ∷ cs) e =
     let both : (nat_lt 57 c ≡ true) × (not (list_any (λ c. c == 58) (c ∷ cs)) ≡ true) = and_parts (nat_lt 57 c) (not (list_any (λ c. c == 58) (c ∷ cs))) e in
     let above : 57 < c = ltb-true 57 c both.0 in
-    let none : list_any is_package_marker (marks_of (map upper_case (c ∷ cs))) ≡ false = unmarked (c ∷ cs) (not-true _ both.1) in
+    let none : list_any is_package_marker (marks_of_bytes (map upper_case (c ∷ cs))) ≡ false = unmarked (c ∷ cs) (not-true _ both.1) in
     ap (meaning_of 10) (upcased (c ∷ cs))
     ∙ by_first (upper_case c) (map upper_case cs) (upper_beyond c (omega arith))
-    ∙ ap pattern (whole_part (marks_of (map upper_case (c ∷ cs))) none)
+    ∙ ap pattern (whole_part (marks_of_bytes (map upper_case (c ∷ cs))) none)
     ∙ ap (λ (own : List ℕ). Ok (name (Unqualified own))) (plain_characters (map upper_case (c ∷ cs)))
 
 upper_ascii_by : (c : ℕ) (b : Bool) → nat_lt c 128 ≡ true → nat_lt (if b then c - 32 else c) 128 ≡ true
@@ -144,13 +144,13 @@ upper_ascii (c ∷ cs) e =
     and_from (is_ascii (upper_case c)) (list_all is_ascii (map upper_case cs)) (upper_ascii_by c (is_lower_case c) both.0) (upper_ascii cs both.1)
 
 -- a word is the symbol that its name is resolved to
-pub word_token : (with : Context) (bytes own : List ℕ) (r : Resolution) (x : Object) → with.standard ≡ true → is_word bytes ≡ true → own ≡ map upper_case bytes
+pub word_token : (with : PlainContext) (bytes own : List ℕ) (r : Resolution) (x : Object) → with.standard ≡ true → is_word bytes ≡ true → own ≡ map upper_case bytes
     → resolution with.packages.now.0 with.current.now own ≡ Ok r → x ≡ symbol (home_of r) own → IsToken with bytes x
 word_token with bytes own r x standard word e found is =
     let base : with.base ≡ 10 = with.numbers standard in
     let case : with.readtable.now.letters ≡ Upcase = with.case standard in
-    (λ i. told_of with.packages.now.0 with.current.now (meaning_of (base i) (folded (case i) (marks_of bytes))))
-    ∙ ap (told_of with.packages.now.0 with.current.now) (word_means bytes word)
+    (λ i. told_meaning with.packages.now.0 with.current.now (meaning_of (base i) (folded (case i) (marks_of_bytes bytes))))
+    ∙ ap (told_meaning with.packages.now.0 with.current.now) (word_means bytes word)
     ∙ ap (λ (own : List ℕ). symbol_in own (resolution with.packages.now.0 with.current.now own)) (sym e)
     ∙ ap (symbol_in own) found
     ∙ ap (λ (x : Object). Ok (told_object x)) (sym is)
@@ -217,29 +217,29 @@ same_digits (c ∷ cs) e =
 digit_no_point : (c : ℕ) → is_digit_in 10 c ≡ true → (c == 46) ≡ false
 digit_no_point c e = ne_eqb c 46 (λ same. let never : is_digit_in 10 46 ≡ true = ap (is_digit_in 10) (sym same) ∙ e in absurd cc)
 
-numeral_means : (cs : List ℕ) → is_numeral 10 cs ≡ true → value 10 cs < 2 ^ 127 → meaning_of 10 (marks_of cs) ≡ Ok (number (integer (pos (value 10 cs))))
+numeral_means : (cs : List ℕ) → is_numeral 10 cs ≡ true → value 10 cs < 2 ^ 127 → meaning_of 10 (marks_of_bytes cs) ≡ Ok (number (integer (pos (value 10 cs))))
 numeral_means [] e small = absurd cc
 numeral_means (c ∷ cs) e small =
     let both : (is_digit_in 10 c ≡ true) × (are_digits 10 cs ≡ true) = and_parts (is_digit_in 10 c) (are_digits 10 cs) e in
     let no_point : (c == 46) ≡ false = digit_no_point c both.0 in
-    let digits : number_of 10 (c ∷ cs) ≡ Some (integer_of false (value 10 (c ∷ cs))) =
+    let digits : number_in_base 10 (c ∷ cs) ≡ Some (integer_of false (value 10 (c ∷ cs))) =
     digits_given 10 (c ∷ cs) false (value 10 (c ∷ cs)) (lit≤ tt)
     (record { sign = absent; digits = c ∷ cs; numeral = e; parts = refl; below_zero = refl; worth = refl }) in
     let in_range : nat_lt (value 10 (c ∷ cs)) (2 ^ 127) ≡ true = lt-ltb (value 10 (c ∷ cs)) (2 ^ 127) small in
-    let given : number_of 10 (c ∷ characters (marks_of cs)) ≡ Some (Ok (integer (pos (value 10 (c ∷ cs))))) =
-    ap (λ (ds : List ℕ). number_of 10 (c ∷ ds)) (plain_characters cs) ∙ digits
+    let given : number_in_base 10 (c ∷ characters (marks_of_bytes cs)) ≡ Some (Ok (integer (pos (value 10 (c ∷ cs))))) =
+    ap (λ (ds : List ℕ). number_in_base 10 (c ∷ ds)) (plain_characters cs) ∙ digits
     ∙ ap (λ (b : Bool). Some (if b then Ok (integer (pos (value 10 (c ∷ cs)))) else Err NumberRange)) in_range in
     rw (plain_all cs, no_point, given) refl
 
-pub decimal_token : (with : Context) (bytes : List ℕ) (n : ℕ) (x : Object) → with.standard ≡ true → (is_numeral 10 bytes ≡ true) × (n ≡ value 10 bytes) → n < 2 ^ 64
+pub decimal_token : (with : PlainContext) (bytes : List ℕ) (n : ℕ) (x : Object) → with.standard ≡ true → (is_numeral 10 bytes ≡ true) × (n ≡ value 10 bytes) → n < 2 ^ 64
     → x ≡ integer (pos n) → IsToken with bytes x
 decimal_token with bytes n x standard is small e =
     let base : with.base ≡ 10 = with.numbers standard in
     let case : with.readtable.now.letters ≡ Upcase = with.case standard in
     let digits : are_digits 10 bytes ≡ true = (and_parts (not (is_empty bytes)) (are_digits 10 bytes) is.0).1 in
     let low : value 10 bytes < 2 ^ 127 = let worth = is.1 in omega arith in
-    (λ i. told_of with.packages.now.0 with.current.now (meaning_of (base i) (folded (case i) (marks_of bytes))))
-    ∙ ap (λ ms. told_of with.packages.now.0 with.current.now (meaning_of 10 ms)) (upcased bytes ∙ ap marks_of (same_digits bytes digits))
-    ∙ ap (told_of with.packages.now.0 with.current.now) (numeral_means bytes is.0 low)
+    (λ i. told_meaning with.packages.now.0 with.current.now (meaning_of (base i) (folded (case i) (marks_of_bytes bytes))))
+    ∙ ap (λ ms. told_meaning with.packages.now.0 with.current.now (meaning_of 10 ms)) (upcased bytes ∙ ap marks_of_bytes (same_digits bytes digits))
+    ∙ ap (told_meaning with.packages.now.0 with.current.now) (numeral_means bytes is.0 low)
     ∙ ap (λ (n : ℕ). Ok (told_object (integer (pos n)))) (sym is.1)
     ∙ ap (λ (x : Object). Ok (told_object x)) (sym e)

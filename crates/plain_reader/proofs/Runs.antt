@@ -16,7 +16,7 @@ use Rattle.readtable_core.specs.declared.characters.Syntax.TheVariants.{Constitu
 use Rattle.token_scan.specs.declared.mark.Mark.{Mark}
 use Rattle.token_scan.specs.declared.mark.Mark.TheVariants.{Plain}
 use Rattle.token_scan.specs.Marks.{are_ascii}
-use Rattle.token_scan.specs.Spelling.{is_plain, ends_tokens}
+use Rattle.token_scan.specs.Spelling.{is_plain_syntax, ends_tokens}
 use Rattle.token_scan.specs.Tokens.{TypedByte, kind, typed, typed_text, outside, plain, with_front, in_bytes, token_in, ScannedBytes}
 use Rattle.token_scan.proofs.Steps.{outside_ends, outside_plain, room, plain_taken}
 use Rattle.lisp_reading.specs.declared.found.Found.TheVariants.{One as one}
@@ -28,7 +28,7 @@ use Rattle.lisp_reading.specs.Plans.{Plan, Read, gives, scans, limited, scanned,
 use Rattle.lisp_reading.specs.Setting.{Setting}
 use Rattle.lisp_reading.specs.Reading.{stands_alone, alone, told_found, token_found, inner, attempt}
 use Rattle.plain_reader.specs.Coming.{ComesTo}
-use Rattle.plain_reader.specs.Tokens.{is_constituent, is_part, ends_before, IsRun, marks_of}
+use Rattle.plain_reader.specs.Tokens.{is_constituent, is_part, ends_before, IsTokenRun, marks_of_bytes}
 use Rattle.plain_reader.proofs.Coming.{onward, passed}
 
 constituent : (s : Syntax) → is_constituent s ≡ true → s ≡ Constituent
@@ -51,27 +51,27 @@ module _ (table : Table) where
 
   run_gives : (bs : List ℕ) (d : ℕ) (ds : List ℕ) (left at : ℕ) → list_all (is_part table) bs ≡ true → length bs ≤ left
       → ends_tokens (kind (typed table d)) ≡ true
-      → outside left at (typed_text table (bs ++ d ∷ ds)) ≡ Ok (marks_of bs, at + length bs, typed_text table (d ∷ ds))
+      → outside left at (typed_text table (bs ++ d ∷ ds)) ≡ Ok (marks_of_bytes bs, at + length bs, typed_text table (d ∷ ds))
   run_gives [] d ds left at parts fits ends = outside_ends (typed table d) (typed_text table ds) left at ends
       ∙ (let e : at ≡ at + length {A = ℕ} [] = omega arith in ap (λ (n : ℕ). Ok ([], n, typed_text table (d ∷ ds))) e)
   run_gives (b ∷ bs) d ds left at parts fits ends =
       let both : (is_part table b ≡ true) × (list_all (is_part table) bs ≡ true) = and_parts (is_part table b) (list_all (is_part table) bs) parts in
-      let plainly : IsTrue (is_plain (kind (typed table b))) = subst (λ s. IsTrue (is_plain s)) (sym (part_kind b both.0)) refl in
+      let plainly : IsTrue (is_plain_syntax (kind (typed table b))) = subst (λ s. IsTrue (is_plain_syntax s)) (sym (part_kind b both.0)) refl in
       outside_plain (typed table b) (typed_text table (bs ++ d ∷ ds)) left at plainly
       ∙ room left at (λ left. plain b at (outside left (at + 1) (typed_text table (bs ++ d ∷ ds)))) (omega arith)
       ∙ plain_taken b left at (outside (left - 1) (at + 1) (typed_text table (bs ++ d ∷ ds))) (part_trait b both.0)
       ∙ ap (with_front (Plain b ∷ [])) (run_gives bs d ds (left - 1) (at + 1) both.1 (omega arith) ends)
-      ∙ (let e : at + 1 + length bs ≡ at + length (b ∷ bs) = omega arith in ap (λ (n : ℕ). Ok (marks_of (b ∷ bs), n, typed_text table (d ∷ ds))) e)
+      ∙ (let e : at + 1 + length bs ≡ at + length (b ∷ bs) = omega arith in ap (λ (n : ℕ). Ok (marks_of_bytes (b ∷ bs), n, typed_text table (d ∷ ds))) e)
 
   bytes_back : (cs : List ℕ) → map (λ (x : TypedByte). x.byte) (typed_text table cs) ≡ cs
   bytes_back [] = refl
   bytes_back (c ∷ cs) = ap (λ (xs : List ℕ). c ∷ xs) (bytes_back cs)
 
   token_gives : (bs : List ℕ) (d : ℕ) (ds : List ℕ) (limit at : ℕ) → list_all (is_part table) bs ≡ true → length bs ≤ limit
-      → ends_tokens (kind (typed table d)) ≡ true → token_in table limit at (bs ++ d ∷ ds) ≡ Ok (marks_of bs, at + length bs, d ∷ ds)
+      → ends_tokens (kind (typed table d)) ≡ true → token_in table limit at (bs ++ d ∷ ds) ≡ Ok (marks_of_bytes bs, at + length bs, d ∷ ds)
   token_gives bs d ds limit at parts fits ends =
       ap in_bytes (run_gives bs d ds limit at parts fits ends)
-      ∙ ap (λ (xs : List ℕ). Ok (marks_of bs, at + length bs, d ∷ xs)) (bytes_back ds)
+      ∙ ap (λ (xs : List ℕ). Ok (marks_of_bytes bs, at + length bs, d ∷ xs)) (bytes_back ds)
 
 -- what follows a token that was scanned, up to the limit
 follows : {A : Type 0} (setting : Setting) (on : List Mark → Plan A) (r : ScannedBytes) (marks : List Mark) (at : ℕ) (cs : List ℕ) (b : Bool) → r ≡ Ok (marks, at, cs)
@@ -86,7 +86,7 @@ follows {A = A} setting on r marks at cs b e is holds =
 module _ (setting : Setting) where
   scanned_token : {A : Type 0} (on : List Mark → Plan A) (bs : List ℕ) (d : ℕ) (ds : List ℕ) → list_all (is_part setting.table) bs ≡ true
       → length bs ≤ setting.limits.token → ends_tokens (kind (typed setting.table d)) ≡ true
-      → ComesTo setting (scans false setting.limits.token on) (bs ++ d ∷ ds) (on (marks_of bs)) (d ∷ ds)
+      → ComesTo setting (scans false setting.limits.token on) (bs ++ d ∷ ds) (on (marks_of_bytes bs)) (d ∷ ds)
   unfolding run
   scanned_token on bs d ds parts fits ends =
       let whole : length (bs ++ d ∷ ds) ≡ length bs + length (d ∷ ds) = length-append bs (d ∷ ds) in
@@ -95,16 +95,16 @@ module _ (setting : Setting) where
         goes = λ at more le.
             let text : (bs ++ d ∷ ds) ++ more ≡ bs ++ (d ∷ (ds ++ more)) = append_assoc bs (d ∷ ds) more in
             let low : at + length bs ≤ setting.limits.text = omega arith in
-            follows setting on (scanned false setting.table setting.limits.token at ((bs ++ d ∷ ds) ++ more)) (marks_of bs) (at + length bs) (d ∷ (ds ++ more))
+            follows setting on (scanned false setting.table setting.limits.token at ((bs ++ d ∷ ds) ++ more)) (marks_of_bytes bs) (at + length bs) (d ∷ (ds ++ more))
             (nat_le (at + length bs) setting.limits.text)
             (ap (token_in setting.table setting.limits.token at) text ∙ token_gives setting.table bs d (ds ++ more) setting.limits.token at parts fits ends) refl
             (le-leb (at + length bs) setting.limits.text low)
             ∙ (let e : at + length bs ≡ at + (length (bs ++ d ∷ ds) - length (d ∷ ds)) = omega arith in
-            ap (λ n. run setting.table setting.limits (on (marks_of bs)) n (d ∷ (ds ++ more))) e);
+            ap (λ n. run setting.table setting.limits (on (marks_of_bytes bs)) n (d ∷ (ds ++ more))) e);
       }
 
   whole_token : (room : ℕ) (bs : List ℕ) (d : ℕ) (ds : List ℕ) (x : Object) → list_all (is_part setting.table) bs ≡ true → 0 < length bs
-      → length bs ≤ setting.limits.token → ends_tokens (kind (typed setting.table d)) ≡ true → told setting (marks_of bs) ≡ Ok (told_object x)
+      → length bs ≤ setting.limits.token → ends_tokens (kind (typed setting.table d)) ≡ true → told setting (marks_of_bytes bs) ≡ Ok (told_object x)
       → ComesTo setting (attempt setting room) (bs ++ d ∷ ds) (gives (one true x)) (d ∷ ds)
   whole_token room [] d ds x parts some fits ends means = absurd (omega arith)
   whole_token room (b ∷ bs) d ds x parts some fits ends means =
@@ -117,14 +117,14 @@ module _ (setting : Setting) where
       (scanned_token (token_found setting) (b ∷ bs) d ds parts fits ends))
 
   ended_token : (room : ℕ) (bs cs : List ℕ) (x : Object) → list_all (is_part setting.table) bs ≡ true → 0 < length bs
-      → length bs ≤ setting.limits.token → ends_before setting.table cs ≡ true → told setting (marks_of bs) ≡ Ok (told_object x)
+      → length bs ≤ setting.limits.token → ends_before setting.table cs ≡ true → told setting (marks_of_bytes bs) ≡ Ok (told_object x)
       → ComesTo setting (attempt setting room) (bs ++ cs) (gives (one true x)) cs
   ended_token room bs [] x parts some fits ends means = absurd cc
   ended_token room bs (d ∷ ds) x parts some fits ends means = whole_token room bs d ds x parts some fits ends means
 
   -- a token at the front of a text
-  pub token_taken : (room count : ℕ) (text : List ℕ) (x : Object) → IsRun setting.table text count → 0 < count → count < length text → count ≤ setting.limits.token
-      → told setting (marks_of (take count text)) ≡ Ok (told_object x) → ComesTo setting (attempt setting room) text (gives (one true x)) (drop count text)
+  pub token_taken : (room count : ℕ) (text : List ℕ) (x : Object) → IsTokenRun setting.table text count → 0 < count → count < length text → count ≤ setting.limits.token
+      → told setting (marks_of_bytes (take count text)) ≡ Ok (told_object x) → ComesTo setting (attempt setting room) text (gives (one true x)) (drop count text)
   token_taken room count text x is some below fits means =
       let size : length (take count text) ≡ count = length-take-le count text (omega arith) in
       subst (λ cs. ComesTo setting (attempt setting room) cs (gives (one true x)) (drop count text)) (take-append-drop count text)
@@ -152,14 +152,14 @@ module _ (table : Table) where
       (and_from (is_constituent (kind (typed table (get_or text i 0)))) (not (has_invalid_trait (get_or text i 0))) (ap is_constituent is) (ap not trait))
 
   pub run_here : (text : List ℕ) (i : ℕ) → i < length text → list_all (is_part table) (take i text) ≡ true
-      → ends_tokens (kind (typed table (get_or text i 0))) ≡ true → IsRun table text i
+      → ends_tokens (kind (typed table (get_or text i 0))) ≡ true → IsTokenRun table text i
   run_here text i lt before ends = record { parts = before; ends = at_drop_more (ends_before table) text i 0 lt ∙ ends }
 
-pub marks_ascii : (bs : List ℕ) → list_all is_ascii bs ≡ true → are_ascii (marks_of bs) ≡ true
+pub marks_ascii : (bs : List ℕ) → list_all is_ascii bs ≡ true → are_ascii (marks_of_bytes bs) ≡ true
 marks_ascii [] e = refl
 marks_ascii (b ∷ bs) e =
     let both : (is_ascii b ≡ true) × (list_all is_ascii bs ≡ true) = and_parts (is_ascii b) (list_all is_ascii bs) e in
-    and_from (is_ascii b) (are_ascii (marks_of bs)) both.0 (marks_ascii bs both.1)
+    and_from (is_ascii b) (are_ascii (marks_of_bytes bs)) both.0 (marks_ascii bs both.1)
 
 -- ---- which bytes are refused
 

@@ -23,7 +23,7 @@ use Rattle.package_table.proofs.Frames.{equal_itself}
 use Rattle.package_table.proofs.Names.{same_some, none_some}
 use Rattle.package_table.proofs.Keeping.{present_at_home}
 use Rattle.std_macros.specs.Values.{headed}
-use Rattle.plain_reader.specs.declared.context.Context.{Context}
+use Rattle.plain_reader.specs.declared.context.PlainContext.{PlainContext}
 use Rattle.plain_reader.specs.declared.objects.ClosedList.{ClosedList}
 use Rattle.plain_reader.specs.Plain.{AreThere, AllAreThere, IfStill}
 
@@ -80,13 +80,13 @@ headed_there t x sound there =
 pub more_there : (t : Table) (xs : List Object) (x : Object) → list_all (are_there t) xs ≡ true → are_there t x ≡ true → list_all (are_there t) (xs ++ x ∷ []) ≡ true
 more_there t xs x all there = list_all-append (are_there t) xs (x ∷ []) ∙ both (list_all (are_there t) xs) (are_there t x && true) all (both (are_there t x) true there refl)
 
-pub still_list : (with : Context) (xs : List Object) (before after : Bool) (result : Option ClosedList)
+pub still_list : (with : PlainContext) (xs : List Object) (before after : Bool) (result : Option ClosedList)
     → IfSome result (λ g. g.items ≡ xs) → IfStill before after (AllAreThere with xs) → IfStill before after (IfSome result (λ g. AllAreThere with g.items))
 still_list with xs before after None items still = λ e. ((still e).0, tt)
 still_list with xs before after (Some g) items still = λ e. ((still e).0, subst (λ (ys : List Object). AllAreThere with ys) (sym items) (still e).1)
 
 -- a quoted object is there, and it is put to items that are
-pub quoted_put : (with : Context) (xs ys pair_of : List Object) (x : Object) (before after : Bool) → IsSound with.packages.now.0 → x ≡ list_of pair_of → ys ≡ xs ++ x ∷ []
+pub quoted_put : (with : PlainContext) (xs ys pair_of : List Object) (x : Object) (before after : Bool) → IsSound with.packages.now.0 → x ≡ list_of pair_of → ys ≡ xs ++ x ∷ []
     → IfStill before after (AllAreThere with (symbol common_lisp (codes "QUOTE") ∷ []) → AllAreThere with pair_of)
     → IfStill before after (AllAreThere with xs → AllAreThere with ys)
 quoted_put with xs ys pair_of x before after sound is items still = λ e. (
@@ -99,7 +99,7 @@ quoted_put with xs ys pair_of x before after sound is items still = λ e. (
 )
 
 -- one more object that is there is put to items
-pub one_put : (with : Context) (xs ys : List Object) (x : Object) (before after : Bool) → ys ≡ xs ++ x ∷ [] → IfStill before after (AreThere with x)
+pub one_put : (with : PlainContext) (xs ys : List Object) (x : Object) (before after : Bool) → ys ≡ xs ++ x ∷ [] → IfStill before after (AreThere with x)
     → IfStill before after (AllAreThere with xs → AllAreThere with ys)
 one_put with xs ys x before after items still = λ e. (
   (still e).0,
@@ -107,14 +107,14 @@ one_put with xs ys x before after items still = λ e. (
 )
 
 -- a list of objects that are there is put to items
-pub list_put : (with : Context) (xs ys inner : List Object) (x : Object) (before after : Bool) → IsSound with.packages.now.0 → x ≡ list_of inner → ys ≡ xs ++ x ∷ []
+pub list_put : (with : PlainContext) (xs ys inner : List Object) (x : Object) (before after : Bool) → IsSound with.packages.now.0 → x ≡ list_of inner → ys ≡ xs ++ x ∷ []
     → IfStill before after (AllAreThere with inner) → IfStill before after (AllAreThere with xs → AllAreThere with ys)
 list_put with xs ys inner x before after sound is items still =
     one_put with xs ys x before after items
     (λ e. ((still e).0, subst (λ (x : Object). are_there with.packages.now.0 x ≡ true) (sym is) (list_there with.packages.now.0 inner sound (still e).1)))
 
 -- an object that alone is put to no items is there
-pub only_there : (with : Context) (xs ys : List Object) (x : Object) (before after : Bool) → xs ≡ [] → ys ≡ x ∷ []
+pub only_there : (with : PlainContext) (xs ys : List Object) (x : Object) (before after : Bool) → xs ≡ [] → ys ≡ x ∷ []
     → IfStill before after (AllAreThere with xs → AllAreThere with ys) → IfStill before after (AreThere with x)
 only_there with xs ys x before after none is still = λ e. (
   (still e).0,

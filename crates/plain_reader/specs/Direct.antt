@@ -8,7 +8,7 @@ use Rattle.user_macros.specs.Functions.{Functions}
 use Rattle.lisp_reading.specs.declared.found.Found.TheVariants.{One as one}
 use Rattle.lisp_reading.specs.Plans.{gives}
 use Rattle.lisp_reading.specs.Reading.{attempt}
-use Rattle.plain_reader.specs.declared.context.Context.{Context}
+use Rattle.plain_reader.specs.declared.context.PlainContext.{PlainContext}
 use Rattle.plain_reader.specs.declared.direct.NamedSymbol.{NamedSymbol}
 use Rattle.plain_reader.specs.declared.direct.NamedProperty.{NamedProperty}
 use Rattle.plain_reader.specs.declared.direct.Literal.{Literal}
@@ -52,16 +52,16 @@ object_of_direct (Setf property literal) = list_of (lisp (codes "SETF") ∷ setf
 -- ---- what each call takes from the text
 
 -- an attempt at an object where so many calls may be opened takes this from the text, whatever the functions are
-abbrev pub TakesObject : Context → ℕ → List ℕ → Bool → Object → List ℕ → Type 0
+abbrev pub TakesObject : PlainContext → ℕ → List ℕ → Bool → Object → List ℕ → Type 0
 TakesObject with room text token x rest =
     (functions : Functions) → ComesTo (setting with functions) (attempt (setting with functions) room) text (gives (one token x)) rest
 
 -- the items of a list go on from this text with these
-abbrev pub TakesItems : Context → ℕ → List ℕ → List Object → List ℕ → Type 0
+abbrev pub TakesItems : PlainContext → ℕ → List ℕ → List Object → List ℕ → Type 0
 TakesItems with room text ys rest = (xs : List Object) → Gathers with room xs text (xs ++ ys) rest
 
 -- these are the last items of a list, whose end comes after them
-abbrev pub EndsList : Context → ℕ → List ℕ → List Object → List ℕ → Type 0
+abbrev pub EndsList : PlainContext → ℕ → List ℕ → List Object → List ℕ → Type 0
 EndsList with room text ys rest =
     (xs : List Object) (functions : Functions)
     → ComesTo (setting with functions) (items_from (setting with functions) room xs) text (gives (xs ++ ys, true)) rest

@@ -8,16 +8,16 @@ use Rattle.lisp_reading.specs.declared.found.Found.TheVariants.{One as one}
 use Rattle.lisp_reading.specs.Plans.{Plan, gives}
 use Rattle.lisp_reading.specs.Setting.{Setting, setting_of}
 use Rattle.lisp_reading.specs.Reading.{Items, attempt, items_after}
-use Rattle.plain_reader.specs.declared.context.Context.{Context}
+use Rattle.plain_reader.specs.declared.context.PlainContext.{PlainContext}
 use Rattle.plain_reader.specs.declared.objects.Taken.{Taken}
 use Rattle.plain_reader.specs.Coming.{ComesTo}
 
 -- reading with this, where these are the functions of users
-abbrev pub setting : Context → Functions → Setting
+abbrev pub setting : PlainContext → Functions → Setting
 setting with functions = setting_of with.limits with.readtable.now with.base with.packages.now.0 with.current.now functions
 
 -- an attempt at an object where so many calls may be opened takes this from the text, whatever the functions are
-abbrev pub Takes : Context → ℕ → List ℕ → Taken → Type 0
+abbrev pub Takes : PlainContext → ℕ → List ℕ → Taken → Type 0
 Takes with room text t =
     (functions : Functions) → let setting = setting with functions in
     ComesTo setting (attempt setting room) text (gives (one t.token t.object)) t.rest.now
@@ -27,7 +27,7 @@ abbrev pub items_from : Setting → ℕ → List Object → Plan Items
 items_from setting room xs = items_after setting 41 (attempt setting room) xs
 
 -- a list goes on from these items and this text with those, whatever the functions are
-abbrev pub Gathers : Context → ℕ → List Object → List ℕ → List Object → List ℕ → Type 0
+abbrev pub Gathers : PlainContext → ℕ → List Object → List ℕ → List Object → List ℕ → Type 0
 Gathers with room xs text ys rest =
     (functions : Functions) → let setting = setting with functions in
     ComesTo setting (items_from setting room xs) text (items_from setting room ys) rest
@@ -37,27 +37,27 @@ abbrev pub Closes : Setting → ℕ → List Object → List ℕ → List ℕ �
 Closes setting room xs text rest = ComesTo setting (items_from setting room xs) text (gives (xs, true)) rest
 
 -- a list whose opening parenthesis was before the text, where so many calls may be opened, has these items, whatever the functions are
-abbrev pub TakesList : Context → ℕ → List ℕ → List Object → List ℕ → Type 0
+abbrev pub TakesList : PlainContext → ℕ → List ℕ → List Object → List ℕ → Type 0
 TakesList with room text xs rest =
     (functions : Functions) → let setting = setting with functions in
     ComesTo setting (attempt setting room) (40 ∷ text) (gives (one false (list_of xs))) rest
 
 -- an object that an attempt takes from the text is put behind these items, whatever the functions are
-pub record Puts (with : Context) (room : ℕ) (xs : List Object) (text : List ℕ) (ys : List Object) (rest : List ℕ) : Type 0 where
+pub record Puts (with : PlainContext) (room : ℕ) (xs : List Object) (text : List ℕ) (ys : List Object) (rest : List ℕ) : Type 0 where
   pub token : Bool
   pub object : Object
   pub items : ys ≡ xs ++ object ∷ []
   pub takes : (functions : Functions) → ComesTo (setting with functions) (attempt (setting with functions) room) text (gives (one token object)) rest
 
 -- less of the text is left
-abbrev pub LeavesLess : List ℕ → Taken → Type 0
-LeavesLess text t = length t.rest.now < length text
+abbrev pub LeavesLessText : List ℕ → Taken → Type 0
+LeavesLessText text t = length t.rest.now < length text
 
 -- each interned symbol of an object, and of these objects, is one of the packages
-abbrev pub AreThere : Context → Object → Type 0
+abbrev pub AreThere : PlainContext → Object → Type 0
 AreThere with x = are_there with.packages.now.0 x ≡ true
 
-abbrev pub AllAreThere : Context → List Object → Type 0
+abbrev pub AllAreThere : PlainContext → List Object → Type 0
 AllAreThere with xs = list_all (are_there with.packages.now.0) xs ≡ true
 
 -- where all symbols are still known after a call, they were known before it, and this holds

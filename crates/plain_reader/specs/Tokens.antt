@@ -12,9 +12,9 @@ use Rattle.token_scan.specs.Spelling.{ends_tokens}
 use Rattle.token_scan.specs.Tokens.{typed, kind}
 use Rattle.token_meaning.specs.Folding.{folded}
 use Rattle.token_meaning.specs.Meanings.{meaning_of}
-use Rattle.lisp_reading.specs.Naming.{told_of}
+use Rattle.lisp_reading.specs.Naming.{told_meaning}
 use Rattle.lisp_reading.specs.declared.told.Told.TheVariants.{Object as told_object}
-use Rattle.plain_reader.specs.declared.context.Context.{Context}
+use Rattle.plain_reader.specs.declared.context.PlainContext.{PlainContext}
 
 abbrev pub is_constituent : Syntax → Bool
 is_constituent Constituent = true
@@ -30,15 +30,15 @@ ends_before table [] = false
 ends_before table (c ∷ cs) = ends_tokens (kind (typed table c))
 
 -- so many bytes at the front of the text are parts of a token, and it ends before the rest
-pub record IsRun (table : Table) (text : List ℕ) (count : ℕ) : Type 0 where
+pub record IsTokenRun (table : Table) (text : List ℕ) (count : ℕ) : Type 0 where
   pub parts : list_all (is_part table) (take count text) ≡ true
   pub ends : ends_before table (drop count text) ≡ true
 
 -- the marks of a token that is written in these bytes
-abbrev pub marks_of : List ℕ → List Mark
-marks_of bytes = map (λ c. Plain c) bytes
+abbrev pub marks_of_bytes : List ℕ → List Mark
+marks_of_bytes bytes = map (λ c. Plain c) bytes
 
 -- a token of these bytes is this object
-abbrev pub IsToken : Context → List ℕ → Object → Type 0
+abbrev pub IsToken : PlainContext → List ℕ → Object → Type 0
 IsToken with bytes x =
-    told_of with.packages.now.0 with.current.now (meaning_of with.base (folded with.readtable.now.letters (marks_of bytes))) ≡ Ok (told_object x)
+    told_meaning with.packages.now.0 with.current.now (meaning_of with.base (folded with.readtable.now.letters (marks_of_bytes bytes))) ≡ Ok (told_object x)

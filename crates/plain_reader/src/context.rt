@@ -16,7 +16,7 @@ use std::alloc::Global;
 /// the current one, which is one of them, by its name and as it was found. The tests say whether the base is 10 and letters become
 /// upper-case ones, and whether a quote has its standard function.
 #[derive(Drop)]
-pub(crate) struct Context<'a> {
+pub(crate) struct PlainContext<'a> {
     pub alloc: Global,
     pub limits: Limits,
     pub readtable: &'a Readtable,

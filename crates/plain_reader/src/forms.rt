@@ -5,7 +5,7 @@ ghost use Rattle.lisp_object.specs.Datum.{object_of};
 ghost use Rattle.plain_reader.specs.Plain.{AllAreThere, AreThere, IfStill};
 ghost use Rattle.plain_reader.specs.Direct.{setf_arguments, object_of_direct, EndsList, TakesObject};
 
-use crate::context::Context;
+use crate::context::PlainContext;
 use crate::direct::{DirectForm, Literal, NamedProperty};
 use crate::literals::literal;
 use crate::properties::{operator, place, spaced_place};
@@ -21,7 +21,7 @@ pub(crate) struct TakenForm<'a> {
 
 /// The form whose opening parenthesis was before the text, where it need not be made and `room` calls may be opened.
 pub(crate) fn direct<'a>(
-    with: &Context<'_>,
+    with: &PlainContext<'_>,
     room: u32,
     known: &mut bool,
     text: &'a [u8],
@@ -44,7 +44,7 @@ pub(crate) fn direct<'a>(
 
 // The same, where it is GET.
 fn get<'a>(
-    with: &Context<'_>,
+    with: &PlainContext<'_>,
     room: u32,
     known: &mut bool,
     text: &'a [u8],
@@ -69,7 +69,7 @@ fn get<'a>(
 
 // The same, where it is SETF.
 fn setf<'a>(
-    with: &Context<'_>,
+    with: &PlainContext<'_>,
     room: u32,
     known: &mut bool,
     text: &'a [u8],
@@ -109,7 +109,7 @@ struct ReadAssignment<'a> {
 
 // The arguments of SETF, and the end of its list.
 fn assignment<'a>(
-    with: &Context<'_>,
+    with: &PlainContext<'_>,
     room: u32,
     known: &mut bool,
     text: &'a [u8],

@@ -6,7 +6,7 @@ ghost use Rattle.plain_reader.specs.Plain.{AreThere, IfStill, Takes};
 ghost use Rattle.plain_reader.specs.Direct.{literal_of, TakesItems};
 ghost use Rattle.plain_reader.specs.SelfEvaluating.{is_self_evaluating};
 
-use crate::context::Context;
+use crate::context::PlainContext;
 use crate::direct::Literal;
 use crate::objects::{Taken, is_blank, put, spells, string};
 use crate::tokens::token;
@@ -23,7 +23,7 @@ pub(crate) struct ReadLiteral<'a> {
 
 /// The literal behind whitespace, as the next item of a list, where `room` calls may be opened.
 pub(crate) fn literal<'a>(
-    with: &Context<'_>,
+    with: &PlainContext<'_>,
     room: u32,
     known: &mut bool,
     text: &'a [u8],
@@ -49,7 +49,7 @@ pub(crate) fn literal<'a>(
 
 // What is quoted, where the quote was before the text, as the next item of a list.
 fn quoted<'a>(
-    with: &Context<'_>,
+    with: &PlainContext<'_>,
     room: u32,
     known: &mut bool,
     text: &'a [u8],
@@ -100,7 +100,7 @@ fn only(items: HeldObjects) -> Option<HeldObject>
 
 // What evaluates to itself, as the next item of a list.
 fn itself<'a>(
-    with: &Context<'_>,
+    with: &PlainContext<'_>,
     known: &mut bool,
     text: &'a [u8],
 ) -> Result<Option<ReadLiteral<'a>>, AllocError>
@@ -138,7 +138,7 @@ fn itself<'a>(
 
 // A text or a token at the front of the text.
 fn atom<'a>(
-    with: &Context<'_>,
+    with: &PlainContext<'_>,
     known: &mut bool,
     text: &'a [u8],
 ) -> Result<Option<Taken<'a>>, AllocError>

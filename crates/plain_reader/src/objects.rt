@@ -6,10 +6,10 @@ ghost use Rattle.readtable_core.specs.Tables.{entry_at};
 ghost use Rattle.lisp_reading.specs.Gathering.{is_escape};
 ghost use Rattle.lisp_reading.specs.Setting.{Setting};
 ghost use Rattle.lisp_reading.specs.Reading.{is_whitespace};
-ghost use Rattle.plain_reader.specs.Plain.{Takes, TakesList, Puts, Gathers, Closes, LeavesLess, AreThere, AllAreThere, IfStill};
+ghost use Rattle.plain_reader.specs.Plain.{Takes, TakesList, Puts, Gathers, Closes, LeavesLessText, AreThere, AllAreThere, IfStill};
 ghost use Rattle.plain_reader.specs.Texts.{is_letter, IsText};
 
-use crate::context::Context;
+use crate::context::PlainContext;
 use crate::tokens::put_token;
 use lisp_object::Bytes;
 use lisp_reading::{HeldObject, HeldObjects};
@@ -36,7 +36,7 @@ pub(crate) struct ClosedList<'a> {
 /// Gives the text after it. `known` becomes false where it has a symbol that is in no package, or may be in none.
 #[cycle(objects)]
 pub(crate) fn put<'a>(
-    with: &Context<'_>,
+    with: &PlainContext<'_>,
     room: u32,
     known: &mut bool,
     items: &mut HeldObjects,
@@ -61,7 +61,7 @@ pub(crate) fn put<'a>(
 // A list is put to the items, whose opening parenthesis was before the text.
 #[cycle(objects)]
 fn put_list<'a>(
-    with: &Context<'_>,
+    with: &PlainContext<'_>,
     room: u32,
     known: &mut bool,
     items: &mut HeldObjects,
@@ -90,7 +90,7 @@ fn put_list<'a>(
 #[cycle(objects)]
 #[inline(never)]
 pub(crate) fn list<'a>(
-    with: &Context<'_>,
+    with: &PlainContext<'_>,
     room: u32,
     known: &mut bool,
     text: &'a [u8],
@@ -117,7 +117,7 @@ pub(crate) fn list<'a>(
 #[cycle(objects)]
 #[inline(always)]
 fn item<'a>(
-    with: &Context<'_>,
+    with: &PlainContext<'_>,
     room: u32,
     known: &mut bool,
     items: &mut HeldObjects,
@@ -158,7 +158,7 @@ fn close<'a>(items: HeldObjects, text: &'a [u8]) -> Option<ClosedList<'a>>
 // A quoted object is put to the items, whose quote was before the text.
 #[cycle(objects)]
 fn put_quoted<'a>(
-    with: &Context<'_>,
+    with: &PlainContext<'_>,
     room: u32,
     known: &mut bool,
     items: &mut HeldObjects,
@@ -203,7 +203,7 @@ fn quotation(alloc: Global) -> Result<HeldObjects, AllocError>
 // A text is put to the items, whose first double quote was before the text.
 #[inline(never)]
 fn put_string<'a>(
-    with: &Context<'_>,
+    with: &PlainContext<'_>,
     items: &mut HeldObjects,
     text: &'a [u8],
 ) -> Result<Option<&'a [u8]>, AllocError>
@@ -228,14 +228,14 @@ fn put_string<'a>(
 /// A text without escapes, whose first double quote was before it.
 #[inline(never)]
 pub(crate) fn string<'a>(
-    with: &Context<'_>,
+    with: &PlainContext<'_>,
     text: &'a [u8],
 ) -> Result<Option<Taken<'a>>, AllocError>
     requires { (entry_at with.now.readtable.now 34).function ≡ Some std_string }
     ensures takes { (room : ℕ)
         → IfOk result (λ found. IfSome found (Takes with.now room (34 ∷ text.now))) }
     ensures there { IfOk result (λ found. IfSome found (λ t. AreThere with.now t.object)) }
-    ensures shorter { IfOk result (λ found. IfSome found (LeavesLess text.now)) }
+    ensures shorter { IfOk result (λ found. IfSome found (LeavesLessText text.now)) }
 {
     match string_length(with.readtable, text) {
         None => Ok(None),

@@ -11,7 +11,7 @@ ghost use Rattle.lisp_reading.specs.Setting.{setting_of};
 ghost use Rattle.lisp_reading.specs.Reading.{is_whitespace, form, reads};
 ghost use Rattle.plain_reader.specs.Direct.{object_of_direct};
 
-use crate::context::Context;
+use crate::context::PlainContext;
 use crate::direct::DirectForm;
 use crate::forms::direct;
 use crate::objects::{calls, is_blank, list};
@@ -75,7 +75,7 @@ pub fn read_plain(
                 return Ok(None);
             }
             readtable.soundness();
-            let with = Context {
+            let with = PlainContext {
                 alloc,
                 limits,
                 readtable,
@@ -154,7 +154,7 @@ pub fn read_direct(
                 return Ok(None);
             }
             readtable.soundness();
-            let with = Context {
+            let with = PlainContext {
                 alloc,
                 limits,
                 readtable,

@@ -3,7 +3,7 @@ ghost use Rattle.std.specs.Prelude.{◌≡◌, ◌∷◌, ◌<◌, [], ℕ, leng
 ghost use Rattle.plain_reader.specs.Plain.{AllAreThere, AreThere, IfStill};
 ghost use Rattle.plain_reader.specs.Direct.{lisp, named_place, quote_of, quoted_names, named_symbol, EndsList, TakesItems, TakesObject};
 
-use crate::context::Context;
+use crate::context::PlainContext;
 use crate::direct::{NamedProperty, NamedSymbol};
 use crate::objects::is_blank;
 use crate::tokens::token;
@@ -26,7 +26,7 @@ struct ReadSymbol<'a> {
 
 /// The place behind whitespace, as the next item of a list, where `room` calls may be opened.
 pub(crate) fn spaced_place<'a>(
-    with: &Context<'_>,
+    with: &PlainContext<'_>,
     room: u32,
     known: &mut bool,
     text: &'a [u8],
@@ -49,7 +49,7 @@ pub(crate) fn spaced_place<'a>(
 
 /// The place whose opening parenthesis was before the text, where `room` calls may be opened.
 pub(crate) fn place<'a>(
-    with: &Context<'_>,
+    with: &PlainContext<'_>,
     room: u32,
     known: &mut bool,
     text: &'a [u8],
@@ -74,7 +74,7 @@ pub(crate) fn place<'a>(
 
 // The arguments of GET, and the end of its list.
 fn arguments<'a>(
-    with: &Context<'_>,
+    with: &PlainContext<'_>,
     known: &mut bool,
     text: &'a [u8],
 ) -> Result<Option<ReadProperty<'a>>, AllocError>
@@ -106,7 +106,7 @@ fn arguments<'a>(
 
 // The quoted symbol behind whitespace, as the next item of a list.
 fn argument<'a>(
-    with: &Context<'_>,
+    with: &PlainContext<'_>,
     known: &mut bool,
     text: &'a [u8],
 ) -> Result<Option<ReadSymbol<'a>>, AllocError>
@@ -129,7 +129,7 @@ fn argument<'a>(
 
 /// The text after an operator, where the symbol of COMMON-LISP with this name is the next item of a list.
 pub(crate) fn operator<'a>(
-    with: &Context<'_>,
+    with: &PlainContext<'_>,
     known: &mut bool,
     name: &[u8],
     text: &'a [u8],
@@ -166,7 +166,7 @@ fn is_lisp(symbol: &NamedSymbol, name: &[u8]) -> bool
 
 // The symbol that a text begins with.
 fn symbol<'a>(
-    with: &Context<'_>,
+    with: &PlainContext<'_>,
     known: &mut bool,
     text: &'a [u8],
 ) -> Result<Option<ReadSymbol<'a>>, AllocError>

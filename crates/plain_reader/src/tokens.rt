@@ -5,10 +5,10 @@ ghost use Rattle.lisp_object.specs.Ascii.{is_ascii};
 ghost use Rattle.readtable_core.specs.Characters.{has_invalid_trait};
 ghost use Rattle.token_scan.specs.Marks.{are_ascii};
 ghost use Rattle.token_scan.specs.Tokens.{typed, kind};
-ghost use Rattle.plain_reader.specs.Plain.{Takes, Puts, LeavesLess, AreThere, AllAreThere, IfStill};
-ghost use Rattle.plain_reader.specs.Tokens.{IsRun, IsToken, marks_of};
+ghost use Rattle.plain_reader.specs.Plain.{Takes, Puts, LeavesLessText, AreThere, AllAreThere, IfStill};
+ghost use Rattle.plain_reader.specs.Tokens.{IsTokenRun, IsToken, marks_of_bytes};
 
-use crate::context::Context;
+use crate::context::PlainContext;
 use crate::objects::Taken;
 use crate::words::{decimal, is_word, word};
 use lisp_reading::{HeldObject, HeldObjects, TellError, Told, tell};
@@ -20,7 +20,7 @@ use token_scan::{Mark, Marks};
 /// A token at the front of the text, without escapes, that is an object.
 #[inline(always)]
 pub(crate) fn token<'a>(
-    with: &Context<'_>,
+    with: &PlainContext<'_>,
     known: &mut bool,
     text: &'a [u8],
 ) -> Result<Option<Taken<'a>>, AllocError>
@@ -29,7 +29,7 @@ pub(crate) fn token<'a>(
     ensures known { IfOk result (λ found. IfStill known.old known.new
         (IfSome found (λ t. AreThere with.now t.object))) }
     ensures token { IfOk result (λ found. IfSome found (λ t. t.token ≡ true)) }
-    ensures shorter { IfOk result (λ found. IfSome found (LeavesLess text.now)) }
+    ensures shorter { IfOk result (λ found. IfSome found (LeavesLessText text.now)) }
 {
     let Some(count) = token_length(with.readtable, text) else {
         return Ok(None);
@@ -52,7 +52,7 @@ pub(crate) fn token<'a>(
 /// A token at the front of the text, without escapes, that is an object, is put to the items of a list. Gives the text after it.
 #[inline(always)]
 pub(crate) fn put_token<'a>(
-    with: &Context<'_>,
+    with: &PlainContext<'_>,
     known: &mut bool,
     items: &mut HeldObjects,
     text: &'a [u8],
@@ -84,7 +84,7 @@ pub(crate) fn put_token<'a>(
 
 /// How many bytes at the front of the text a token has there; None where it has an escape, or nothing ends it.
 fn token_length(readtable: &Readtable, text: &[u8]) -> Option<usize>
-    ensures run { IfSome result (IsRun readtable.now text.now) }
+    ensures run { IfSome result (IsTokenRun readtable.now text.now) }
     ensures within { IfSome result (λ n. n < length text.now) }
 {
     for (i, c) in text.iter().enumerate() {
@@ -124,7 +124,7 @@ fn kind(readtable: &Readtable, c: u8) -> Syntax
 /// The object that a token of these bytes is.
 #[inline(always)]
 fn meaning(
-    with: &Context<'_>,
+    with: &PlainContext<'_>,
     known: &mut bool,
     bytes: &[u8],
 ) -> Result<Option<HeldObject>, AllocError>
@@ -148,7 +148,7 @@ fn meaning(
 /// The same, over its marks.
 #[inline(never)]
 fn through_marks(
-    with: &Context<'_>,
+    with: &PlainContext<'_>,
     known: &mut bool,
     bytes: &[u8],
 ) -> Result<Option<HeldObject>, AllocError>
@@ -182,7 +182,7 @@ fn through_marks(
 
 /// The marks of these bytes.
 fn marks(alloc: Global, bytes: &[u8]) -> Result<Marks, AllocError>
-    ensures { IfOk result (λ marks. marks.items ≡ marks_of bytes.now) }
+    ensures { IfOk result (λ marks. marks.items ≡ marks_of_bytes bytes.now) }
 {
     let mut marks: Marks = SmallVec::new(alloc);
     for c in bytes {

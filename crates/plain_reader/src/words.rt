@@ -8,7 +8,7 @@ ghost use Rattle.plain_reader.specs.Tokens.{IsToken};
 ghost use Rattle.plain_reader.specs.Words.{is_word};
 ghost use Rattle.plain_reader.specs.Plain.{AreThere, IfStill};
 
-use crate::context::Context;
+use crate::context::PlainContext;
 use lisp_object::Bytes;
 use lisp_reading::HeldObject;
 use package_table::Resolved;
@@ -36,7 +36,7 @@ fn has_colon(bytes: &[u8]) -> bool
 /// The symbol of such a token.
 #[inline(always)]
 pub(crate) fn word(
-    with: &Context<'_>,
+    with: &PlainContext<'_>,
     known: &mut bool,
     bytes: &[u8],
 ) -> Result<Option<HeldObject>, AllocError>

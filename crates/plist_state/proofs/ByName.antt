@@ -26,7 +26,7 @@ use Rattle.plist_state.specs.Shown.{NumberedRest}
 use Rattle.plist_state.specs.Undoing.{table_before, tables_before, undone}
 use Rattle.plist_state.specs.Journal.{IsNoted, IsTableChange, IsEntryNote, Continues}
 use Rattle.plist_state.proofs.Notes.{continues_noted, continues_same}
-use Rattle.plist_state.specs.Changes.{writable, put_changed, with_changed, changed, Refused}
+use Rattle.plist_state.specs.Changes.{writable, put_changed, with_changed, changed_readtable, Refused}
 use Rattle.plist_state.proofs.Orders.{name_total, name_exact, name_tied, one_name}
 
 -- the note that this was the readtable of this name, or that there was none
@@ -168,8 +168,8 @@ refused_by Limit said is other = is
 refused_by OutOfMemory said is other = absurd (other refl)
 
 -- a change of what may not be written is refused for that
-pub change_refused : (m : Readtables) (n : Name) (change : Table → Result Table ReadtableError) (e : ReadtableError) → (writable m n ≡ Err e) × (e ≢ OutOfMemory) → Refused e (changed m n change)
-change_refused m n change e why = refused_by e (changed m n change) (ap (with_changed m n change) why.0) why.1
+pub change_refused : (m : Readtables) (n : Name) (change : Table → Result Table ReadtableError) (e : ReadtableError) → (writable m n ≡ Err e) × (e ≢ OutOfMemory) → Refused e (changed_readtable m n change)
+change_refused m n change e why = refused_by e (changed_readtable m n change) (ap (with_changed m n change) why.0) why.1
 
 -- a readtable that may be written is there
 pub written_there : (tables : List (Vec ℕ × Table)) (n : Name) → None ≡ lookup (at n) tables → IsOk (writable (shown tables) n) → ⊥
@@ -181,15 +181,15 @@ module _ (tables later : List (Vec ℕ × Table)) (n : Name) (t w : Table) (chan
   may_write : writable (shown tables) n ≡ Ok t
   may_write = writable_there (shown tables) n t (got_table n tables ∙ sym there) ok
 
-  pub changed_there : later ≡ set_value (at n) tables w → change t ≡ Ok w → changed (shown tables) n change ≡ Ok (shown later)
+  pub changed_there : later ≡ set_value (at n) tables w → change t ≡ Ok w → changed_readtable (shown tables) n change ≡ Ok (shown later)
   changed_there is makes =
       ap (with_changed (shown tables) n change) may_write ∙ ap (put_changed (shown tables) n) makes ∙ ap Ok (sym (put_there tables later n t w there is))
 
-  pub kept_there : (e : ReadtableError) → change t ≡ Err e → changed (shown tables) n change ≡ Err e
+  pub kept_there : (e : ReadtableError) → change t ≡ Err e → changed_readtable (shown tables) n change ≡ Err e
   kept_there e refuses = ap (with_changed (shown tables) n change) may_write ∙ ap (put_changed (shown tables) n) refuses
 
 -- a change that refuses nothing
-pub change_ok : (m : Readtables) (n : Name) (change : Table → Table) → IsOk (writable m n) → IsOk (changed m n (λ t. Ok (change t)))
+pub change_ok : (m : Readtables) (n : Name) (change : Table → Table) → IsOk (writable m n) → IsOk (changed_readtable m n (λ t. Ok (change t)))
 change_ok m n change ok = done (writable m n) ok
   where
     done : (r : Result Table ReadtableError) → IsOk r → IsOk (with_changed m n (λ t. Ok (change t)) r)

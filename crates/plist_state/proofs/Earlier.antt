@@ -16,7 +16,7 @@ use Rattle.plist_state.specs.Shown.{rest_of}
 use Rattle.plist_state.specs.Undoing.{rests_at}
 use Rattle.plist_state.specs.Journal.{marks_of}
 use Rattle.plist_state.specs.Sound.{IsSound, IsSoundWorld}
-use Rattle.plist_state.specs.Marked.{marked_states, worlds_in, worlds_of, earlier_states, IsKept, IsReplaced, AreReplaced, IsWayBack}
+use Rattle.plist_state.specs.Marked.{marked_states, worlds_in, worlds_of, earlier_states, HasKeptWorld, IsReplaced, AreReplaced, IsWayBack}
 use Rattle.package_table.proofs.Names.{same_some}
 use Rattle.plist_state.proofs.Marking.{states_many}
 use Rattle.plist_state.proofs.Notes.{notes_of}
@@ -28,7 +28,7 @@ states_in e kept =
     ∙ length-map e.marks.items notes_of
 
 -- how many states are marked in a world
-pub marks_in : (a : Inside) → IsKept a → length (worlds_of a).1 ≡ a.earlier_marks + length a.marks.items
+pub marks_in : (a : Inside) → HasKeptWorld a → length (worlds_of a).1 ≡ a.earlier_marks + length a.marks.items
 marks_in a kept =
     let now : List WorldState = marked_states a.packages.1.marked (rests_at (marks_of a.marks.items) (rest_of a.stored)) in
     let own : length now ≡ length a.marks.items =
@@ -90,7 +90,7 @@ earlier_sound (e ∷ es) each =
     (All-cons IsSound (worlds_in e).0 (earlier_states es) kept.sound (earlier_sound es (All-tail IsReplaced e es each)))
 
 -- those of a world are sound
-pub world_sound : (a : Inside) → IsKept a → IsSoundWorld (worlds_of a)
+pub world_sound : (a : Inside) → HasKeptWorld a → IsSoundWorld (worlds_of a)
 world_sound a kept = record {
   present = kept.now.sound;
   marked = All-append IsSound (earlier_states a.earlier.items) (marked_states a.packages.1.marked (rests_at (marks_of a.marks.items) (rest_of a.stored)))
@@ -123,7 +123,7 @@ placed a w seen =
 
 -- ---- the way back to a mark
 -- a mark of what the world keeps now
-pub own_mark : (a : Inside) → IsKept a → (w : Worlds) → worlds_of a ≡ w → (mark : ℕ) → mark < length w.1 → a.earlier_marks ≤ mark → mark - a.earlier_marks < length a.marks.items
+pub own_mark : (a : Inside) → HasKeptWorld a → (w : Worlds) → worlds_of a ≡ w → (mark : ℕ) → mark < length w.1 → a.earlier_marks ≤ mark → mark - a.earlier_marks < length a.marks.items
 own_mark a kept w seen mark there own =
     let all : length w.1 ≡ a.earlier_marks + length a.marks.items = ap (λ (v : Worlds). length v.1) (sym seen) ∙ marks_in a kept in
     omega (arith, all, there, own)

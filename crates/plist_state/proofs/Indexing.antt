@@ -17,7 +17,7 @@ use Rattle.std.proofs.lemmas.List.Edits.{length-insert, length-remove, get_or-in
 use Rattle.lisp_object.specs.declared.datum.Datum.{Datum}
 use Rattle.property_rows.specs.declared.property.NumberedProperty.{NumberedProperty}
 use Rattle.plist_state.specs.Lists.{same_number}
-use Rattle.plist_state.specs.Indexed.{Orders, order_of, orders, nth, order_in, IsRising, IsIndexed}
+use Rattle.plist_state.specs.Indexed.{Orders, order_of, orders, nth, order_in, HasRisingOrders, IsIndexed}
 use Rattle.plist_state.proofs.Indices.{has, item_at}
 use Rattle.plist_state.proofs.ListRows.{number_tied}
 use Rattle.plist_state.proofs.Placing.{not_same}
@@ -256,7 +256,7 @@ passed zero (k ∷ ks) le = absurd (omega (arith, le))
 passed (suc n) (k ∷ ks) le = ap (λ js. k ∷ js) (passed n ks (omega (arith, le)))
 
 -- the order of the last property is the greatest
-pub above_last : (items : List NumberedProperty) (o : ℕ) → o ≡ (item_at items (length items - 1)).order → IsRising (orders items)
+pub above_last : (items : List NumberedProperty) (o : ℕ) → o ≡ (item_at items (length items - 1)).order → HasRisingOrders (orders items)
     → (k : ℕ) → k < length items → (next : ℕ) → o < next → (nth (orders items) k).1 < next
 above_last items o is rising k less next more =
     let long : length (orders items) ≡ length items = length-map items order_of in

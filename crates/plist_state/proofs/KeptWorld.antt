@@ -27,7 +27,7 @@ use Rattle.plist_state.specs.declared.error.ReadtableError.{ReadtableError}
 use Rattle.plist_state.specs.declared.error.ReadtableError.TheVariants.{NoReadtable, StandardReadtable, Limit}
 use Rattle.plist_state.specs.State.{Readtables, WorldState, standard_name}
 use Rattle.plist_state.specs.Shown.{NumberedRest}
-use Rattle.plist_state.specs.Changes.{put_changed, with_changed, changed, dispatched, refused_as, with_copy, with_syntax, Gives}
+use Rattle.plist_state.specs.Changes.{put_changed, with_changed, changed_readtable, dispatched, refused_as, with_copy, with_syntax, Gives}
 use Rattle.plist_state.specs.Sound.{IsSymbol, IsNamed, IsSound}
 use Rattle.plist_state.proofs.Orders.{name_total}
 use Rattle.plist_state.proofs.Soundness.{sound_table, symbol_from}
@@ -58,7 +58,7 @@ there_too m n u there count =
 
 pub sound_changed : (s : WorldState) (n : Name) (change : Table → Result Table ReadtableError) → IsSound s
     → ((t u : Table) → IsNamed s.packages t → change t ≡ Ok u → IsNamed s.packages u)
-    → (v : Readtables) → changed s.readtables n change ≡ Ok v → IsSound (record s { readtables = v })
+    → (v : Readtables) → changed_readtable s.readtables n change ≡ Ok v → IsSound (record s { readtables = v })
 sound_changed s n change sound named v is =
     elim (finite.get s.readtables n) as (λ o. finite.get s.readtables n ≡ o
     → with_writable o ≡ Ok v → IsSound (record s { readtables = v })) [
@@ -124,7 +124,7 @@ named_dispatched t c sub f r u below low other fits at_home named is =
 
 pub sound_syntax : (s : WorldState) (n : Name) (c : ℕ) (m : Name) (d : ℕ) → IsSound s → c < 128 → (v : Readtables) → with_syntax s.readtables n c m d ≡ Ok v → IsSound (record s { readtables = v })
 sound_syntax s n c m d sound below v is =
-    elim (finite.get s.readtables m) as (λ o. finite.get s.readtables m ≡ o → option_map_or (λ z. changed s.readtables n (λ t. Ok (with_entry t c (entry_at z d)))) o (Err NoReadtable) ≡ Ok v → IsSound (record s { readtables = v })) [
+    elim (finite.get s.readtables m) as (λ o. finite.get s.readtables m ≡ o → option_map_or (λ z. changed_readtable s.readtables n (λ t. Ok (with_entry t c (entry_at z d)))) o (Err NoReadtable) ≡ Ok v → IsSound (record s { readtables = v })) [
       | None ↦ λ _ e. absurd (err_ok e)
       | Some z ↦ λ there e.
           let from : IsNamed s.packages z = sound.readtables.each m z there in

@@ -18,7 +18,7 @@ use Rattle.plist_state.specs.Lists.{IsOwned}
 use Rattle.plist_state.specs.Shown.{NumberedRest, Rows}
 use Rattle.plist_state.specs.Kept.{IsWider}
 use Rattle.plist_state.specs.Undoing.{rests_at}
-use Rattle.plist_state.specs.Journal.{marks_of, Fits, IsJournal, Continues}
+use Rattle.plist_state.specs.Journal.{marks_of, FitsRows, IsJournal, Continues}
 use Rattle.plist_state.specs.Marked.{state_in, marked_states, AreOwned, AreKept}
 use Rattle.plist_state.specs.Sound.{IsSound}
 use Rattle.package_table.proofs.Names.{same_some}
@@ -112,7 +112,7 @@ module _ (ts : List Numbered) (ms : List (List Note)) (r : NumberedRest) (rows :
   states_many = length_marked ts (rests_at ms r) rests_many ∙ kept.as_many
 
   -- a change that was noted
-  pub kept_continued : (ns : List (List Note)) (u : NumberedRest) (later : Rows) → Continues ms r ns u → Fits rows r → IsWider rows later → AreKept ts ns u later
+  pub kept_continued : (ns : List (List Note)) (u : NumberedRest) (later : Rows) → Continues ms r ns u → FitsRows rows r → IsWider rows later → AreKept ts ns u later
   kept_continued ns u later continues fits wider = record {
     as_many = rests_many ∙ ap length (sym continues.same) ∙ length-rests ns u;
     journal = journal_wider ns u rows later wider (continues.journal rows fits kept.journal);

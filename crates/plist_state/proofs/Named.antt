@@ -13,12 +13,12 @@ use Rattle.std.proofs.lemmas.Bool.{false≢true, eqb-true, eqb-false, eq-eqb}
 use Rattle.std.proofs.lemmas.List.Elements.{All-head, All-tail}
 use Rattle.lisp_object.specs.Object.{Object}
 use Rattle.package_table.specs.Numbers.{Numbered, number_of}
-use Rattle.package_table.specs.Numbering.{IsNumbered, Keeps}
+use Rattle.package_table.specs.Numbering.{IsNumbered, KeepsNumbers}
 use Rattle.package_table.specs.Growth.{Grows}
 use Rattle.package_table.proofs.Names.{same_some}
 use Rattle.package_table.proofs.Numbered.{number_there, number_apart, number_kept}
 use Rattle.plist_state.specs.Properties.{Symbol, symbol_cmp, same_symbol, value_by, with_value_by, without_value_by, value_at, with_value, without_value}
-use Rattle.plist_state.specs.Lists.{NumberedPlist, same_number, symbols, has_number, symbol_at, IsNumber, named}
+use Rattle.plist_state.specs.Lists.{NumberedPlist, same_number, symbols, has_number, numbered_symbol, IsNumber, named_plist}
 use Rattle.plist_state.proofs.Orders.{one_symbol, symbol_tied}
 use Rattle.plist_state.proofs.Lists.{kept}
 use Rattle.plist_state.proofs.Soundness.{symbol_from}
@@ -75,20 +75,20 @@ module _ (s : Numbered) where
   has_number_of x i is = ap (λ o. option_map_or (same_number i) o false) is ∙ eq-eqb i i refl
 
   -- two numbers of symbols are the same where their symbols are
-  same_numbers : (i j : ℕ) → IsNumber s i → IsNumber s j → same_symbol (symbol_at s i) (symbol_at s j) ≡ same_number i j
+  same_numbers : (i j : ℕ) → IsNumber s i → IsNumber s j → same_symbol (numbered_symbol s i) (numbered_symbol s j) ≡ same_number i j
   same_numbers i j one two =
-      elim (same_number i j) as (λ b. same_number i j ≡ b → same_symbol (symbol_at s i) (symbol_at s j) ≡ b) [
-        | true ↦ λ t. ap (λ k. same_symbol (symbol_at s i) (symbol_at s k)) (sym (eqb-true i j t)) ∙ symbol_tied (symbol_at s i)
+      elim (same_number i j) as (λ b. same_number i j ≡ b → same_symbol (numbered_symbol s i) (numbered_symbol s j) ≡ b) [
+        | true ↦ λ t. ap (λ k. same_symbol (numbered_symbol s i) (numbered_symbol s k)) (sym (eqb-true i j t)) ∙ symbol_tied (numbered_symbol s i)
         | false ↦ λ apart.
-            elim (same_symbol (symbol_at s i) (symbol_at s j)) as (λ b. same_symbol (symbol_at s i) (symbol_at s j) ≡ b → b ≡ false) [
+            elim (same_symbol (numbered_symbol s i) (numbered_symbol s j)) as (λ b. same_symbol (numbered_symbol s i) (numbered_symbol s j) ≡ b → b ≡ false) [
               | true ↦ λ t.
-                  let both : ◌≡◌ {A = Option ℕ} (Some i) (Some j) = sym one ∙ ap (λ (x : Symbol). number_of s x.0 x.1) (one_symbol (symbol_at s i) (symbol_at s j) t) ∙ two in
+                  let both : ◌≡◌ {A = Option ℕ} (Some i) (Some j) = sym one ∙ ap (λ (x : Symbol). number_of s x.0 x.1) (one_symbol (numbered_symbol s i) (numbered_symbol s j) t) ∙ two in
                   absurd (eqb-false i j apart (same_some i j both))
               | false ↦ λ _. refl
             ] refl
       ] refl
 
-  are_told_apart : (i : ℕ) → IsNumber s i → (ps : NumberedPlist) → All (λ p. IsNumber s p.0) ps → Agrees same_number same_symbol (symbol_at s) i ps
+  are_told_apart : (i : ℕ) → IsNumber s i → (ps : NumberedPlist) → All (λ p. IsNumber s p.0) ps → Agrees same_number same_symbol (numbered_symbol s) i ps
   are_told_apart i is [] all = tt
   are_told_apart i is (p ∷ ps) all = (
     same_numbers i p.0 is (All-head (λ (p : ℕ × Object). IsNumber s p.0) p ps all),
@@ -96,21 +96,21 @@ module _ (s : Numbered) where
   )
 
   -- a symbol without a number is no indicator
-  pub value_unnamed : (x : Symbol) → number_of s x.0 x.1 ≡ None → (ps : NumberedPlist) → All (λ p. IsNumber s p.0) ps → value_at (named s ps) x ≡ None
+  pub value_unnamed : (x : Symbol) → number_of s x.0 x.1 ≡ None → (ps : NumberedPlist) → All (λ p. IsNumber s p.0) ps → value_at (named_plist s ps) x ≡ None
   value_unnamed x none [] all = refl
   value_unnamed x none (p ∷ ps) all =
-      elim (same_symbol x (symbol_at s p.0)) as (λ b. same_symbol x (symbol_at s p.0) ≡ b → cond b (Some p.1) (value_at (named s ps) x) ≡ None) [
+      elim (same_symbol x (numbered_symbol s p.0)) as (λ b. same_symbol x (numbered_symbol s p.0) ≡ b → cond b (Some p.1) (value_at (named_plist s ps) x) ≡ None) [
         | true ↦ λ t.
-            let is : number_of s (symbol_at s p.0).0 (symbol_at s p.0).1 ≡ Some p.0 = All-head (λ (p : ℕ × Object). IsNumber s p.0) p ps all in
-            absurd (false≢true (ap is_some (sym none ∙ ap (λ (y : Symbol). number_of s y.0 y.1) (one_symbol x (symbol_at s p.0) t) ∙ is)))
+            let is : number_of s (numbered_symbol s p.0).0 (numbered_symbol s p.0).1 ≡ Some p.0 = All-head (λ (p : ℕ × Object). IsNumber s p.0) p ps all in
+            absurd (false≢true (ap is_some (sym none ∙ ap (λ (y : Symbol). number_of s y.0 y.1) (one_symbol x (numbered_symbol s p.0) t) ∙ is)))
         | false ↦ λ _. value_unnamed x none ps (All-tail (λ (p : ℕ × Object). IsNumber s p.0) p ps all)
       ] refl
 
-  pub kept_named : (ps : NumberedPlist) → option_map (named s) (kept ps) ≡ kept (named s ps)
+  pub kept_named : (ps : NumberedPlist) → option_map (named_plist s) (kept ps) ≡ kept (named_plist s ps)
   kept_named [] = refl
   kept_named (p ∷ ps) = refl
 
-  pub some_named : (o : Option NumberedPlist) → is_some (option_map (named s) o) ≡ is_some o
+  pub some_named : (o : Option NumberedPlist) → is_some (option_map (named_plist s) o) ≡ is_some o
   some_named None = refl
   some_named (Some ps) = refl
 
@@ -132,8 +132,8 @@ module _ (s : Numbered) where
               | false ↦ λ _ rest. rest
             ] refl among
 
-    pub symbol_numbered : (x : Symbol) (i : ℕ) → number_of s x.0 x.1 ≡ Some i → symbol_at s i ≡ x
-    unfolding symbol_at
+    pub symbol_numbered : (x : Symbol) (i : ℕ) → number_of s x.0 x.1 ≡ Some i → numbered_symbol s i ≡ x
+    unfolding numbered_symbol
     symbol_numbered x i is =
         ap (λ o. unwrap_or o ([], []))
         (found_at x i is (symbols s.0) (symbol_among s.0 x (symbol_from s.0 x.0 x.1 (number_there s x.0 x.1 i is))))
@@ -143,38 +143,38 @@ module _ (s : Numbered) where
 
     -- ---- a change
     module _ (x : Symbol) (i : ℕ) (is : number_of s x.0 x.1 ≡ Some i) (ps : NumberedPlist) (all : All (λ p. IsNumber s p.0) ps) where
-      pub value_named : value_at (named s ps) x ≡ value_by same_number ps i
+      pub value_named : value_at (named_plist s ps) x ≡ value_by same_number ps i
       value_named =
-          ap (value_at (named s ps)) (sym (symbol_numbered x i is))
-          ∙ value_mapped same_number same_symbol (symbol_at s) i ps (are_told_apart i (number_is x i is) ps all)
+          ap (value_at (named_plist s ps)) (sym (symbol_numbered x i is))
+          ∙ value_mapped same_number same_symbol (numbered_symbol s) i ps (are_told_apart i (number_is x i is) ps all)
 
-      pub with_named : (v : Object) → named s (with_value_by same_number ps i v) ≡ with_value (named s ps) x v
+      pub with_named : (v : Object) → named_plist s (with_value_by same_number ps i v) ≡ with_value (named_plist s ps) x v
       with_named v =
-          with_mapped same_number same_symbol (symbol_at s) i ps v (are_told_apart i (number_is x i is) ps all)
-          ∙ ap (λ y. with_value (named s ps) y v) (symbol_numbered x i is)
+          with_mapped same_number same_symbol (numbered_symbol s) i ps v (are_told_apart i (number_is x i is) ps all)
+          ∙ ap (λ y. with_value (named_plist s ps) y v) (symbol_numbered x i is)
 
-      pub without_named : named s (without_value_by same_number ps i) ≡ without_value (named s ps) x
+      pub without_named : named_plist s (without_value_by same_number ps i) ≡ without_value (named_plist s ps) x
       without_named =
-          without_mapped same_number same_symbol (symbol_at s) i ps (are_told_apart i (number_is x i is) ps all)
-          ∙ ap (without_value (named s ps)) (symbol_numbered x i is)
+          without_mapped same_number same_symbol (numbered_symbol s) i ps (are_told_apart i (number_is x i is) ps all)
+          ∙ ap (without_value (named_plist s ps)) (symbol_numbered x i is)
 
 -- ---- packages that grow
-module _ (s u : Numbered) (count : ℕ) (numbered : IsNumbered u count) (grows : Grows s.0 u.0) (keeps : Keeps s u) where
-  pub number_grown : (i : ℕ) → IsNumber s i → number_of u (symbol_at s i).0 (symbol_at s i).1 ≡ Some i
+module _ (s u : Numbered) (count : ℕ) (numbered : IsNumbered u count) (grows : Grows s.0 u.0) (keeps : KeepsNumbers s u) where
+  pub number_grown : (i : ℕ) → IsNumber s i → number_of u (numbered_symbol s i).0 (numbered_symbol s i).1 ≡ Some i
   number_grown i is =
-      let x : Symbol = symbol_at s i in
+      let x : Symbol = numbered_symbol s i in
       let there = number_there s x.0 x.1 i is in
       number_kept s u keeps x.0 x.1 there (grows.homes x.0 x.1 x.0 there) ∙ is
 
-  symbol_kept : (i : ℕ) → IsNumber s i → symbol_at u i ≡ symbol_at s i
-  symbol_kept i is = symbol_numbered u count numbered (symbol_at s i) i (number_grown i is)
+  symbol_kept : (i : ℕ) → IsNumber s i → numbered_symbol u i ≡ numbered_symbol s i
+  symbol_kept i is = symbol_numbered u count numbered (numbered_symbol s i) i (number_grown i is)
 
   pub number_stays : (i : ℕ) → IsNumber s i → IsNumber u i
-  number_stays i is = number_is u count numbered (symbol_at s i) i (number_grown i is)
+  number_stays i is = number_is u count numbered (numbered_symbol s i) i (number_grown i is)
 
-  pub named_grown : (ps : NumberedPlist) → All (λ p. IsNumber s p.0) ps → named u ps ≡ named s ps
+  pub named_grown : (ps : NumberedPlist) → All (λ p. IsNumber s p.0) ps → named_plist u ps ≡ named_plist s ps
   named_grown [] all = refl
   named_grown (p ∷ ps) all =
-      let here : symbol_at u p.0 ≡ symbol_at s p.0 = symbol_kept p.0 (All-head (λ (p : ℕ × Object). IsNumber s p.0) p ps all) in
-      let rest : named u ps ≡ named s ps = named_grown ps (All-tail (λ (p : ℕ × Object). IsNumber s p.0) p ps all) in
+      let here : numbered_symbol u p.0 ≡ numbered_symbol s p.0 = symbol_kept p.0 (All-head (λ (p : ℕ × Object). IsNumber s p.0) p ps all) in
+      let rest : named_plist u ps ≡ named_plist s ps = named_grown ps (All-tail (λ (p : ℕ × Object). IsNumber s p.0) p ps all) in
       λ k. (here k, p.1) ∷ rest k

@@ -10,7 +10,7 @@ use Rattle.std.specs.BTreeMap.{insert_entry, is_at}
 use Rattle.std.proofs.lemmas.List.{length-map, map-append}
 use Rattle.lisp_object.specs.declared.datum.Datum.{Datum}
 use Rattle.property_rows.specs.declared.property.NumberedProperty.{NumberedProperty}
-use Rattle.plist_state.specs.Indexed.{Index, Indexes, order_of, orders, nth, order_in, index_at, IsRising, IsIndexed, IsIndexedIn}
+use Rattle.plist_state.specs.Indexed.{Index, Indexes, order_of, orders, nth, order_in, index_at, HasRisingOrders, IsIndexed, IsIndexedIn}
 use Rattle.plist_state.proofs.Indices.{has}
 use Rattle.plist_state.proofs.ListRows.{number_tied}
 use Rattle.plist_state.proofs.Placing.{inserted, written_at, not_same, index_put, same_some}
@@ -37,7 +37,7 @@ module _ (old new : Indexes) (n : ℕ) (items : List NumberedProperty) (i o : �
       subst (λ (z : Index). IsIndexed z.entries (orders items)) (at y e)
       (IsIndexed-noted x.entries later.entries (orders items) i o (inserted x.entries later.entries i o put) unlike (λ q other. not_same q i other) (number_tied i) (indexed x there))
 
-  pub next : (IsRising (orders items) → (k : ℕ) → k < length items → (nth (orders items) k).1 < o)
+  pub next : (HasRisingOrders (orders items) → (k : ℕ) → k < length items → (nth (orders items) k).1 < o)
       → (p : NumberedProperty) → p.indicator ≡ i → p.order ≡ o → IsIndexedIn new n (items ++ p ∷ [])
   next above p is_i is_o y e =
       let one : order_of p ≡ (i, o) = λ t. (is_i t, is_o t) in

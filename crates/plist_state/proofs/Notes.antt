@@ -22,7 +22,7 @@ use Rattle.plist_state.specs.Lists.{NumberedPlist, NumberedLists, row_of, with_r
 use Rattle.plist_state.specs.Shown.{Rows, lists_in, plist_of, numbered_property, row_at, room_at, NumberedRest}
 use Rattle.plist_state.specs.Kept.{IsProperChange, IsWider}
 use Rattle.plist_state.specs.Undoing.{list_before, undone, all_undone, undone_since, rests_at}
-use Rattle.plist_state.specs.Journal.{marks_of, has_room, IsNoted, Fits, LeadsBack, IsJournal, Continues}
+use Rattle.plist_state.specs.Journal.{marks_of, has_room, IsNoted, FitsRows, LeadsBack, IsJournal, Continues}
 use Rattle.plist_state.proofs.ListRows.{row-lists_in, property_back}
 
 -- ---- what is led back to
@@ -43,22 +43,22 @@ length-rests [] r = refl
 length-rests (m ∷ ms) r = ap (λ k. suc k) (length-rests ms r)
 
 -- ---- what holds of the way back
-fits_wider : (r : NumberedRest) (rows later : Rows) → IsWider rows later → Fits rows r → Fits later r
+fits_wider : (r : NumberedRest) (rows later : Rows) → IsWider rows later → FitsRows rows r → FitsRows later r
 fits_wider r rows later wider fits x =
     let held : length (row_of r.properties x) ≤ room_at rows x = fits x in
     let more : room_at rows x ≤ room_at later x = wider.rooms x in
     omega (arith, held, more)
 
-leads_push : (ns : List Note) (n : Note) (u : NumberedRest) (rows : Rows) → IsNoted n → Fits rows (undone n u) → LeadsBack ns (undone n u) rows → LeadsBack (ns ++ n ∷ []) u rows
+leads_push : (ns : List Note) (n : Note) (u : NumberedRest) (rows : Rows) → IsNoted n → FitsRows rows (undone n u) → LeadsBack ns (undone n u) rows → LeadsBack (ns ++ n ∷ []) u rows
 leads_push [] n u rows noted fits leads = (noted, fits, tt)
 leads_push (m ∷ ns) n u rows noted fits leads =
-    (leads.0, subst (Fits rows) (sym (ap (undone m) (all_push ns n u))) leads.1, leads_push ns n u rows noted fits leads.2)
+    (leads.0, subst (FitsRows rows) (sym (ap (undone m) (all_push ns n u))) leads.1, leads_push ns n u rows noted fits leads.2)
 
-pub leads_pop : (ns : List Note) (n : Note) (u : NumberedRest) (rows : Rows) → LeadsBack (ns ++ n ∷ []) u rows → IsNoted n × Fits rows (undone n u) × LeadsBack ns (undone n u) rows
+pub leads_pop : (ns : List Note) (n : Note) (u : NumberedRest) (rows : Rows) → LeadsBack (ns ++ n ∷ []) u rows → IsNoted n × FitsRows rows (undone n u) × LeadsBack ns (undone n u) rows
 leads_pop [] n u rows leads = (leads.0, leads.1, tt)
 leads_pop (m ∷ ns) n u rows leads =
-    let left : IsNoted n × Fits rows (undone n u) × LeadsBack ns (undone n u) rows = leads_pop ns n u rows leads.2 in
-    (left.0, left.1, (leads.0, subst (Fits rows) (ap (undone m) (all_push ns n u)) leads.1, left.2))
+    let left : IsNoted n × FitsRows rows (undone n u) × LeadsBack ns (undone n u) rows = leads_pop ns n u rows leads.2 in
+    (left.0, left.1, (leads.0, subst (FitsRows rows) (ap (undone m) (all_push ns n u)) leads.1, left.2))
 
 pub leads_wider : (ns : List Note) (r : NumberedRest) (rows later : Rows) → IsWider rows later → LeadsBack ns r rows → LeadsBack ns r later
 leads_wider [] r rows later wider leads = tt
@@ -84,7 +84,7 @@ journal_wider (m ∷ ms) r rows later wider journal =
 row_fits : (row : PropertyRow) → length (plist_of row) ≤ room row
 row_fits row = omega (arith, length-map row.items numbered_property)
 
-pub fits_now : (rows : Rows) (r : NumberedRest) → r.properties ≡ lists_in rows → Fits rows r
+pub fits_now : (rows : Rows) (r : NumberedRest) → r.properties ≡ lists_in rows → FitsRows rows r
 fits_now rows r is x =
     subst (λ ps. length ps ≤ room_at rows x) (sym (ap (λ (m : NumberedLists). row_of m x) is ∙ row-lists_in rows x))
     (elim (row_at rows x) as (λ o. length (option_map_or plist_of o []) ≤ option_map_or room o 0) [
@@ -135,7 +135,7 @@ continues_push ms m n t u noted undoes =
       journal = λ rows fits journal.
           let left : LeadsBack m t rows × IsJournal ms (all_undone m t) rows = journal_split ms m t rows journal in
           journal_put ms (m ++ n ∷ []) u rows
-          (leads_push m n u rows noted (subst (Fits rows) (sym undoes) fits) (subst (λ r. LeadsBack m r rows) (sym undoes) left.0))
+          (leads_push m n u rows noted (subst (FitsRows rows) (sym undoes) fits) (subst (λ r. LeadsBack m r rows) (sym undoes) left.0))
           (subst (λ r. IsJournal ms r rows) (sym back) left.1);
     }
 

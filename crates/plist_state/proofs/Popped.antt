@@ -26,7 +26,7 @@ use Rattle.package_table.specs.Numbering.{IsNumbered}
 use Rattle.plist_state.specs.Properties.{Symbol, same_symbol, value_by, with_value}
 use Rattle.plist_state.specs.State.{WorldState, Worlds}
 use Rattle.plist_state.specs.Changes.{property, with_property}
-use Rattle.plist_state.specs.Lists.{NumberedPlist, same_number, IsNumber, named}
+use Rattle.plist_state.specs.Lists.{NumberedPlist, same_number, IsNumber, named_plist}
 use Rattle.plist_state.specs.Pushed.{holds_pair}
 use Rattle.plist_state.specs.Popped.{first_item, with_rest, popped, with_popped, with_popped_by}
 use Rattle.plist_state.specs.Sound.{IsValue}
@@ -102,10 +102,10 @@ joined_proper (x ∷ xs) others tail true all proper = is_proper-joined (x ∷ x
 -- ---- by numbers and by symbols
 pub popped_named : (s : Numbered) (count : ℕ) (counted : IsNumbered s count) (x : Symbol) (i : ℕ) (is : number_of s x.0 x.1 ≡ Some i)
     (ps : NumberedPlist) (all : All (λ p. IsNumber s p.0) ps)
-    → named s (with_popped_by same_number ps i) ≡ with_popped_by same_symbol (named s ps) x
+    → named_plist s (with_popped_by same_number ps i) ≡ with_popped_by same_symbol (named_plist s ps) x
 popped_named s count counted x i is ps all =
     with_named s count counted x i is ps all (popped (value_by same_number ps i))
-    ∙ ap (λ o. with_value (named s ps) x (popped o)) (sym (value_named s count counted x i is ps all))
+    ∙ ap (λ o. with_value (named_plist s ps) x (popped o)) (sym (value_named s count counted x i is ps all))
 
 -- ---- whether there is a first item
 pub first_there : (o : Option Object) (x : Object) → first_item o ≡ Some x → holds_pair o ≡ true

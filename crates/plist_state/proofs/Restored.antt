@@ -25,7 +25,7 @@ use Rattle.plist_state.specs.State.{Readtables}
 use Rattle.plist_state.specs.Lists.{NumberedLists, row_of, with_row}
 use Rattle.plist_state.specs.Shown.{Rows, room_at, NumberedRest}
 use Rattle.plist_state.specs.Undoing.{list_before, table_before, tables_before, undone, all_undone, rests_at, restores}
-use Rattle.plist_state.specs.Journal.{marks_of, Fits, LeadsBack, IsJournal, Continues, ContinuesTables}
+use Rattle.plist_state.specs.Journal.{marks_of, FitsRows, LeadsBack, IsJournal, Continues, ContinuesTables}
 use Rattle.plist_state.proofs.Orders.{name_total, name_exact, one_name}
 use Rattle.plist_state.proofs.Notes.{rests_push, journal_split, journal_put}
 use Rattle.plist_state.proofs.ByName.{got_put, some_of, same_some}
@@ -212,7 +212,7 @@ lists_undone (k ∷ ns) t u same = list_undone k (all_undone ns t) (all_undone n
 leads_same : (ns : List Note) (t u : NumberedRest) (rows : Rows) → u.properties ≡ t.properties → LeadsBack ns t rows → LeadsBack ns u rows
 leads_same [] t u rows same leads = tt
 leads_same (k ∷ ns) t u rows same leads =
-    let fits : Fits rows (all_undone (k ∷ ns) u) = λ x. subst (λ (m : NumberedLists). length (row_of m x) ≤ room_at rows x) (sym (lists_undone (k ∷ ns) t u same)) (leads.1 x) in
+    let fits : FitsRows rows (all_undone (k ∷ ns) u) = λ x. subst (λ (m : NumberedLists). length (row_of m x) ≤ room_at rows x) (sym (lists_undone (k ∷ ns) t u same)) (leads.1 x) in
     (leads.0, fits, leads_same ns t u rows same leads.2)
 
 -- ---- no note is wanted

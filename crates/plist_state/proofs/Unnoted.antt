@@ -29,7 +29,7 @@ use Rattle.plist_state.specs.Lists.{NumberedPlist, NumberedLists, row_of, with_r
 use Rattle.plist_state.specs.Shown.{Rows, room_at, lists_in, NumberedRest}
 use Rattle.plist_state.specs.Undoing.{with_value_at, with_changed_at, with_items, with_inserted, without_first, list_before, undone, all_undone, rests_at}
 use Rattle.plist_state.specs.Kept.{IsProperChange}
-use Rattle.plist_state.specs.Journal.{marks_of, IsNoted, Fits, LeadsBack, IsJournal, Continues}
+use Rattle.plist_state.specs.Journal.{marks_of, IsNoted, FitsRows, LeadsBack, IsJournal, Continues}
 use Rattle.plist_state.specs.Overwritten.{before_change, before_note, before_notes, with_at, IsOverwritten, LeadsBackAs}
 use Rattle.plist_state.proofs.Indices.{with_value_at-past, with_value_at-twice, length-inserted}
 use Rattle.plist_state.proofs.ListRows.{one_number, get-with_row, row-with_row, with_row_twice, property_back}
@@ -266,7 +266,7 @@ lengths_at s x k v y =
       | false ↦ λ e. ap length (row_apart s.properties x y qs e)
     ] refl
 
-fits_at : (rows : Rows) (s : NumberedRest) (x k : ℕ) (v : Object) → Fits rows s → Fits rows (with_at s x k v)
+fits_at : (rows : Rows) (s : NumberedRest) (x k : ℕ) (v : Object) → FitsRows rows s → FitsRows rows (with_at s x k v)
 fits_at rows s x k v fits y = subst (λ n. n ≤ room_at rows y) (sym (lengths_at s x k v y)) (fits y)
 
 same_lengths : (x : ℕ) (o : Option PropertyPlace) (s a : NumberedRest) → Follows x s o a → (y : ℕ) → length (row_of a.properties y) ≡ length (row_of s.properties y)
@@ -276,14 +276,14 @@ same_lengths x (Some p) s a f y = ap (λ (r : NumberedRest). length (row_of r.pr
 leads_to : (x : ℕ) (ns : List Note) (p : PropertyPlace) (s a : NumberedRest) (rows : Rows) → Follows x s (Some p) a → LeadsBack ns s rows → LeadsBack ns a rows
 leads_to x [] p s a rows f leads = tt
 leads_to x (n ∷ ns) p s a rows f leads =
-    let fits : Fits rows (all_undone (n ∷ ns) a) = λ y.
+    let fits : FitsRows rows (all_undone (n ∷ ns) a) = λ y.
     subst (λ k. k ≤ room_at rows y) (sym (same_lengths x (before_notes x (n ∷ ns) p) (all_undone (n ∷ ns) s) (all_undone (n ∷ ns) a) (follows_notes x (n ∷ ns) p s a f) y)) (leads.1 y) in
     (leads.0, fits, leads_to x ns p s a rows f leads.2)
 
 leads_from : (x : ℕ) (ns : List Note) (p : PropertyPlace) (s a : NumberedRest) (rows : Rows) → Follows x s (Some p) a → LeadsBack ns a rows → LeadsBack ns s rows
 leads_from x [] p s a rows f leads = tt
 leads_from x (n ∷ ns) p s a rows f leads =
-    let fits : Fits rows (all_undone (n ∷ ns) s) = λ y.
+    let fits : FitsRows rows (all_undone (n ∷ ns) s) = λ y.
     subst (λ k. k ≤ room_at rows y) (same_lengths x (before_notes x (n ∷ ns) p) (all_undone (n ∷ ns) s) (all_undone (n ∷ ns) a) (follows_notes x (n ∷ ns) p s a f) y) (leads.1 y) in
     (leads.0, fits, leads_from x ns p s a rows f leads.2)
 
@@ -359,7 +359,7 @@ property_unnoted ms ks same x change t rows later ps unnoted put back =
     (ap (λ (m : NumberedLists). record t { properties = m }) (property_back rows later x ps change put back)))
 
 -- ---- a note without the value of the property that was taken out
-continues_both : (ms ks ns : List (List Note)) (t s u : NumberedRest) → ((rows : Rows) → Fits rows t → Fits rows s) → Continues ms t ks s → Continues ks s ns u → Continues ms t ns u
+continues_both : (ms ks ns : List (List Note)) (t s u : NumberedRest) → ((rows : Rows) → FitsRows rows t → FitsRows rows s) → Continues ms t ks s → Continues ks s ns u → Continues ms t ns u
 continues_both ms ks ns t s u room former latter = record {
   same = latter.same ∙ former.same;
   journal = λ rows fits journal. latter.journal rows (room rows fits) (former.journal rows fits journal);

@@ -15,7 +15,7 @@ use Rattle.package_table.specs.Numbers.{Numbered, numbered}
 use Rattle.property_rows.specs.declared.property.NumberedProperty.{NumberedProperty}
 use Rattle.plist_state.specs.declared.property_list.PropertyList.TheInside.{Inside}
 use Rattle.plist_state.specs.Properties.{Symbol, Plist}
-use Rattle.plist_state.specs.Lists.{symbol_at, IsNumber}
+use Rattle.plist_state.specs.Lists.{numbered_symbol, IsNumber}
 use Rattle.plist_state.specs.Shown.{numbered_property, items_in}
 use Rattle.plist_state.specs.Viewed.{plist_in, IsPropertyList}
 
@@ -28,7 +28,7 @@ are_numbers s (p ∷ ps) all =
 
 module _ (a : Inside) where
   abbrev by_number : ℕ × Object → Symbol × Object
-  by_number p = (symbol_at (numbered a.packages.now) p.0, p.1)
+  by_number p = (numbered_symbol (numbered a.packages.now) p.0, p.1)
 
   pub same_length : length (plist_in a) ≡ length (items_in a.row)
   same_length = length-map (map numbered_property (items_in a.row)) by_number ∙ length-map (items_in a.row) numbered_property
@@ -39,7 +39,7 @@ module _ (a : Inside) where
       omega (arith, same, within)
 
   module _ (i : ℕ) (within : i < length (items_in a.row)) (p : NumberedProperty) (is : p ≡ get_or (items_in a.row) i p) where
-    pub property_at : (ps : Plist) → plist_in a ≡ ps → slice_get ps i ≡ Some (symbol_at (numbered a.packages.now) p.indicator, object_of p.value)
+    pub property_at : (ps : Plist) → plist_in a ≡ ps → slice_get ps i ≡ Some (numbered_symbol (numbered a.packages.now) p.indicator, object_of p.value)
     property_at ps seen =
         ap (λ ps. slice_get ps i) (sym seen)
         ∙ slice_get-map by_number (map numbered_property (items_in a.row)) i

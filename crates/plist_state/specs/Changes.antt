@@ -65,20 +65,20 @@ abbrev pub with_changed : Readtables → Name → (Table → Result Table Readta
 with_changed m n change (Ok t) = put_changed m n (change t)
 with_changed m n change (Err e) = Err e
 
-abbrev pub changed : Readtables → Name → (Table → Result Table ReadtableError) → Result Readtables ReadtableError
-changed m n change = with_changed m n change (writable m n)
+abbrev pub changed_readtable : Readtables → Name → (Table → Result Table ReadtableError) → Result Readtables ReadtableError
+changed_readtable m n change = with_changed m n change (writable m n)
 
 -- the case (standard 23.2, READTABLE-CASE)
 abbrev pub with_case : Readtables → Name → Case → Result Readtables ReadtableError
-with_case m n letters = changed m n (λ t. Ok (record t { letters = letters }))
+with_case m n letters = changed_readtable m n (λ t. Ok (record t { letters = letters }))
 
 -- SET-MACRO-CHARACTER (standard 23.2)
 abbrev pub with_macro : Readtables → Name → ℕ → Name → Bool → Result Readtables ReadtableError
-with_macro m n c f non_terminating = changed m n (λ t. Ok (with_entry t c (macro_entry f non_terminating)))
+with_macro m n c f non_terminating = changed_readtable m n (λ t. Ok (with_entry t c (macro_entry f non_terminating)))
 
 -- MAKE-DISPATCH-MACRO-CHARACTER (standard 23.2)
 abbrev pub with_dispatching : Readtables → Name → ℕ → Bool → Result Readtables ReadtableError
-with_dispatching m n c non_terminating = changed m n (λ t. Ok (with_entry t c (dispatching_entry non_terminating)))
+with_dispatching m n c non_terminating = changed_readtable m n (λ t. Ok (with_entry t c (dispatching_entry non_terminating)))
 
 -- the refusal of a readtable, as the world gives it
 abbrev pub refused_as : DispatchRefusal → ReadtableError
@@ -92,13 +92,13 @@ dispatched t c sub f =
 
 -- SET-DISPATCH-MACRO-CHARACTER (standard 23.2)
 abbrev pub with_dispatch : Readtables → Name → ℕ → ℕ → Name → Result Readtables ReadtableError
-with_dispatch m n c sub f = changed m n (λ t. dispatched t c sub f)
+with_dispatch m n c sub f = changed_readtable m n (λ t. dispatched t c sub f)
 
 -- SET-SYNTAX-FROM-CHAR (standard 23.2): the character c of the readtable n gets what d has in the readtable o. That both
 -- are there is looked at first.
 abbrev pub with_syntax : Readtables → Name → ℕ → Name → ℕ → Result Readtables ReadtableError
 with_syntax m n c o d =
-    option_map_or (λ z. changed m n (λ t. Ok (with_entry t c (entry_at z d)))) (finite.get m o) (Err NoReadtable)
+    option_map_or (λ z. changed_readtable m n (λ t. Ok (with_entry t c (entry_at z d)))) (finite.get m o) (Err NoReadtable)
 
 -- COPY-READTABLE (standard 23.2): the readtable n is made, or written over, as the readtable o is. There are at most 64.
 abbrev pub with_copy : Readtables → Name → Name → Result Readtables ReadtableError

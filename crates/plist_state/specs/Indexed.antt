@@ -27,13 +27,13 @@ abbrev pub order_in : Orders → ℕ → Option ℕ
 order_in x i = lookup (is_at (nat_cmp i)) x
 
 -- the orders rise along the row
-abbrev pub IsRising : Orders → Type 0
-IsRising ks = (i j : ℕ) → i < j → j < length ks → (nth ks i).1 < (nth ks j).1
+abbrev pub HasRisingOrders : Orders → Type 0
+HasRisingOrders ks = (i j : ℕ) → i < j → j < length ks → (nth ks i).1 < (nth ks j).1
 
 -- The index has the order of each property of the row, and the orders rise. It may have other indicators.
 pub record IsIndexed (x ks : Orders) : Type 0 where
   pub finds : (k : ℕ) → k < length ks → order_in x (nth ks k).0 ≡ Some (nth ks k).1
-  pub rising : IsRising ks
+  pub rising : HasRisingOrders ks
 
 -- the indexes of rows, by the numbers of their symbols
 abbrev pub Index : Type 0

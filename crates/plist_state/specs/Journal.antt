@@ -49,13 +49,13 @@ IsNoted (InReadtable name) = Unit {0}
 IsNoted (InBase base) = Unit {0}
 
 -- the rows have memory for these property lists
-abbrev pub Fits : Rows → NumberedRest → Type 0
-Fits rows r = (i : ℕ) → length (row_of r.properties i) ≤ room_at rows i
+abbrev pub FitsRows : Rows → NumberedRest → Type 0
+FitsRows rows r = (i : ℕ) → length (row_of r.properties i) ≤ room_at rows i
 
 -- each rest on the way back over these notes can be put back, and the rows have memory for it
 abbrev pub LeadsBack : List Note → NumberedRest → Rows → Type 0
 LeadsBack [] r rows = Unit {0}
-LeadsBack (n ∷ ns) r rows = IsNoted n × Fits rows (all_undone (n ∷ ns) r) × LeadsBack ns r rows
+LeadsBack (n ∷ ns) r rows = IsNoted n × FitsRows rows (all_undone (n ∷ ns) r) × LeadsBack ns r rows
 
 -- and so back over these marks
 abbrev pub IsJournal : List (List Note) → NumberedRest → Rows → Type 0
@@ -65,7 +65,7 @@ IsJournal (m ∷ ms) r rows = LeadsBack m (undone_since ms r) rows × IsJournal 
 -- From the rest u one gets back with the notes ns to what one gets back to from t with the notes ms.
 pub record Continues (ms : List (List Note)) (t : NumberedRest) (ns : List (List Note)) (u : NumberedRest) : Type 0 where
   pub same : rests_at ns u ≡ rests_at ms t
-  pub journal : (rows : Rows) → Fits rows t → IsJournal ms t rows → IsJournal ns u rows
+  pub journal : (rows : Rows) → FitsRows rows t → IsJournal ms t rows → IsJournal ns u rows
 
 -- the same of a change of the readtables alone, whatever else is kept
 abbrev pub ContinuesTables : List (List Note) → Readtables → List (List Note) → Readtables → Type 0

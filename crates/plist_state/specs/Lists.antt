@@ -51,24 +51,24 @@ abbrev pub has_number : Numbered → ℕ → Symbol → Bool
 has_number s i x = option_map_or (same_number i) (number_of s x.0 x.1) false
 
 -- the symbol of a number, and one with empty names where there is none
-unfoldable pub symbol_at : Numbered → ℕ → Symbol
-symbol_at s i = unwrap_or (find (has_number s i) (symbols s.0)) ([], [])
+unfoldable pub numbered_symbol : Numbered → ℕ → Symbol
+numbered_symbol s i = unwrap_or (find (has_number s i) (symbols s.0)) ([], [])
 
 -- this is the number of a symbol
 abbrev pub IsNumber : Numbered → ℕ → Type 0
-IsNumber s i = number_of s (symbol_at s i).0 (symbol_at s i).1 ≡ Some i
+IsNumber s i = number_of s (numbered_symbol s i).0 (numbered_symbol s i).1 ≡ Some i
 
 -- the property list by the symbols of its indicators
-abbrev pub named : Numbered → NumberedPlist → Plist
-named s ps = map (λ p. (symbol_at s p.0, p.1)) ps
+abbrev pub named_plist : Numbered → NumberedPlist → Plist
+named_plist s ps = map (λ p. (numbered_symbol s p.0, p.1)) ps
 
 -- the property list of a symbol, if it has one
-abbrev pub list_of : Numbered → NumberedLists → Symbol → Option Plist
-list_of s m x = option_map (named s) (option_and_then (finite.get m) (number_of s x.0 x.1))
+abbrev pub property_list_of : Numbered → NumberedLists → Symbol → Option Plist
+property_list_of s m x = option_map (named_plist s) (option_and_then (finite.get m) (number_of s x.0 x.1))
 
 -- the property lists by their symbols
 abbrev pub lists : Numbered → NumberedLists → Properties
-lists s m = finite.from_entries (filter_map (λ x. option_map (λ ps. (x, ps)) (list_of s m x)) (symbols s.0))
+lists s m = finite.from_entries (filter_map (λ x. option_map (λ ps. (x, ps)) (property_list_of s m x)) (symbols s.0))
 
 -- each number that has a list is that of a symbol, and so is each indicator in it
 pub record IsOwned (s : Numbered) (m : NumberedLists) : Type 0 where

@@ -84,7 +84,7 @@ pub record AreReplaced (es : List Replaced) (marks : ℕ) : Type 0 where
   pub below : marks < 2 ^ 62
 
 -- so it is with what the world keeps now, and with what was replaced
-pub record IsKept (a : Inside) : Type 0 where
+pub record HasKeptWorld (a : Inside) : Type 0 where
   pub now : IsKeptPart a.packages a.stored a.marks.items a.sizes.entries
   pub earlier : AreReplaced a.earlier.items a.earlier_marks
 

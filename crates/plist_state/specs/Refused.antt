@@ -4,10 +4,10 @@ use Rattle.lisp_object.specs.declared.refusal.TheConstants.{NO_READTABLE, STANDA
 use Rattle.plist_state.specs.declared.error.ReadtableError.{ReadtableError}
 use Rattle.plist_state.specs.declared.error.ReadtableError.TheVariants.{NoReadtable, StandardReadtable, NotDispatching, DigitSubcharacter, Limit, OutOfMemory}
 
-abbrev pub number_of : ReadtableError → ℕ
-number_of NoReadtable = NO_READTABLE
-number_of StandardReadtable = STANDARD_READTABLE
-number_of NotDispatching = NOT_DISPATCHING
-number_of DigitSubcharacter = DIGIT_SUBCHARACTER
-number_of Limit = LIMIT
-number_of OutOfMemory = NO_MEMORY
+abbrev pub readtable_error_number : ReadtableError → ℕ
+readtable_error_number NoReadtable = NO_READTABLE
+readtable_error_number StandardReadtable = STANDARD_READTABLE
+readtable_error_number NotDispatching = NOT_DISPATCHING
+readtable_error_number DigitSubcharacter = DIGIT_SUBCHARACTER
+readtable_error_number Limit = LIMIT
+readtable_error_number OutOfMemory = NO_MEMORY

@@ -4,12 +4,12 @@ use Rattle.lisp_object.specs.Datum.{is_proper}
 use Rattle.package_table.specs.Numbers.{numbered}
 use Rattle.plist_state.specs.declared.property_list.PropertyList.TheInside.{Inside}
 use Rattle.plist_state.specs.Properties.{Plist}
-use Rattle.plist_state.specs.Lists.{IsNumber, named}
+use Rattle.plist_state.specs.Lists.{IsNumber, named_plist}
 use Rattle.plist_state.specs.Shown.{numbered_property, items_in}
 
 -- the properties by the symbols of their indicators
 abbrev pub plist_in : Inside → Plist
-plist_in a = named (numbered a.packages.now) (map numbered_property (items_in a.row))
+plist_in a = named_plist (numbered a.packages.now) (map numbered_property (items_in a.row))
 
 -- each indicator is the number of a symbol, and each value is proper
 pub record IsPropertyList (a : Inside) : Type 0 where

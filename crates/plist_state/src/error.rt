@@ -1,6 +1,6 @@
 //! Why a call on readtables is refused.
 ghost use Rattle.std.specs.Prelude.{◌≡◌};
-ghost use Rattle.plist_state.specs.Refused.{number_of};
+ghost use Rattle.plist_state.specs.Refused.{readtable_error_number};
 
 use lisp_object::refusal;
 use std::alloc::AllocError;
@@ -25,7 +25,7 @@ pub enum ReadtableError {
 impl ReadtableError {
     /// The number of the refusal: 39, 40, 42, 43, 46 or 90.
     pub fn number(self) -> u16
-        ensures { result ≡ number_of self }
+        ensures { result ≡ readtable_error_number self }
     {
         match self {
             ReadtableError::NoReadtable => refusal::NO_READTABLE,

@@ -40,7 +40,7 @@
 //! - specs/Changes.antt: what each call makes of a state; specs/Pushed.antt: `pushed`, `with_pushed`, `holds_pair`, `pair_size`;
 //!   specs/Popped.antt: `first_item`, `with_popped`
 //! - specs/Sound.antt: what holds of each state; specs/Readers.antt: the lists that a world gives
-//! - specs/Shown.antt: `symbol_of`, `symbol_named`, `property_of`; specs/Refused.antt: `number_of`; specs/Codes.antt: `state_code`
+//! - specs/Shown.antt: `symbol_of`, `symbol_named`, `property_of`; specs/Refused.antt: `readtable_error_number`; specs/Codes.antt: `state_code`
 //!
 //! # Laws for the crates above
 //!

@@ -3,7 +3,7 @@ ghost use Rattle.std.specs.Prelude.{◌≡◌, ◌<◌, ◌==◌, true, All, Som
 ghost use Rattle.std.specs.List.{slice_get};
 ghost use Rattle.lisp_object.specs.Datum.{is_proper};
 ghost use Rattle.package_table.specs.Numbers.{numbered};
-ghost use Rattle.plist_state.specs.Lists.{IsNumber, named};
+ghost use Rattle.plist_state.specs.Lists.{IsNumber, named_plist};
 ghost use Rattle.plist_state.specs.Shown.{numbered_property, property_of, items_in};
 
 use crate::Property;
@@ -37,7 +37,7 @@ impl<'a> PropertyList<'a> {
     pub(crate) fn new(packages: &'a Packages, row: Option<&'a Row>) -> PropertyList<'a>
         requires indicators { All (λ p. IsNumber (numbered packages.now) p.indicator) (items_in row) }
         requires values { All (λ p. is_proper p.value ≡ true) (items_in row) }
-        ensures { result ≡ named (numbered packages.now) (map numbered_property (items_in row.entry)) }
+        ensures { result ≡ named_plist (numbered packages.now) (map numbered_property (items_in row.entry)) }
     {
         PropertyList { packages, row }
     }

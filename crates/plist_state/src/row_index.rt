@@ -4,7 +4,7 @@ ghost use Rattle.std.specs.List.{position, insert};
 ghost use Rattle.std.specs.Ordering.{nat_cmp, eq_by_cmp};
 ghost use Rattle.property_rows.specs.declared.property.NumberedProperty.{NumberedProperty as Numbered};
 ghost use Rattle.plist_state.specs.Lists.{same_number};
-ghost use Rattle.plist_state.specs.Indexed.{Orders, orders, nth, order_in, IsRising, IsIndexed, IsIndexedIn, KeepsOthers};
+ghost use Rattle.plist_state.specs.Indexed.{Orders, orders, nth, order_in, HasRisingOrders, IsIndexed, IsIndexedIn, KeepsOthers};
 
 use property_rows::{NumberedProperty, Row};
 use std::alloc::{AllocError, Global};
@@ -28,7 +28,7 @@ fn searched(row: &Row, indicator: u32) -> Option<usize>
 
 // Where the property of this order is.
 fn by_order(row: &Row, order: u64) -> Option<usize>
-    requires { IsRising (orders row.now.items) }
+    requires { HasRisingOrders (orders row.now.items) }
     ensures found { IfSome result (λ k. (k < length row.now.items) × ((nth (orders row.now.items) k).1 ≡ order)) }
     ensures absent { result ≡ None → (k : ℕ) → k < length row.now.items → (nth (orders row.now.items) k).1 ≢ order }
 {
@@ -83,7 +83,7 @@ pub(crate) fn place(row: &Row, indexes: &Indexes, number: u32, indicator: u32) -
 
 // The order of a property that is new in a row.
 fn next_order(row: &Row) -> Result<u64, AllocError>
-    ensures { IfOk result (λ next. IsRising (orders row.now.items)
+    ensures { IfOk result (λ next. HasRisingOrders (orders row.now.items)
         → (k : ℕ) → k < length row.now.items → (nth (orders row.now.items) k).1 < next) }
 {
     match row.last_order().checked_add(1) {
@@ -152,7 +152,7 @@ fn note_order(
 ) -> Result<(), AllocError>
     requires indexed { IsIndexedIn indexes.old.entries number row.now.items }
     requires new { position (λ p. same_number indicator p.indicator) row.now.items ≡ None }
-    requires above { IsRising (orders row.now.items) → (k : ℕ) → k < length row.now.items → (nth (orders row.now.items) k).1 < order }
+    requires above { HasRisingOrders (orders row.now.items) → (k : ℕ) → k < length row.now.items → (nth (orders row.now.items) k).1 < order }
     ensures indexed { IsIndexedIn indexes.new.entries number row.now.items }
     ensures next { OnOk result ((p : Numbered) → p.indicator ≡ indicator → p.order ≡ order
         → IsIndexedIn indexes.new.entries number (row.now.items ++ p ∷ [])) }

@@ -6,7 +6,7 @@ ghost use Rattle.plist_state.specs.Shown.{rest_of};
 ghost use Rattle.plist_state.specs.Indexed.{AreIndexed};
 ghost use Rattle.plist_state.specs.Kept.{IsProperRows, IsWider};
 ghost use Rattle.plist_state.specs.Undoing.{undone, all_undone, rests_at};
-ghost use Rattle.plist_state.specs.Journal.{marks_of, IsNoted, IsJournal, Fits, LeadsBack};
+ghost use Rattle.plist_state.specs.Journal.{marks_of, IsNoted, IsJournal, FitsRows, LeadsBack};
 
 use crate::note::Note;
 use crate::stored::Stored;
@@ -16,7 +16,7 @@ fn undo(stored: &mut Stored, note: Note)
     requires note { IsNoted note }
     requires values { IsProperRows stored.old.properties.items }
     requires indexed { AreIndexed stored.old.properties.items stored.old.indexes.entries }
-    requires room { Fits stored.old.properties.items (undone note (rest_of stored.old)) }
+    requires room { FitsRows stored.old.properties.items (undone note (rest_of stored.old)) }
     ensures after { rest_of stored.new ≡ undone note (rest_of stored.old) }
     ensures wider { IsWider stored.old.properties.items stored.new.properties.items }
     ensures indexed { AreIndexed stored.new.properties.items stored.new.indexes.entries }

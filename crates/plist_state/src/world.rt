@@ -63,11 +63,11 @@ impl Model for World {
 
     ghost coded = { worlds_code };
 
-    ghost use Rattle.plist_state.specs.Marked.{worlds_of, IsKept};
+    ghost use Rattle.plist_state.specs.Marked.{worlds_of, HasKeptWorld};
 
     ghost view = { worlds_of };
 
-    ghost invariant = { IsKept };
+    ghost invariant = { HasKeptWorld };
 }
 
 impl World {

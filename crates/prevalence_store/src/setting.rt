@@ -3,7 +3,7 @@ ghost use Rattle.std.specs.Prelude.{◌≡◌, ◌≤◌, true, IfOk};
 ghost use Rattle.package_table.specs.Table.{IsPackage};
 ghost use Rattle.form_reader.specs.Reader.{IsOutcome};
 ghost use Rattle.prevalence_store.specs.meaning.Acceptance.{base_in, package_in, read_in, table_in};
-ghost use Rattle.prevalence_store.specs.steps.Setting.{AreThere, IsWhole};
+ghost use Rattle.prevalence_store.specs.steps.Setting.{SymbolsAreThere, IsWhole};
 
 use crate::whole_macros::WholeMacros;
 use form_eval::ReadForm;
@@ -78,7 +78,7 @@ pub fn read_whole<R: MacroFunctions>(
     ensures { IfOk result (IsWhole R.Meaning.functions world.now.0 mode text.now) }
 {
     world.soundness();
-    let Beginning { outcome, known } = begins(alloc, world, macros, mode, text)?;
+    let SettingStart { outcome, known } = begins(alloc, world, macros, mode, text)?;
     match outcome {
         ReadOutcome::Empty => Ok(WholeText::Refused(END_OF_FILE)),
         ReadOutcome::Refused { code, at: _ } => Ok(WholeText::Refused(code)),
@@ -99,7 +99,7 @@ pub fn read_whole<R: MacroFunctions>(
 
 // What a text begins with.
 #[derive(Drop)]
-struct Beginning {
+struct SettingStart {
     outcome: ReadOutcome,
     // whether each symbol of a form is known to be there already
     known: bool,
@@ -112,18 +112,18 @@ fn begins<R: MacroFunctions>(
     macros: &WholeMacros<R>,
     mode: Mode,
     text: &[u8],
-) -> Result<Beginning, AllocError>
+) -> Result<SettingStart, AllocError>
     ensures outcome { IfOk result (λ begun. IsOutcome begun.outcome
         (read_in R.Meaning.functions world.now.0 mode text.now)) }
     ensures all_there { IfOk result (λ begun. begun.known ≡ true
-        → AreThere world.now.0.packages begun.outcome) }
+        → SymbolsAreThere world.now.0.packages begun.outcome) }
 {
     let (readtable, base) = (readtable_in(world, mode), base_in(world, mode));
     let (packages, package) = (world.packages(), package_in(world, mode));
     let limits = Limits::form();
     // most forms are plain, and need no reader of bytes
     if let Some(plain) = read_plain(alloc, limits, readtable, base, packages, package, text)? {
-        return Ok(Beginning {
+        return Ok(SettingStart {
             outcome: ReadOutcome::Form {
                 datum: plain.datum,
                 start: 0,
@@ -137,7 +137,7 @@ fn begins<R: MacroFunctions>(
     let outcome = read_one(
         alloc, limits, readtable, base, packages, package, functions, text,
     )?;
-    Ok(Beginning {
+    Ok(SettingStart {
         outcome,
         known: false,
     })

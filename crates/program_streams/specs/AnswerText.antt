@@ -68,15 +68,15 @@ abbrev pub is_end : At → Bool
 is_end Start = true
 is_end _ = false
 
-abbrev pub is_refusal : At → Bool
-is_refusal Refusal = true
-is_refusal _ = false
+abbrev pub is_refusal_line : At → Bool
+is_refusal_line Refusal = true
+is_refusal_line _ = false
 
 -- a byte after which an answer ends makes one more of its kind
 abbrev pub counted_byte : At → Counts → ℕ → Counts
 counted_byte at counts byte =
     if is_end (after at byte) then
-    (if is_refusal at then record counts { refusals = told_number (counts.refusals + 1) }
+    (if is_refusal_line at then record counts { refusals = told_number (counts.refusals + 1) }
     else record counts { values = told_number (counts.values + 1) })
     else counts
 

@@ -4,7 +4,7 @@
 //! - `TypedLines`: an input at a terminal that tells of each line which the terminal has cut (module `typed_lines`).
 //! - `wish_of`: what a line at a terminal asks for that is no form of a store, and `Prompts`, a writer that may know what the pages say (module
 //!   `typed_words`).
-//! - `Shown`: a writer of text that lets no control character through to a terminal (module `shown`).
+//! - `ShownText`: a writer of text that lets no control character through to a terminal (module `shown`).
 //! - `Refusals`: an output that lets the refusals among answers through, and counts; `write_counts` writes the line on the counts (module
 //!   `refusals`, over `answer_text`, which tells where an answer ends).
 //! - `Pipe`: an output that takes note of it when its reader has gone, and `BesidePipe`, a writer that tells nothing any more then (module `pipe`).
@@ -23,7 +23,7 @@ mod uninterrupted;
 pub use pipe::{BesidePipe, Pipe};
 pub use progress::{Cleared, Progress};
 pub use refusals::{Counts, Refusals, write_counts};
-pub use shown::Shown;
+pub use shown::ShownText;
 pub use typed_lines::TypedLines;
 pub use typed_words::{Prompts, Wish, wish_of};
 pub use uninterrupted::Uninterrupted;

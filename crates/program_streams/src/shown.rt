@@ -3,13 +3,13 @@ use std::{fmt, io};
 
 /// A writer of text that shows each control character but the newline by its number in base 16, so that no terminal obeys it.
 #[derive(Drop)]
-pub struct Shown<'a, W> {
+pub struct ShownText<'a, W> {
     writer: &'a mut W,
 }
 
-impl<'a, W> Shown<'a, W> {
-    pub fn new(writer: &'a mut W) -> Shown<'a, W> {
-        Shown { writer }
+impl<'a, W> ShownText<'a, W> {
+    pub fn new(writer: &'a mut W) -> ShownText<'a, W> {
+        ShownText { writer }
     }
 }
 
@@ -18,7 +18,7 @@ fn is_obeyed(c: char) -> bool {
     (c < ' ' && c != '\n') || ('\x7f' <= c && c <= '\u{9f}')
 }
 
-impl<W: io::Write> fmt::Write for Shown<'_, W> {
+impl<W: io::Write> fmt::Write for ShownText<'_, W> {
     fn write_str(&mut self, text: &str) -> fmt::Result {
         for c in text.chars() {
             let written = if is_obeyed(c) {

@@ -10,7 +10,7 @@ use Rattle.prevalence_store.specs.calls.Store.{StoreView}
 use Rattle.session_words.specs.declared.mode.Mode.TheVariants.{Current}
 use Rattle.store_laws.specs.Batches.{MeansCalls}
 use Rattle.store_laws.specs.Sessions.{AreCalls, AreHanded, Handing, account_after, call_since, calls_of}
-use Rattle.program_tests.specs.Keepers.{AreDone, ComesOf, HasDone, IsKept, KeeperView, account_of, began_with, first_of, kept_by}
+use Rattle.program_tests.specs.Keepers.{AreDone, ComesOf, HasDone, KeepsAccount, KeeperView, account_of, began_with, first_account_of, kept_by}
 use Rattle.user_macros.specs.Functions.{Functions}
 
 -- its account after more forms
@@ -52,7 +52,7 @@ module _ (functions : Functions) {D : Type 0} (R : Type 0) (state : D → State)
   -- what is known of a recipient as it takes more lines
   pub record TakesMore (value : KeeperView D R) (store : StoreView D R) (input : Option (List ℕ)) (start last : StoreView D R) (old now : Option ℕ) (lines : List ℕ) (forms : ℕ) : Type 0 where
     pub before : account_of value ≡ option_map (kept_by start input last) old
-    pub kept : IsKept functions state start input last old
+    pub kept : KeepsAccount functions state start input last old
     pub stored : (kept : Account D) → account_of value ≡ Some kept → AreStored functions state kept store lines forms
     pub counted : (all : ℕ) → now ≡ Some all → (some : ℕ) × (old ≡ Some some) × (all ≡ some + forms)
 
@@ -63,7 +63,7 @@ module _ (functions : Functions) {D : Type 0} (R : Type 0) (state : D → State)
         ∙ account_on start last store input old now forms later takes.counted
         (λ some there. let s = takes.stored (kept_by start input last some) (takes.before ∙ ap (option_map (kept_by start input last)) there) in (s.far.world, s.left)) is
 
-    pub still_kept : GoesOn (began_with start input) → IsKept functions state start input store now
+    pub still_kept : GoesOn (began_with start input) → KeepsAccount functions state start input store now
     still_kept law later is =
         handed_on (began_with start input) later (account_of value) store lines forms law
         (λ kept there. takes.kept kept (sym takes.before ∙ there)) takes.stored (next_account later is)
@@ -110,8 +110,8 @@ module _ (functions : Functions) {D : Type 0} (R : Type 0) (state : D → State)
         ends = ends_at last comes.handings first comes.handed;
       }
 
-  pub session_calls : (first : Account D) (store : StoreView D R) (keeper : KeeperView D R) → Ends first store → first_of keeper ≡ first → IsSome keeper.forms
-      → IsKept functions state keeper.start keeper.input keeper.last keeper.forms → ((kept : Account D) → account_of keeper ≡ Some kept → AreUnderWay functions state kept store)
+  pub session_calls : (first : Account D) (store : StoreView D R) (keeper : KeeperView D R) → Ends first store → first_account_of keeper ≡ first → IsSome keeper.forms
+      → KeepsAccount functions state keeper.start keeper.input keeper.last keeper.forms → ((kept : Account D) → account_of keeper ≡ Some kept → AreUnderWay functions state kept store)
       → AreDone functions R state first store.disk
   session_calls first store keeper law same some is_kept since = by_forms keeper.forms refl some where
     by_forms : (forms : Option ℕ) → keeper.forms ≡ forms → IsSome forms → AreDone functions R state first store.disk

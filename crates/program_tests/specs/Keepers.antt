@@ -46,8 +46,8 @@ kept_by start input last forms = record {
   disk = last.disk;
 }
 
-abbrev pub first_of : {D R : Type 0} → KeeperView D R → Account D
-first_of keeper = began_with keeper.start keeper.input
+abbrev pub first_account_of : {D R : Type 0} → KeeperView D R → Account D
+first_account_of keeper = began_with keeper.start keeper.input
 
 abbrev pub account_of : {D R : Type 0} → KeeperView D R → Option (Account D)
 account_of keeper = option_map (kept_by keeper.start keeper.input keeper.last) keeper.forms
@@ -61,8 +61,8 @@ pub record ComesOf (functions : Functions) {D : Type 0} (R : Type 0) (state : D 
   pub is : account_after first handings ≡ account
 
 -- so does that of a recipient which has these
-abbrev pub IsKept : Functions → {D R : Type 0} → (D → State) → (start : StoreView D R) → Option (List ℕ) → (last : StoreView D R) → Option ℕ → Type 0
-IsKept functions {D} {R} state start input last forms =
+abbrev pub KeepsAccount : Functions → {D R : Type 0} → (D → State) → (start : StoreView D R) → Option (List ℕ) → (last : StoreView D R) → Option ℕ → Type 0
+KeepsAccount functions {D} {R} state start input last forms =
     (kept : Account D) → option_map (kept_by start input last) forms ≡ Some kept → ComesOf functions R state (began_with start input) kept
 
 -- ---- what its session did

@@ -6,7 +6,7 @@ ghost use Rattle.gate_log.specs.Layout.{Contents};
 ghost use Rattle.gate_log.specs.Log.{FilesMean};
 ghost use Rattle.gate_log.specs.Opening.{Warrants};
 ghost use Rattle.gate_log.specs.declared.error.OpenRefusal.{OpenRefusal};
-ghost use Rattle.log_look.specs.Live.{IsHonest};
+ghost use Rattle.log_look.specs.Live.{IsHonestWatch};
 ghost use Rattle.log_look.specs.Rest.{AreAtRest};
 ghost use Rattle.log_look.specs.SeenState.{state_of};
 
@@ -43,11 +43,11 @@ fn have_same_half<D: Disk, E: Disk>(one: &Halves<D>, other: &Halves<E>) -> bool
 
 /// Looks at two files. If nobody writes them meanwhile, what was seen means what they mean, and would be refused for the same reasons.
 fn seen_at_rest<F: LiveFiles>(alloc: Global, files: &mut F) -> Option<Sight>
-    ensures means { (image : Image) → IsHonest (F.watch files.old)
+    ensures means { (image : Image) → IsHonestWatch (F.watch files.old)
         → AreAtRest (F.watch files.old).files (F.watch files.old).now (F.watch files.new).now image
         → IfSome result (λ sight. (k : Option Contents)
         → (FilesMean k image → FilesMean k (state_of sight).reads) × (FilesMean k (state_of sight).reads → FilesMean k image)) }
-    ensures refused { (image : Image) → IsHonest (F.watch files.old)
+    ensures refused { (image : Image) → IsHonestWatch (F.watch files.old)
         → AreAtRest (F.watch files.old).files (F.watch files.old).now (F.watch files.new).now image
         → IfSome result (λ sight. (e : OpenRefusal)
         → (Warrants e image → Warrants e (state_of sight).reads) × (Warrants e (state_of sight).reads → Warrants e image)) }

@@ -4,7 +4,7 @@ ghost use Rattle.std.specs.Prelude.{◌≡◌, ℕ, ◌+◌, ◌<◌, ◌-◌, �
 ghost use Rattle.disk_trait.specs.Disk.{IsHonest};
 ghost use Rattle.plist_state.specs.State.{WorldState};
 ghost use Rattle.sessions.specs.Account.{Account, AreStored, with_forms};
-ghost use Rattle.program_tests.specs.Keepers.{HasDone, IsKept, account_of, first_of};
+ghost use Rattle.program_tests.specs.Keepers.{HasDone, KeepsAccount, account_of, first_account_of};
 
 use crate::again::{AMPLE, reopen_failed};
 use disk_trait::{Disk, MemoryDisk, OnceDisk};
@@ -30,7 +30,7 @@ pub struct Keeper<D: Disk, M: MacroFunctions, I: Read> {
 }
 
 impl<D: Disk, M: MacroFunctions, I: Read> Model for Keeper<D, M, I> {
-    ghost use Rattle.program_tests.specs.Keepers.{IsKept, KeeperView, keeper_code};
+    ghost use Rattle.program_tests.specs.Keepers.{KeepsAccount, KeeperView, keeper_code};
 
     ghost Value = { KeeperView D M };
 
@@ -45,7 +45,7 @@ impl<D: Disk, M: MacroFunctions, I: Read> Model for Keeper<D, M, I> {
     } };
 
     // its account comes of lines that it was handed, each as it asks
-    ghost invariant = { λ k. IsKept M.Meaning.functions D.state k.start.value (I.remaining k.input.value) k.last.value k.forms };
+    ghost invariant = { λ k. KeepsAccount M.Meaning.functions D.state k.start.value (I.remaining k.input.value) k.last.value k.forms };
 }
 
 /// So many more, if they are not too many.
@@ -83,7 +83,7 @@ impl<D: Disk, M: MacroFunctions, I: Read> Keeper<D, M, I> {
         requires stored { (kept : Account D) → account_of self.old ≡ Some kept
             → AreStored M.Meaning.functions D.state kept store.now lines.now forms }
         ensures bytes { self.new.bytes ≡ self.old.bytes }
-        ensures first { first_of self.new ≡ first_of self.old }
+        ensures first { first_account_of self.new ≡ first_account_of self.old }
         ensures kept { (later : Account D) → account_of self.new ≡ Some later
             → option_map (with_forms forms store.now) (account_of self.old) ≡ Some later }
     {
@@ -95,7 +95,7 @@ impl<D: Disk, M: MacroFunctions, I: Read> Keeper<D, M, I> {
 
     /// Its account comes of lines that it was handed.
     fn is_kept(&self)
-        ensures { IsKept M.Meaning.functions D.state self.now.start self.now.input self.now.last self.now.forms }
+        ensures { KeepsAccount M.Meaning.functions D.state self.now.start self.now.input self.now.last self.now.forms }
     {
         let _ = &self.forms;
     }
@@ -123,7 +123,7 @@ impl<D: Disk, M: MacroFunctions, I: Read> Recipient<D, M> for Keeper<D, M, I> {
 
     ghost account = { account_of };
 
-    ghost first = { λ k. Some (first_of k) };
+    ghost first = { λ k. Some (first_account_of k) };
 
     fn write_lines(
         &mut self,

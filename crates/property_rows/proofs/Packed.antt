@@ -13,7 +13,7 @@ use Rattle.std.proofs.lemmas.Iterator.Adapters.{position_from-zero}
 use Rattle.std.proofs.lemmas.List.{length-map, length-take, length-drop, length-append}
 use Rattle.property_rows.specs.declared.slot.Slot.{Slot}
 use Rattle.property_rows.specs.declared.property.NumberedProperty.{NumberedProperty}
-use Rattle.property_rows.specs.Slots.{is_gone, property_in, there, gone_in, full, most, IsNode, IsCounted, IsTree, IsWhole, IsSlots, uncounted, packed, has, no_property}
+use Rattle.property_rows.specs.Slots.{is_gone, property_in, there, gone_in, full, most_slots, IsNode, IsCounted, IsTree, IsWhole, IsSlots, uncounted, packed, has, no_property}
 use Rattle.property_rows.proofs.Counted.{counted-any}
 
 pub packed-there : (slots : List Slot) → there (packed slots) ≡ there slots
@@ -67,7 +67,7 @@ uncounted-counted (suc d) slots le =
           (uncounted_node d (take (full d) (map uncounted slots)) (drop (full d) slots) (uncounted-counted d) none (omega (arith, back, le))),
     )
 
-pub uncounted-slots : (slots : List Slot) → length slots ≤ most → IsSlots (map uncounted slots)
+pub uncounted-slots : (slots : List Slot) → length slots ≤ most_slots → IsSlots (map uncounted slots)
 uncounted-slots slots few =
     let long = length-map slots uncounted in
     record { counted = λ d le. uncounted-counted d slots (omega (arith, le, long)); few = omega (arith, few, long) }
@@ -78,7 +78,7 @@ slots-tree size slots whole le slots_are =
     let is = whole.whole in
     record { depth = whole.depth; whole = is; counted = slots_are.counted whole.depth (omega (arith, le, is)) }
 
-pub tree-slots : (size : ℕ) (slots : List Slot) → length slots ≤ most → IsTree size slots → IsSlots slots
+pub tree-slots : (size : ℕ) (slots : List Slot) → length slots ≤ most_slots → IsTree size slots → IsSlots slots
 tree-slots size slots few tree = record { counted = λ d le. counted-any tree.depth d slots le tree.counted; few = few }
 
 -- ---- slots of the same counts

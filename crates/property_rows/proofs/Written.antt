@@ -13,7 +13,7 @@ use Rattle.std.proofs.Math.Seq.{take-append_seam}
 use Rattle.std.proofs.lemmas.List.{length-map, length_push}
 use Rattle.property_rows.specs.declared.slot.Slot.{Slot}
 use Rattle.property_rows.specs.declared.property.NumberedProperty.{NumberedProperty}
-use Rattle.property_rows.specs.Slots.{is_gone, property_in, there, slot_at, shown, blank, no_property, most, IsTree, IsSlots, uncounted, packed}
+use Rattle.property_rows.specs.Slots.{is_gone, property_in, there, slot_at, shown, blank, no_property, most_slots, IsTree, IsSlots, uncounted, packed}
 use Rattle.property_rows.specs.Vacant.{IsVacant}
 use Rattle.property_rows.proofs.Counted.{there-append}
 use Rattle.property_rows.proofs.Turned.{Shown, there_of, there_shown, shown-length}
@@ -109,7 +109,7 @@ put_is slots i t none =
     let same : uncounted t ≡ t = λ j. record { indicator = t.indicator; gone = sym none j; order = t.order; value = t.value } in
     ap (insert (packed slots) i) (sym same) ∙ sym (map-insert uncounted (kept slots) i t)
 
-pub put_slots : (slots : List Slot) (i : ℕ) (t : Slot) → t.gone ≡ 0 → length (packed slots) < most → IsSlots (insert (packed slots) i t)
+pub put_slots : (slots : List Slot) (i : ℕ) (t : Slot) → t.gone ≡ 0 → length (packed slots) < most_slots → IsSlots (insert (packed slots) i t)
 put_slots slots i t none few =
     let long = length-map (kept slots) uncounted in
     let more = long_insert (kept slots) i t in
@@ -149,7 +149,7 @@ pub either_there : (b d : Bool) (later old new : List Slot) (ps qs : List Number
 either_there true d later old new ps qs e same a c = ap there e ∙ c ∙ ap (λ b. cond b qs ps) same
 either_there false d later old new ps qs e same a c = ap there e ∙ a ∙ ap (λ b. cond b qs ps) same
 
-pub next_slots : (slots : List Slot) (size : ℕ) (s : Slot) → length slots < most → IsTree size (slots ++ s ∷ []) → IsSlots (slots ++ s ∷ [])
+pub next_slots : (slots : List Slot) (size : ℕ) (s : Slot) → length slots < most_slots → IsTree size (slots ++ s ∷ []) → IsSlots (slots ++ s ∷ [])
 next_slots slots size s few tree = let long = length_push slots s in tree-slots size (slots ++ s ∷ []) (omega (arith, few, long)) tree
 
 -- the slots of a vector whose slice was written

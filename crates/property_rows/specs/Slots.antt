@@ -66,13 +66,13 @@ abbrev pub no_property : NumberedProperty
 no_property = record { indicator = 0; order = 0; value = Char 0 }
 
 -- A row has at most this many slots, so that a count has room in a slot.
-abbrev pub most : ℕ
-most = 2147483647
+abbrev pub most_slots : ℕ
+most_slots = 2147483647
 
 -- the slots are counted, in each tree that they fit, and not too many
 pub record IsSlots (slots : List Slot) : Type 0 where
   pub counted : (d : ℕ) → length slots ≤ full d → IsCounted d slots
-  pub few : length slots ≤ most
+  pub few : length slots ≤ most_slots
 
 -- a slot that is there, and counts nothing
 abbrev pub uncounted : Slot → Slot

@@ -2,7 +2,7 @@
 ghost use Rattle.std.specs.Prelude.{◌≡◌, ◌+◌, ◌-◌, ◌<◌, ◌≤◌, ◌==◌, true, false, not, [], ◌∷◌, ◌++◌, map, length, take, is_ok, if◌then◌else◌, IfSome, IsOk, slice_index_or, slice_set, vec_capacity};
 ghost use Rattle.std.specs.List.{filter, position, insert, remove};
 ghost use Rattle.property_rows.specs.Vacant.{IsVacant};
-ghost use Rattle.property_rows.specs.Slots.{IsSlots, gone_in, slot_at, is_gone, property_in, there, uncounted, packed, blank, no_property, has, with_value, most};
+ghost use Rattle.property_rows.specs.Slots.{IsSlots, gone_in, slot_at, is_gone, property_in, there, uncounted, packed, blank, no_property, has, with_value, most_slots};
 
 use crate::NumberedProperty;
 use crate::slot::Slot;
@@ -225,7 +225,7 @@ pub(crate) fn put_in(
     ensures slots { IsSlots slots.new.items }
     ensures items { there slots.new.items ≡ (if is_ok result then insert (there slots.old.items) index property else there slots.old.items) }
     ensures capacity { vec_capacity slots.old ≤ vec_capacity slots.new }
-    ensures succeeds { length (there slots.old.items) < vec_capacity slots.old → length (there slots.old.items) < most → IsOk result }
+    ensures succeeds { length (there slots.old.items) < vec_capacity slots.old → length (there slots.old.items) < most_slots → IsOk result }
 {
     pack(slots);
     if slots.len() >= MOST {

@@ -2,13 +2,13 @@
 //! gone in the tree before it.
 ghost use Rattle.std.specs.Prelude.{◌≡◌, ◌+◌, ◌*◌, ◌<◌, ◌≤◌, true, false, not, [], ◌∷◌, ◌++◌, map, length, take, slice_index_or, slice_set};
 ghost use Rattle.property_rows.specs.declared.slot.Slot.{Slot as Kept};
-ghost use Rattle.property_rows.specs.Slots.{IsTree, IsWhole, gone_in, slot_at, is_gone, property_in, shown, blank, most};
+ghost use Rattle.property_rows.specs.Slots.{IsTree, IsWhole, gone_in, slot_at, is_gone, property_in, shown, blank, most_slots};
 
 use crate::slot::Slot;
 
 /// The size of a whole tree with room for so many slots.
 pub(crate) fn tree_of(count: usize) -> usize
-    requires { count ≤ most }
+    requires { count ≤ most_slots }
     ensures whole { IsWhole result }
     ensures room { count ≤ result }
 {
@@ -109,7 +109,7 @@ fn changed(count: u32, by: u32, leaves: bool) -> u32
 pub(crate) fn turn(slots: &mut [Slot], size: usize, place: usize, leaves: bool)
     requires tree { IsTree size slots.old }
     requires place { place < length slots.old }
-    requires few { length slots.old ≤ most }
+    requires few { length slots.old ≤ most_slots }
     requires here { is_gone (slice_index_or slots.old place blank) ≡ not leaves }
     ensures tree { IsTree size slots.new }
     ensures shown { map shown slots.new ≡ slice_set (map shown slots.old) place (leaves, property_in (slice_index_or slots.old place blank)) }

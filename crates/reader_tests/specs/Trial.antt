@@ -32,11 +32,11 @@ some_way (r ∷ rs) name =
     ]
 
 -- how much was gathered
-abbrev pub count : Material → ℕ
-count nothing = 0
-count (one x) = 1
-count (many xs) = length xs
-count (text cs) = length cs
+abbrev pub material_size : Material → ℕ
+material_size nothing = 0
+material_size (one x) = 1
+material_size (many xs) = length xs
+material_size (text cs) = length cs
 
 -- the object in two lists
 abbrev pub wrapped : Material → MacroAnswer
@@ -44,13 +44,13 @@ wrapped (one x) = value (pair (pair x nil) nil)
 wrapped _ = no_value
 
 -- the symbol of this name
-abbrev pub named : Material → MacroAnswer
-named (text cs) = value (symbol (codes "COMMON-LISP-USER") cs)
-named _ = no_value
+abbrev pub trial_symbol : Material → MacroAnswer
+trial_symbol (text cs) = value (symbol (codes "COMMON-LISP-USER") cs)
+trial_symbol _ = no_value
 
 -- symbols: of no package, under a nickname, a new one, of a package that has none of the name, and one that has another home
-abbrev pub symbol_at : ℕ → Object
-symbol_at n =
+abbrev pub trial_symbol_at : ℕ → Object
+trial_symbol_at n =
     if n == 11 then symbol (codes "NOWHERE") (codes "X")
     else (if n == 12 then symbol (codes "CL-USER") (codes "X")
     else (if n == 13 then symbol (codes "COMMON-LISP-USER") (codes "X")
@@ -63,7 +63,7 @@ large_at n =
     if n == 8 then value (nested 101)
     else (if n == 9 then value long_symbol
     else (if n == 10 then value (vector (list_of (ones 1000000)))
-    else value (symbol_at n)))
+    else value (trial_symbol_at n)))
 
 abbrev pub answer_at : ℕ → Material → MacroAnswer
 answer_at n material =
@@ -73,15 +73,15 @@ answer_at n material =
     else (if n == 4 then improper
     else (if n == 5 then improper
     else (if n == 6 then wrapped material
-    else (if n == 7 then named material
+    else (if n == 7 then trial_symbol material
     else large_at n))))))
 
-abbrev pub answered : Option ℕ → Material → MacroAnswer
-answered None material = value (integer (pos (count material)))
-answered (Some n) material = answer_at n material
+abbrev pub macro_answer : Option ℕ → Material → MacroAnswer
+macro_answer None material = value (integer (pos (material_size material)))
+macro_answer (Some n) material = answer_at n material
 
 abbrev pub trial_answer : List ℕ → MacroCall → MacroAnswer
-trial_answer name call = answered call.number call.gathered
+trial_answer name call = macro_answer call.number call.gathered
 
 -- the functions of the tests
 abbrev pub trial_functions : Functions

@@ -11,7 +11,9 @@ use readtable_core::{FnName, Readtable};
 use std::alloc::{AllocError, Global};
 use std::test::Fail;
 use user_macros::example::{Notes, note};
-use user_macros::{Answer, Call, Cause, Gathered, MacroFn, MacroFunctions, Macros, Refusal};
+use user_macros::{
+    Answer, Call, Cause, Gathered, MacroFn, MacroFunctions, Macros, RegistryRefusal,
+};
 
 // A call in which two objects were gathered.
 #[tactic(auto, using(lisp_object::proofs::Properness::proper_laws))]
@@ -104,12 +106,12 @@ fn what_is_refused_is_given_back(rt: HostRuntime) -> Result<(), Fail> {
         return Err(Fail::from("a reserved name"));
     };
     assert!(rt; refusal.cause == Cause::Reserved);
-    let Refusal { cause: _, function } = refusal;
+    let RegistryRefusal { cause: _, function } = refusal;
     let Err(refusal) = macros.register(FnName::new(b"FOO").unwrap(), function) else {
         return Err(Fail::from("an unknown name"));
     };
     assert!(rt; refusal.cause == Cause::Unknown);
-    let Refusal { cause: _, function } = refusal;
+    let RegistryRefusal { cause: _, function } = refusal;
     if let Err(refusal) = macros.register(name, function) {
         return Err(refusal.cause.into());
     }
@@ -118,7 +120,7 @@ fn what_is_refused_is_given_back(rt: HostRuntime) -> Result<(), Fail> {
         return Err(Fail::from("a taken name"));
     };
     assert!(rt; refusal.cause == Cause::Taken);
-    let Refusal { cause: _, function } = refusal;
+    let RegistryRefusal { cause: _, function } = refusal;
     assert!(rt; function(call_of_text(alloc)?)? == Answer::Nothing);
     Ok(())
 }

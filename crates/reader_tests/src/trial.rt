@@ -8,7 +8,7 @@ ghost use Rattle.lisp_object.specs.Datum.{is_proper, object_of};
 ghost use Rattle.lisp_object.specs.Object.{integer, nil, pair, symbol};
 ghost use Rattle.user_macros.specs.Calls.{answer_of, call_of, improper, value};
 ghost use Rattle.user_macros.specs.Sound.{IsSoundCall};
-ghost use Rattle.reader_tests.specs.Trial.{answer_at, answered, count, large_at, named, symbol_at, trial_functions, trial_names, wrapped};
+ghost use Rattle.reader_tests.specs.Trial.{answer_at, macro_answer, material_size, large_at, trial_symbol, trial_symbol_at, trial_functions, trial_names, wrapped};
 
 use crate::large::{too_deep, too_large, too_long};
 use fixed_macros::Answering;
@@ -94,7 +94,7 @@ impl Answering for Trial {
 pub fn respond(alloc: Global, call: &Call) -> Result<Answer, AllocError>
     requires { IsSoundCall call.now }
     ensures { IfOk result (λ a. answer_of a
-        ≡ answered (call_of call.now).number (call_of call.now).gathered) }
+        ≡ macro_answer (call_of call.now).number (call_of call.now).gathered) }
 {
     match call.number {
         Some(number) => answer_at(alloc, number, call),
@@ -130,7 +130,7 @@ fn large_at(alloc: Global, number: u32) -> Result<Answer, AllocError>
 }
 
 fn symbol_at(alloc: Global, number: u32) -> Result<Answer, AllocError>
-    ensures { IfOk result (λ a. answer_of a ≡ value (symbol_at number)) }
+    ensures { IfOk result (λ a. answer_of a ≡ value (trial_symbol_at number)) }
 {
     match number {
         11 => symbol(alloc, b"NOWHERE", b"X"),
@@ -144,7 +144,7 @@ fn symbol_at(alloc: Global, number: u32) -> Result<Answer, AllocError>
 // How much was gathered.
 #[tactic(auto, using(lisp_object::proofs::Objects::object_laws))]
 fn counted(call: &Call) -> Answer
-    ensures { answer_of result ≡ value (integer (pos (count (call_of call.now).gathered))) }
+    ensures { answer_of result ≡ value (integer (pos (material_size (call_of call.now).gathered))) }
 {
     let count = match &call.gathered {
         Gathered::Nothing => 0,
@@ -196,7 +196,7 @@ fn listed(alloc: Global, datum: Datum) -> Result<Datum, AllocError>
 #[tactic(auto, using(lisp_object::proofs::Sound::all_ascii))]
 fn named(alloc: Global, call: &Call) -> Result<Answer, AllocError>
     requires { IsSoundCall call.now }
-    ensures { IfOk result (λ a. answer_of a ≡ named (call_of call.now).gathered) }
+    ensures { IfOk result (λ a. answer_of a ≡ trial_symbol (call_of call.now).gathered) }
 {
     match &call.gathered {
         Gathered::Text(name) => symbol(alloc, b"COMMON-LISP-USER", name.as_slice()),

@@ -3,8 +3,8 @@ use Rattle.readtable_core.specs.declared.entry.CharacterSlot.TheInside.{Inside a
 use Rattle.readtable_core.specs.Tables.{CharacterEntry}
 use Rattle.readtable_core.specs.Sound.{IsCharacterEntry}
 
-abbrev pub entry_of : EntryInside → CharacterEntry
-entry_of e = record { syntax = e.syntax; function = e.function; dispatch = e.dispatch.items }
+abbrev pub character_entry : EntryInside → CharacterEntry
+character_entry e = record { syntax = e.syntax; function = e.function; dispatch = e.dispatch.items }
 
-abbrev pub IsKept : EntryInside → Type 0
-IsKept e = IsCharacterEntry (entry_of e)
+abbrev pub IsKeptEntry : EntryInside → Type 0
+IsKeptEntry e = IsCharacterEntry (character_entry e)

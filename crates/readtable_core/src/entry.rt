@@ -31,11 +31,11 @@ impl Model for CharacterSlot {
 
     ghost Value = { CharacterEntry };
 
-    ghost use Rattle.readtable_core.specs.Entries.{entry_of, IsKept};
+    ghost use Rattle.readtable_core.specs.Entries.{character_entry, IsKeptEntry};
 
-    ghost view = { entry_of };
+    ghost view = { character_entry };
 
-    ghost invariant = { IsKept };
+    ghost invariant = { IsKeptEntry };
 }
 
 impl CharacterSlot {

@@ -73,9 +73,9 @@ impl Model for Readtable {
 
     ghost Value = { Table };
 
-    ghost use Rattle.readtable_core.specs.Kept.{table_of, IsTable};
+    ghost use Rattle.readtable_core.specs.Kept.{table_inside, IsTable};
 
-    ghost view = { table_of };
+    ghost view = { table_inside };
 
     ghost invariant = { IsTable };
 }

@@ -13,7 +13,7 @@ use Rattle.lisp_object.specs.Object.{Object, integer, rational, character, text,
 use Rattle.lisp_object.specs.Datum.{object_of, is_proper}
 use Rattle.lisp_object.proofs.Objects.{object_of-List, object_of-dotted}
 use Rattle.package_table.specs.Table.{Table}
-use Rattle.form_eval.specs.Laws.{Fits}
+use Rattle.form_eval.specs.Laws.{FitsTable}
 use Rattle.refused_part.specs.Places.{HasPart, changed_at, layer_items, items_inside, with_part}
 use Rattle.refused_part.specs.Search.{MayTry}
 use Rattle.refused_part.proofs.Filled.{item_proper}
@@ -68,7 +68,7 @@ module _ (P : Object → Type 0) where
   atoms_again (i ∷ place) other x one all = changed_atoms (with_part place other) x i (λ y those. atoms_again place other y one those) all
 
 pub may_try_item : (t : Table) (whole : Datum) (i : ℕ) (x : Datum) → MayTry t whole → slice_get (items_inside whole) i ≡ Some x → MayTry t x
-may_try_item t whole i x may there = (item_proper whole i x may.0 there, item_atoms (Fits t) whole i x may.1 there)
+may_try_item t whole i x may there = (item_proper whole i x may.0 there, item_atoms (FitsTable t) whole i x may.1 there)
 
 pub may_try_part : (t : Table) (place : List ℕ) (whole part : Datum) → MayTry t whole → HasPart place whole part → MayTry t part
 may_try_part t [] whole part may has = subst (MayTry t) has may

@@ -5,14 +5,14 @@ use Rattle.lisp_object.specs.Object.{AllAtoms}
 use Rattle.lisp_object.specs.declared.datum.Datum.{Datum}
 use Rattle.package_table.specs.Table.{Name, Table}
 use Rattle.plist_state.specs.State.{WorldState}
-use Rattle.form_eval.specs.Laws.{Fits}
+use Rattle.form_eval.specs.Laws.{FitsTable}
 use Rattle.refused_part.specs.Part.{is_refused_at}
 use Rattle.refused_part.specs.Places.{HasPart}
 use Rattle.refused_part.specs.declared.placed.PlacedPart.{PlacedPart}
 
 -- a proper datum whose symbols fit
 abbrev pub MayTry : Table → Datum → Type 0
-MayTry t d = (is_proper d ≡ true) × AllAtoms (Fits t) (object_of d)
+MayTry t d = (is_proper d ≡ true) × AllAtoms (FitsTable t) (object_of d)
 
 -- a form has the part at its place
 abbrev pub IsPlacedIn : Datum → PlacedPart → Type 0

@@ -1,6 +1,6 @@
 //! What is told of a form that was refused.
 ghost use Rattle.std.specs.Prelude.{◌≡◌, true, IfOk, IfSome};
-ghost use Rattle.form_eval.specs.Laws.{Fits, MayEvaluate};
+ghost use Rattle.form_eval.specs.Laws.{FitsTable, MayEvaluate};
 ghost use Rattle.lisp_object.specs.Datum.{object_of, is_proper};
 ghost use Rattle.lisp_object.specs.Object.{AllAtoms};
 ghost use Rattle.refused_part.specs.Search.{MayTry};
@@ -184,7 +184,7 @@ fn print_after<M: Meaning>(
     part: &Datum,
 ) -> Result<Vec<u8>, AllocError>
     requires proper { is_proper datum ≡ true }
-    requires fits { AllAtoms (Fits world.old.0.packages) (object_of datum) }
+    requires fits { AllAtoms (FitsTable world.old.0.packages) (object_of datum) }
     requires part { is_proper part.now ≡ true }
     ensures same { world.new ≡ world.old }
 {

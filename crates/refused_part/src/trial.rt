@@ -2,7 +2,7 @@
 ghost use Rattle.std.specs.Prelude.{◌≡◌, true, IfOk};
 ghost use Rattle.lisp_object.specs.Datum.{object_of, is_proper};
 ghost use Rattle.lisp_object.specs.Object.{AllAtoms};
-ghost use Rattle.form_eval.specs.Laws.{Fits};
+ghost use Rattle.form_eval.specs.Laws.{FitsTable};
 ghost use Rattle.refused_part.specs.Part.{is_refused_form};
 
 use form_eval::{EvaluationError, ReadForm, accept};
@@ -23,7 +23,7 @@ pub(crate) fn is_refused_form<M: Meaning>(
     number: u16,
 ) -> Result<bool, AllocError>
     requires proper { is_proper datum ≡ true }
-    requires fits { AllAtoms (Fits world.old.0.packages) (object_of datum) }
+    requires fits { AllAtoms (FitsTable world.old.0.packages) (object_of datum) }
     ensures tells { IfOk result (λ refused. refused
         ≡ is_refused_form M.functions.names world.old.0 number (object_of datum)) }
     ensures same { world.new ≡ world.old }

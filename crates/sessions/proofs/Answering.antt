@@ -16,7 +16,7 @@ use Rattle.sessions.specs.declared.ending.Ending.{Ending}
 use Rattle.sessions.specs.declared.ending.Ending.TheVariants.{End, Reader, Store}
 use Rattle.prevalence_store.specs.meaning.Acceptance.{read_in}
 use Rattle.user_macros.specs.Functions.{Functions}
-use Rattle.sessions.specs.Answers.{Progress, after_forms, begun, onward}
+use Rattle.sessions.specs.Answers.{Progress, after_forms, first_progress, onward}
 use Rattle.sessions.specs.steps.Input.{HasForm, IsPending}
 use Rattle.sessions.specs.Pace.{EndsInPace, Paces, fill_of}
 use Rattle.sessions.specs.Serve.{Advances, AreAccepted, IsAfter, IsPlace, Serves, ServesInPace, StaysAnswered, StaysRefused, StopsStrict}
@@ -68,7 +68,7 @@ module _ (functions : Functions) {D R : Type 0} (state : D → State) where
       → old.world ≡ Some w → IsPending functions w mode pending text → GoesOn functions state strict course course old old w mode text held held pending []
   nothing_answered sound strict course old w mode text held pending known is = record {
     forms = 0;
-    far = begun w text;
+    far = first_progress w text;
     advances = record {
       far_is = refl;
       lines = writes_nothing held held refl;

@@ -18,7 +18,7 @@ use Rattle.sessions.specs.declared.answer.Answered.{Answered}
 use Rattle.sessions.specs.declared.answer.Answered.TheVariants.{Accepted, Refused}
 use Rattle.sessions.specs.declared.input.Pending.{Pending}
 use Rattle.prevalence_store.specs.meaning.Acceptance.{read_in, setting_in}
-use Rattle.sessions.specs.Answers.{Progress, after_forms, begun}
+use Rattle.sessions.specs.Answers.{Progress, after_forms, first_progress}
 use Rattle.sessions.specs.Pace.{Paces, fill_of}
 use Rattle.sessions.specs.Serve.{IsRefusedFrom, IsUnaccepted, ServesInPace, StaysAnswered, StopsStrict}
 use Rattle.prevalence_store.specs.calls.Store.{StoreView}
@@ -39,7 +39,7 @@ tells_accepted functions w mode text far (Refused number) other tells = absurd (
 -- of one form at most
 few_stay : (functions : Functions) (w : WorldState) (mode : Mode) (text : List ℕ) (forms : ℕ) (far : Progress) → forms ≤ 1 → after_forms functions forms w mode text ≡ Some far
     → ((other : Progress) → after_forms functions 1 w mode text ≡ Some other → StaysAnswered functions w mode text 1 other) → StaysAnswered functions w mode text forms far
-few_stay functions w mode text zero far few is stays = λ more. let same : begun w text ≡ far = cc in ap (λ (p : Progress). Some (record p { rest = p.rest ++ more })) same
+few_stay functions w mode text zero far few is stays = λ more. let same : first_progress w text ≡ far = cc in ap (λ (p : Progress). Some (record p { rest = p.rest ++ more })) same
 few_stay functions w mode text (suc zero) far few is stays = stays far is
 few_stay functions w mode text (suc (suc forms)) far few is stays = absurd (omega (arith, few))
 
@@ -197,7 +197,7 @@ module _ (functions : Functions) {D R : Type 0} (state : D → State) where
     paced = passes.paced;
     accepted = 0;
     one_more = refl;
-    before = begun w text;
+    before = first_progress w text;
     before_is = refl;
     none_refused = refl;
     start = start;

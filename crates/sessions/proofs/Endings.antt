@@ -11,7 +11,7 @@ use Rattle.session_words.specs.declared.mode.Mode.{Mode}
 use Rattle.sessions.specs.declared.ending.Ending.{Ending}
 use Rattle.sessions.specs.declared.ending.Ending.TheVariants.{End, Reader, Store}
 use Rattle.prevalence_store.specs.meaning.Acceptance.{read_in}
-use Rattle.sessions.specs.Answers.{Progress, after_forms, begun, last_line, one_form, onward, refusal_line}
+use Rattle.sessions.specs.Answers.{Progress, after_forms, first_progress, last_line, one_form, onward, refusal_line}
 use Rattle.sessions.specs.Serve.{Ends, IsAfter, Serves}
 use Rattle.prevalence_store.specs.calls.Store.{StoreView, Describes}
 use Rattle.sessions.specs.Streams.{Writes, WritesPart}
@@ -75,7 +75,7 @@ module _ (functions : Functions) where
 
   -- the world of the text's first form
   pub after_one_form : (w : WorldState) (mode : Mode) (text : List ℕ) (p : Progress) → one_form functions w mode text (read_in functions w mode text) ≡ Some p → after_forms functions 1 w mode text ≡ Some p
-  after_one_form w mode text p is = ap (option_map (onward (begun w text))) is
+  after_one_form w mode text p is = ap (option_map (onward (first_progress w text))) is
 
   module _ {D R : Type 0} (state : D → State) (sound : (d : D) → IsHonest (state d) → IsSound (state d)) (old new : StoreView D R) (w : WorldState) (mode : Mode) (text : List ℕ) (held written : Option (List ℕ))
       (known : old.world ≡ Some w) where
@@ -103,13 +103,13 @@ module _ (functions : Functions) where
         })
 
     unfoldable pub nothing : (group : Bool) (ending : Ending) (part : List ℕ) → new ≡ old → Writes held written part
-        → Ends functions state old new w mode text held written 0 (begun w text) 0 (begun w text) part group ending → Serves functions state old new w mode text held written group ending
+        → Ends functions state old new w mode text held written 0 (first_progress w text) 0 (first_progress w text) part group ending → Serves functions state old new w mode text held written group ending
     nothing group ending part same writes ends = record {
       forms = 0;
-      far = begun w text;
+      far = first_progress w text;
       far_is = refl;
       lines = 0;
-      answered = begun w text;
+      answered = first_progress w text;
       answered_is = refl;
       at_most = omega arith;
       in_turn = λ none. omega arith;

@@ -23,7 +23,7 @@ use Rattle.sessions.specs.declared.ending.Ending.TheVariants.{Store}
 use Rattle.prevalence_store.specs.meaning.Acceptance.{after, between, logged, read_in, records_of, transacted}
 use Rattle.prevalence_store.specs.steps.Failure.{failure_number}
 use Rattle.prevalence_store.specs.calls.Execute.{Stores, SurvivesAs}
-use Rattle.sessions.specs.Answers.{Progress, after_forms, begun, evaluated, last_line, one_form, refusal_line, value_line}
+use Rattle.sessions.specs.Answers.{Progress, after_forms, first_progress, evaluated, last_line, one_form, refusal_line, value_line}
 use Rattle.sessions.specs.Pace.{fill_of}
 use Rattle.sessions.specs.Serve.{Ends, IsAfter, IsOver}
 use Rattle.prevalence_store.specs.calls.Store.{StoreView}
@@ -152,7 +152,7 @@ module _ (functions : Functions) where
 
     -- one form was taken, and not answered whole
     unfoldable taken_only : (far : Progress) (part : List ℕ) (number : ℕ) → number ≢ INPUT → (n : ℕ) → after_forms functions 1 w mode text ≡ Some far → Writes held written part
-        → SurvivesAs functions state old new w far.taken n → Ends functions state old new w mode text held written 1 far 0 (begun w text) part false (Store number)
+        → SurvivesAs functions state old new w far.taken n → Ends functions state old new w mode text held written 1 far 0 (first_progress w text) part false (Store number)
         → StopsInForm functions state old new w mode text held written number
     taken_only far part number no_input n one writes survives ends = record {
       serves = record {
@@ -160,7 +160,7 @@ module _ (functions : Functions) where
         far = far;
         far_is = one;
         lines = 0;
-        answered = begun w text;
+        answered = first_progress w text;
         answered_is = refl;
         at_most = omega arith;
         in_turn = λ none. omega arith;

@@ -14,10 +14,10 @@ use Rattle.plist_state.specs.State.{WorldState}
 use Rattle.session_words.specs.declared.mode.Mode.{Mode}
 use Rattle.sessions.specs.declared.ending.Ended.TheVariants as ways
 use Rattle.session_words.specs.declared.wanted.Wanted.{Wanted}
-use Rattle.sessions.specs.declared.gather.Gathered.{Gathered}
+use Rattle.sessions.specs.declared.gather.GatheredForms.{GatheredForms}
 use Rattle.sessions.specs.declared.group.Grouped.TheVariants as grouped
 use Rattle.prevalence_store.specs.meaning.Acceptance.{after, between, read_in, transacted}
-use Rattle.sessions.specs.Answers.{Progress, after_forms, begun, evaluated, last_line, one_form, onward}
+use Rattle.sessions.specs.Answers.{Progress, after_forms, first_progress, evaluated, last_line, one_form, onward}
 use Rattle.prevalence_store.specs.calls.ExecuteAll.{LogsAll}
 use Rattle.sessions.specs.Pace.{Paces, fill_of}
 use Rattle.sessions.specs.Serve.{IsAfter, room_of}
@@ -96,7 +96,7 @@ module _ (functions : Functions) where
   broken : (n : ℕ) (w : WorldState) (mode : Mode) (text : List ℕ) (far : Progress) (front rest : List ℕ) → after_forms functions n w mode text ≡ Some far → far.lines ≡ front ++ rest → rest ≢ []
       → IsBroken n w mode text far front
   broken zero w mode text far front rest is parts some =
-      let same : begun w text ≡ far = cc in
+      let same : first_progress w text ≡ far = cc in
       absurd (some (none_after front rest (sym (ap (λ (p : Progress). p.lines) same ∙ parts))))
   broken (suc n) w mode text far front rest is parts some =
       let back = step_back functions mode (after_forms functions n w mode text) far is in
@@ -183,7 +183,7 @@ module _ (functions : Functions) where
   module _ {D R : Type 0} (state : D → State) (sound : (d : D) → IsHonest (state d) → IsSound (state d)) (wanted : Wanted) (course later : Course) (old new : StoreView D R) (w : WorldState) (text rest : List ℕ)
       (held written : Option (List ℕ)) (known : old.world ≡ Some w) where
     -- the forms were answered
-    pub group_answered : (gathered : Gathered) (next count : ℕ) → TakesForms functions wanted state old new w text gathered → Writes held written gathered.lines.items → drop next text ≡ rest
+    pub group_answered : (gathered : GatheredForms) (next count : ℕ) → TakesForms functions wanted state old new w text gathered → Writes held written gathered.lines.items → drop next text ≡ rest
         → gathered.bytes ≡ next + count → CountsAll gathered.records course.pace later.pace → (room : ℕ) → IsBeforeGrown course.pace.ratio (fill_of old) room → gathered.record_bytes ≤ room → later.forms ≡ course.forms + gathered.forms → later.bytes ≡ course.bytes + gathered.bytes
         → AnswersGroup functions wanted state course later old new w text rest held written (grouped.Answered count)
     group_answered gathered next count took writes left many counts room before within forms bytes pending none =
@@ -219,7 +219,7 @@ module _ (functions : Functions) where
     pub group_stopped : wanted.group ≡ true → FailsForms functions wanted state old new w text → written ≡ held
         → AnswersGroup functions wanted state course later old new w text rest held written (grouped.Ended (ways.Store DEVICE))
     group_stopped grouped fault quiet more =
-        let gathered : Gathered = fault.makes.0 in
+        let gathered : GatheredForms = fault.makes.0 in
         let is = fault.makes.2 in
         let far : Progress = is.far in
         let fails = far_failed functions wanted state old new w text fault in (
@@ -229,7 +229,7 @@ module _ (functions : Functions) where
               far = longer far more;
               far_is = is.stays more;
               lines = 0;
-              answered = begun w (text ++ more);
+              answered = first_progress w (text ++ more);
               answered_is = refl;
               at_most = omega arith;
               in_turn = λ none. absurd (cc);
@@ -262,7 +262,7 @@ module _ (functions : Functions) where
         )
 
     -- the writer failed in their lines
-    pub group_unwritten : wanted.group ≡ true → (gathered : Gathered) → 0 < gathered.forms → TakesForms functions wanted state old new w text gathered → WritesPart held written gathered.lines.items
+    pub group_unwritten : wanted.group ≡ true → (gathered : GatheredForms) → 0 < gathered.forms → TakesForms functions wanted state old new w text gathered → WritesPart held written gathered.lines.items
         → IsBeforeDue course.pace gathered.records → (room : ℕ) → IsBeforeGrown course.pace.ratio (fill_of old) room → gathered.record_bytes ≤ room
         → AnswersGroup functions wanted state course later old new w text rest held written (grouped.Ended (ways.Store OUTPUT))
     group_unwritten grouped gathered some took writes before room small within more = by_part (part_of held written far.lines (some_lines gathered.forms some far_is) (subst (WritesPart held written) is.lines writes)) where

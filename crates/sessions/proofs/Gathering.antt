@@ -16,11 +16,11 @@ use Rattle.plist_state.specs.State.{WorldState}
 use Rattle.prevalence_store.specs.declared.batch.Batch.{Batch}
 use Rattle.session_words.specs.declared.mode.Mode.{Mode}
 use Rattle.session_words.specs.declared.wanted.Wanted.{Wanted}
-use Rattle.sessions.specs.declared.gather.Gathered.{Gathered}
+use Rattle.sessions.specs.declared.gather.GatheredForms.{GatheredForms}
 use Rattle.sessions.specs.declared.gather.GroupLimit.{GroupLimit}
 use Rattle.sessions.specs.declared.input.Pending.{Pending}
 use Rattle.prevalence_store.specs.meaning.Acceptance.{acceptance_of, after, between, read_in, records_of, transacted}
-use Rattle.sessions.specs.Answers.{Progress, after_forms, begun, evaluated, one_form, onward}
+use Rattle.sessions.specs.Answers.{Progress, after_forms, first_progress, evaluated, one_form, onward}
 use Rattle.sessions.specs.steps.Answer.{BeginsWith}
 use Rattle.form_eval.specs.Laws.{MayEvaluate}
 use Rattle.prevalence_store.specs.steps.Batch.{entries_in, IsEmpty}
@@ -92,9 +92,9 @@ piece_begins functions w mode pending piece n x own left some within has next is
 
 module _ (functions : Functions) (wanted : Wanted) (w : WorldState) (text : List ℕ) where
   -- before the first form
-  pub none_gathered : (none : Gathered) → HoldsNone none → IsGathered functions wanted w text w [] none
+  pub none_gathered : (none : GatheredForms) → HoldsNone none → IsGathered functions wanted w text w [] none
   none_gathered none is = record {
-    far = begun w text;
+    far = first_progress w text;
     stays = λ more. ap (λ n. after_forms functions n w wanted.mode (text ++ more)) is.forms;
     rest = ap (λ n. drop n text) (sym is.bytes);
     within = omega (arith, is.bytes);
@@ -109,7 +109,7 @@ module _ (functions : Functions) (wanted : Wanted) (w : WorldState) (text : List
   }
 
   -- one form more
-  pub more_gathered : (u v : WorldState) (had has : Batch) (old new : Gathered) (piece : List ℕ) (count : ℕ) → IsGathered functions wanted w text u (entries_in had) old → drop old.bytes text ≡ piece
+  pub more_gathered : (u v : WorldState) (had has : Batch) (old new : GatheredForms) (piece : List ℕ) (count : ℕ) → IsGathered functions wanted w text u (entries_in had) old → drop old.bytes text ≡ piece
       → IsNext functions wanted piece u v had has old new count → IsGathered functions wanted w text v (entries_in has) new
   more_gathered u v had has old new piece count is piece_is after_it =
       let p : Progress = is.far in
@@ -140,14 +140,14 @@ module _ (functions : Functions) (wanted : Wanted) (w : WorldState) (text : List
       }
 
   -- the first form
-  pub first_gathered : (v : WorldState) (had has : Batch) (none new : Gathered) (x : Object) (own : List ℕ) (next : ℕ) → IsEmpty had → HoldsNone none
+  pub first_gathered : (v : WorldState) (had has : Batch) (none new : GatheredForms) (x : Object) (own : List ℕ) (next : ℕ) → IsEmpty had → HoldsNone none
       → BeginsWhole functions w wanted.mode text x own next → IsAdded functions wanted x own next w v had has none new → IsGathered functions wanted w text v (entries_in has) new
   first_gathered v had has none new x own next empty is begins added =
       more_gathered w v had has none new text next (subst (λ (es : List LogRecord). IsGathered functions wanted w text w es none) (sym (none_in had empty)) (none_gathered none is)) (ap (λ n. drop n text) is.bytes)
       (record { object = x; own = own; begins = begins; added = added })
 
 -- how many forms there are, by a limit that is the same
-pub counted_by : (next many : ℕ) (limit other : GroupLimit) (gathered : Gathered) → other ≡ limit → 0 < gathered.forms → gathered.forms ≤ gathered.bytes → next ≤ gathered.bytes → gathered.bytes ≤ next + many
+pub counted_by : (next many : ℕ) (limit other : GroupLimit) (gathered : GatheredForms) → other ≡ limit → 0 < gathered.forms → gathered.forms ≤ gathered.bytes → next ≤ gathered.bytes → gathered.bytes ≤ next + many
     → gathered.records ≤ other.forms → gathered.record_bytes ≤ other.bytes → IsCounted next many limit gathered
 counted_by next many limit other gathered same some forms first others records bytes =
     subst (λ (l : GroupLimit). IsCounted next many l gathered) same (record { some = some; forms = forms; first = first; others = others; records = records; record_bytes = bytes })
@@ -163,7 +163,7 @@ taken_at_most w mode own (Err number) = omega arith
 
 module _ (functions : Functions) (wanted : Wanted) where
   -- a form adds one text at most
-  pub text_at_most : (x : Object) (own : List ℕ) (bytes : ℕ) (w v : WorldState) (had has : Batch) (old new : Gathered) → IsAdded functions wanted x own bytes w v had has old new
+  pub text_at_most : (x : Object) (own : List ℕ) (bytes : ℕ) (w v : WorldState) (had has : Batch) (old new : GatheredForms) → IsAdded functions wanted x own bytes w v had has old new
       → length (entries_in has) ≤ length (entries_in had) + 1
   text_at_most x own bytes w v had has old new added =
       let taken : List LogRecord = (evaluated w wanted.mode own [] added.given).taken in

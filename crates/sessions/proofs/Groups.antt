@@ -7,7 +7,7 @@ use Rattle.lisp_object.specs.Datum.{object_of}
 use Rattle.plist_state.specs.State.{WorldState}
 use Rattle.prevalence_store.specs.declared.failure.Unlogged.{Unlogged}
 use Rattle.prevalence_store.specs.declared.failure.Unlogged.TheVariants.{DeviceFault, Full, OutOfMemory}
-use Rattle.sessions.specs.declared.gather.Gathered.{Gathered}
+use Rattle.sessions.specs.declared.gather.GatheredForms.{GatheredForms}
 use Rattle.sessions.specs.declared.whole_forms.WholeForms.{WholeForms}
 use Rattle.session_words.specs.declared.wanted.Wanted.{Wanted}
 use Rattle.prevalence_store.specs.meaning.Acceptance.{after, logged}
@@ -21,7 +21,7 @@ use Rattle.user_macros.specs.Functions.{Functions}
 
 module _ (functions : Functions) (turn : WholeForms) (w : WorldState) where
   -- their records make the world that they left, and fit the log
-  pub forms_again : (v : WorldState) (records : List LogRecord) (made : Option Gathered) → MayBeTaken functions turn w → AreTaken functions turn w v records made
+  pub forms_again : (v : WorldState) (records : List LogRecord) (made : Option GatheredForms) → MayBeTaken functions turn w → AreTaken functions turn w v records made
       → (after functions w records ≡ Some v) × AllByRecursion IsLogRecord records
   forms_again v records None may taken =
       let none = taken.none refl in
@@ -32,16 +32,16 @@ module _ (functions : Functions) (turn : WholeForms) (w : WorldState) where
 
   module _ {D R : Type 0} (state : D → State) (old new : StoreView D R) (text : List ℕ)
       (begins : BeginsWhole functions w turn.wanted.mode text (object_of turn.first.now.read.datum) turn.first.now.own.items turn.first.now.next) (goes_on : drop turn.first.now.next text ≡ turn.rest.now) where
-    forms_logged : (made : Option Gathered) → IsMade functions state old new w (λ left records. AreTaken functions turn w left records made) → TakesGroup functions turn.wanted state old new w text (Ok made)
+    forms_logged : (made : Option GatheredForms) → IsMade functions state old new w (λ left records. AreTaken functions turn w left records made) → TakesGroup functions turn.wanted state old new w text (Ok made)
     forms_logged None logged = logged.stores.logs.nothing (ap length (logged.makes.none refl).1)
     forms_logged (Some gathered) logged = record { left = logged.left; records = logged.records; makes = logged.makes.gathers text begins goes_on; stores = logged.stores }
 
-    forms_failed : (left : WorldState) (records : List LogRecord) (made : Option Gathered) → AreTaken functions turn w left records made → FailsBatch functions state old new w left records
+    forms_failed : (left : WorldState) (records : List LogRecord) (made : Option GatheredForms) → AreTaken functions turn w left records made → FailsBatch functions state old new w left records
         → FailsForms functions turn.wanted state old new w text
     forms_failed left records None taken fails = absurd (omega (arith, fails.some, ap length (taken.none refl).1))
     forms_failed left records (Some gathered) taken fails = record { left = left; records = records; makes = (gathered, taken.counts.some, taken.gathers text begins goes_on); fails = fails }
 
-    forms_unlogged : (cause : Unlogged) → IsNotMade functions state old new w (λ left records. (made : Option Gathered) × AreTaken functions turn w left records made) cause
+    forms_unlogged : (cause : Unlogged) → IsNotMade functions state old new w (λ left records. (made : Option GatheredForms) × AreTaken functions turn w left records made) cause
         → TakesGroup functions turn.wanted state old new w text (Err cause)
     forms_unlogged OutOfMemory unmade = unmade.unchanged refl
     forms_unlogged Full unmade = unmade.unchanged refl
@@ -49,15 +49,15 @@ module _ (functions : Functions) (turn : WholeForms) (w : WorldState) where
         let stopped = unmade.stopped refl in
         forms_failed stopped.left stopped.records stopped.makes.0 stopped.makes.1 stopped.fails
 
-    pub forms_taken : (result : Result (Option Gathered) Unlogged) → IfOk result (λ made. IsMade functions state old new w (λ left records. AreTaken functions turn w left records made))
-        → IfErr result (IsNotMade functions state old new w (λ left records. (made : Option Gathered) × AreTaken functions turn w left records made)) → TakesGroup functions turn.wanted state old new w text result
+    pub forms_taken : (result : Result (Option GatheredForms) Unlogged) → IfOk result (λ made. IsMade functions state old new w (λ left records. AreTaken functions turn w left records made))
+        → IfErr result (IsNotMade functions state old new w (λ left records. (made : Option GatheredForms) × AreTaken functions turn w left records made)) → TakesGroup functions turn.wanted state old new w text result
     forms_taken (Ok made) logged unmade = forms_logged made logged
     forms_taken (Err cause) logged unmade = forms_unlogged cause unmade
 
 -- ---- forms that were gathered as in a strict session
 
 module _ (functions : Functions) (wanted : Wanted) (strict : Bool) (stricter : wanted.strict ≡ true → strict ≡ true) where
-  lax_gathered : (first : WorldState) (text : List ℕ) (now : WorldState) (records : List LogRecord) (gathered : Gathered)
+  lax_gathered : (first : WorldState) (text : List ℕ) (now : WorldState) (records : List LogRecord) (gathered : GatheredForms)
       → IsGathered functions (record wanted { strict = strict }) first text now records gathered → IsGathered functions wanted first text now records gathered
   lax_gathered first text now records gathered is = record {
     far = is.far;
@@ -75,7 +75,7 @@ module _ (functions : Functions) (wanted : Wanted) (strict : Bool) (stricter : w
   }
 
   -- they are forms of the session too
-  pub lax_taken : {D R : Type 0} (state : D → State) (old new : StoreView D R) (w : WorldState) (text : List ℕ) (result : Result (Option Gathered) Unlogged)
+  pub lax_taken : {D R : Type 0} (state : D → State) (old new : StoreView D R) (w : WorldState) (text : List ℕ) (result : Result (Option GatheredForms) Unlogged)
       → TakesGroup functions (record wanted { strict = strict }) state old new w text result → TakesGroup functions wanted state old new w text result
   lax_taken state old new w text (Ok (Some gathered)) took =
       record { left = took.left; records = took.records; makes = lax_gathered w text took.left took.records gathered took.makes; stores = took.stores }
@@ -98,7 +98,7 @@ module _ (functions : Functions) (wanted : Wanted) {D R : Type 0} (state : D →
   group_left Full other took = took
   group_left DeviceFault other took = absurd (other refl)
 
-  pub far_stored : (gathered : Gathered) (took : TakesForms functions wanted state old new w text gathered) → StoresBatch functions state old new w took.makes.far.world took.makes.far.taken
+  pub far_stored : (gathered : GatheredForms) (took : TakesForms functions wanted state old new w text gathered) → StoresBatch functions state old new w took.makes.far.world took.makes.far.taken
   far_stored gathered took =
       let is = took.makes in
       subst (λ (v : WorldState). StoresBatch functions state old new w v is.far.taken) is.left (subst (λ (es : List LogRecord). StoresBatch functions state old new w took.left es) is.taken took.stores)

@@ -12,7 +12,7 @@ use Rattle.sessions.specs.steps.Forms as failures
 use Rattle.session_words.specs.declared.mode.Mode.{Mode}
 use Rattle.session_words.specs.declared.wanted.Wanted.{Wanted}
 use Rattle.sessions.specs.declared.answer.Answered.{Answered}
-use Rattle.sessions.specs.declared.gather.Gathered.{Gathered}
+use Rattle.sessions.specs.declared.gather.GatheredForms.{GatheredForms}
 use Rattle.sessions.specs.declared.input.Pending.{Pending}
 use Rattle.prevalence_store.specs.Theorem.{Keeps, MeansSome, Survives}
 use Rattle.sessions.specs.Account.{Account, AreStored, first_account, with_forms}
@@ -23,7 +23,7 @@ use Rattle.prevalence_store.specs.calls.Store.{StoreView}
 use Rattle.sessions.specs.Streams.{Writes}
 use Rattle.prevalence_store.specs.meaning.Acceptance.{after, logged, read_in}
 use Rattle.prevalence_store.specs.meaning.Files.{MeansWorld}
-use Rattle.sessions.specs.Answers.{Progress, after_forms, begun, last_line, onward, refusal_line}
+use Rattle.sessions.specs.Answers.{Progress, after_forms, first_progress, last_line, onward, refusal_line}
 use Rattle.sessions.specs.steps.Answer.{LeavesRecord, TriesForm, was_logged}
 use Rattle.sessions.specs.steps.Course.{Course}
 use Rattle.sessions.specs.steps.Gather.{FailsForms, TakesForms}
@@ -115,7 +115,7 @@ module _ (functions : Functions) {D R : Type 0} (state : D → State) (sound : (
           record {
             text = text;
             of_input = fits;
-            far = begun w text;
+            far = first_progress w text;
             stays = λ more. refl;
             mode_is = refl;
             world_is = refl;
@@ -384,7 +384,7 @@ module _ (functions : Functions) {D R : Type 0} (state : D → State) (sound : (
         (λ here honest keeps. one_batch functions (state old.disk) (state new.disk) w tries.0.taken (fill_of old) (fill_of new) (was_logged told) tries.2 (advances.survives here honest keeps).any_moment)
 
     -- the lines of a group
-    pub lines_stored : (text more : List ℕ) → bytes ≡ text ++ more → (wanted : Wanted) (gathered : Gathered) → wanted.mode ≡ mode → TakesForms functions wanted state old new w text gathered → lines ≡ gathered.lines.items
+    pub lines_stored : (text more : List ℕ) → bytes ≡ text ++ more → (wanted : Wanted) (gathered : GatheredForms) → wanted.mode ≡ mode → TakesForms functions wanted state old new w text gathered → lines ≡ gathered.lines.items
         → AreStored functions state kept new lines gathered.forms
     lines_stored text more parts wanted gathered in_mode took are =
         let stores = far_stored functions wanted state old new w text gathered took in
@@ -394,6 +394,6 @@ module _ (functions : Functions) {D R : Type 0} (state : D → State) (sound : (
     -- the line of a refusal
     pub refusal_stored : (number at : ℕ) → read_in functions w mode bytes ≡ refused number at → lines ≡ refusal_line number → new ≡ old → AreStored functions state kept new lines 0
     refusal_stored number at reads are same =
-        stored_after 0 (begun w bytes) refl (inr (are ∙ ap (λ (r : Reading). last_line r) (sym reads))) (ap (λ (n : StoreView D R). n.world) same ∙ known)
+        stored_after 0 (first_progress w bytes) refl (inr (are ∙ ap (λ (r : Reading). last_line r) (sym reads))) (ap (λ (n : StoreView D R). n.world) same ∙ known)
         (unchanged_survives functions state sound old new w same)
         (λ here honest keeps. weaker (state old.disk) (state new.disk) (MeansSome functions w [] 0) (MeansAllOrNone functions w []) (unchanged_survives functions state sound old new w same here honest keeps).any_moment (means_before functions w []))

@@ -10,7 +10,7 @@ use Rattle.sessions.specs.declared.ending.Ending.{Ending}
 use Rattle.sessions.specs.declared.ending.Ending.TheVariants.{End, Reader, Store}
 use Rattle.prevalence_store.specs.meaning.Acceptance.{after, read_in}
 use Rattle.user_macros.specs.Functions.{Functions}
-use Rattle.sessions.specs.Answers.{Progress, after_forms, begun, onward}
+use Rattle.sessions.specs.Answers.{Progress, after_forms, first_progress, onward}
 use Rattle.sessions.specs.Pace.{Counts, EndsInPace, Fill, HasMadeRoom, IsOverIn, IsPaced, IsUnfollowed, LogsWithRoom, Pace, Paces, IsFollowed, begun_with, fill_of}
 use Rattle.prevalence_store.specs.calls.Store.{StoreView}
 use Rattle.sessions.specs.steps.Answer.{AnswersFault, LeavesRecord, LogsAtOnce}
@@ -116,11 +116,11 @@ module _ (functions : Functions) (limit : ℕ) where
 
     module _ (pace : Pace) (number : ℕ) where
       -- nothing was taken
-      nothing_ends : (forms lines : ℕ) (answered far : Progress) → HasReadied w mode text start middle → number ≡ NO_MEMORY → far ≡ begun w text → now ≡ middle
+      nothing_ends : (forms lines : ℕ) (answered far : Progress) → HasReadied w mode text start middle → number ≡ NO_MEMORY → far ≡ first_progress w text → now ≡ middle
           → EndsInPace functions limit w pace start mode forms far lines answered now (Store number)
       nothing_ends forms lines answered far ready memory none same =
           subst (λ (p : Progress). EndsInPace functions limit w pace start mode forms p lines answered now (Store number)) (sym none) (by_ready ready) where
-            by_ready : HasReadied w mode text start middle → EndsInPace functions limit w pace start mode forms (begun w text) lines answered now (Store number)
+            by_ready : HasReadied w mode text start middle → EndsInPace functions limit w pace start mode forms (first_progress w text) lines answered now (Store number)
             by_ready (inl kept) = inl (record { paced = (pace, (refl, same ∙ kept)); other = λ full. absurd (omega arith); fault = λ device. absurd (omega arith) })
             by_ready (inr over) = inr (inr (inl (record {
               made = record { later = pace; before = start; paced = (refl, refl); next = over.0; begun = same ∙ over.1 };
@@ -144,21 +144,21 @@ module _ (functions : Functions) (limit : ℕ) where
           }))
 
       -- the device failed in it
-      record_ends : (forms lines : ℕ) (answered far : Progress) → HasReadied w mode text start middle → number ≡ DEVICE → lines < forms → answered ≡ begun w text → now ≡ middle
+      record_ends : (forms lines : ℕ) (answered far : Progress) → HasReadied w mode text start middle → number ≡ DEVICE → lines < forms → answered ≡ first_progress w text → now ≡ middle
           → EndsInPace functions limit w pace start mode forms far lines answered now (Store number)
       record_ends forms lines answered far ready device still_open none same =
           subst (λ (p : Progress). EndsInPace functions limit w pace start mode forms far lines p now (Store number)) (sym none)
           (inr (inr (inr (record { device = device; some_open = still_open; before = by_ready ready })))) where
-            by_ready : HasReadied w mode text start middle → IsPaced functions limit w pace start (begun w text).taken now ⊎ HasMadeRoom functions limit w pace start mode (begun w text) now
+            by_ready : HasReadied w mode text start middle → IsPaced functions limit w pace start (first_progress w text).taken now ⊎ HasMadeRoom functions limit w pace start mode (first_progress w text) now
             by_ready (inl kept) = inl (pace, (refl, same ∙ kept))
             by_ready (inr over) = inr (record { later = pace; before = start; paced = (refl, refl); next = over.0; begun = same ∙ over.1 })
 
       -- the session ended in it
       pub try_ends : (forms lines more_forms more_lines : ℕ) (answered far : Progress) → HasReadied w mode text start middle → after_forms functions forms w mode text ≡ Some far
           → (forms ≡ lines + 1 → more_lines < more_forms)
-          → ((number ≡ NO_MEMORY) × (far ≡ begun w text) × (now ≡ middle))
+          → ((number ≡ NO_MEMORY) × (far ≡ first_progress w text) × (now ≡ middle))
           ⊎ (((forms ≡ 1) × (number ≡ OUTPUT) × ((wrote : Bool) × LeavesRecord (LogsAtOnce limit middle now) far.taken middle now wrote))
-          ⊎ ((number ≡ DEVICE) × (forms ≡ lines + 1) × (answered ≡ begun w text) × (now ≡ middle)))
+          ⊎ ((number ≡ DEVICE) × (forms ≡ lines + 1) × (answered ≡ first_progress w text) × (now ≡ middle)))
           → EndsInPace functions limit w pace start mode more_forms far more_lines answered now (Store number)
       try_ends forms lines more_forms more_lines answered far ready far_is still_open (inl none) = nothing_ends more_forms more_lines answered far ready none.0 none.1 none.2
       try_ends forms lines more_forms more_lines answered far ready far_is still_open (inr (inl one)) =

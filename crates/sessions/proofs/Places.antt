@@ -12,10 +12,10 @@ use Rattle.prevalence_store.specs.meaning.Acceptance.{read_in, setting_in}
 use Rattle.sessions.specs.Serve.{IsPlace, IsRefusedFrom}
 use Rattle.user_macros.specs.Functions.{Functions}
 use Rattle.sessions.specs.steps.Course.{Course}
-use Rattle.sessions.specs.steps.Input.{IsWithin}
+use Rattle.sessions.specs.steps.Input.{PlacesAreWithin}
 
 -- places among some bytes are among more
-pub within_more : (few many : ℕ) (given : Fed) → few ≤ many → IsWithin few given → IsWithin many given
+pub within_more : (few many : ℕ) (given : Fed) → few ≤ many → PlacesAreWithin few given → PlacesAreWithin many given
 within_more few many Nothing more within = tt
 within_more few many (Form it left) more within = (within.0, let a = within.1 in omega arith)
 within_more few many (Refused number start at) more within = (let a = within.0 in omega arith, let b = within.1 in omega arith)

@@ -12,7 +12,7 @@ use Rattle.sessions.specs.declared.ending.Ending.TheVariants.{End, Reader, Store
 use Rattle.prevalence_store.specs.meaning.Acceptance.{after, read_in}
 use Rattle.prevalence_store.specs.calls.Execute.{SurvivesAs}
 use Rattle.prevalence_store.specs.calls.Store.{LeavesAlone, StoreView, Describes}
-use Rattle.sessions.specs.Answers.{Progress, after_forms, begun, last_line, one_form, one_form_more, onward}
+use Rattle.sessions.specs.Answers.{Progress, after_forms, first_progress, last_line, one_form, one_form_more, onward}
 use Rattle.sessions.specs.Serve.{Advances, Ends, IsAfter, IsExtended, IsRenewed, Serves, contents_after, half_after}
 use Rattle.sessions.specs.Streams.{Writes}
 use Rattle.plist_state.specs.State.{WorldState}
@@ -25,7 +25,7 @@ onward_onward : (p q r : Progress) → onward (onward p q) r ≡ onward p (onwar
 onward_onward p q r =
     λ i. record { world = r.world; rest = r.rest; taken = append_assoc p.taken q.taken r.taken i; lines = append_assoc p.lines q.lines r.lines i; refused = append_assoc p.refused q.refused r.refused i }
 
-pub onward_begun : (p : Progress) → onward p (begun p.world p.rest) ≡ p
+pub onward_begun : (p : Progress) → onward p (first_progress p.world p.rest) ≡ p
 onward_begun p =
     λ i. record { world = p.world; rest = p.rest; taken = append-nil p.taken i; lines = append-nil p.lines i; refused = append-nil p.refused i }
 
@@ -173,7 +173,7 @@ module _ (functions : Functions) where
       → after_forms functions m w mode text ≡ Some p → after_forms functions n p.world mode p.rest ≡ Some q → after_forms functions k w mode text ≡ Some (onward p q)
   forms_onward zero m k w mode text p q is here there =
       let count : k ≡ m = omega arith in
-      let start : begun p.world p.rest ≡ q = cc in
+      let start : first_progress p.world p.rest ≡ q = cc in
       ap (λ j. after_forms functions j w mode text) count ∙ here ∙ ap (λ o. Some o) (sym (onward_begun p) ∙ ap (onward p) start)
   forms_onward (suc n) m zero w mode text p q is here there = absurd (omega arith)
   forms_onward (suc n) m (suc k) w mode text p q is here there =

@@ -31,8 +31,8 @@ pub record Progress : Type 0 where
   pub refused : List ℕ
 
 -- before the first form
-abbrev pub begun : WorldState → List ℕ → Progress
-begun world text = record { world = world; rest = text; taken = []; lines = []; refused = [] }
+abbrev pub first_progress : WorldState → List ℕ → Progress
+first_progress world text = record { world = world; rest = text; taken = []; lines = []; refused = [] }
 
 -- and what came of the rest
 abbrev pub onward : Progress → Progress → Progress
@@ -63,7 +63,7 @@ one_form_more functions mode p = option_map (onward p) (one_form functions p.wor
 
 -- After so many forms of a text, each read in the world that the ones before it left. None if it has not so many.
 abbrev pub after_forms : Functions → ℕ → WorldState → Mode → List ℕ → Option Progress
-after_forms functions zero world mode text = Some (begun world text)
+after_forms functions zero world mode text = Some (first_progress world text)
 after_forms functions (suc n) world mode text = option_and_then (one_form_more functions mode) (after_forms functions n world mode text)
 
 -- the line that ends a session at a refusal of the reader

@@ -4,7 +4,7 @@ ghost use Rattle.plist_state.specs.State.{WorldState};
 ghost use Rattle.form_reader.specs.Reader.{fed, begun, limits_of, HasBegun, IsAfter, Steps, StepsBegun, BeginsLater, RefusesFrom, IsOutcome, IsSoundStep};
 ghost use Rattle.prevalence_store.specs.meaning.Acceptance.{between, form_limits, read_in, setting_in, table_in};
 ghost use Rattle.user_macros.specs.Functions.{Functions};
-ghost use Rattle.sessions.specs.steps.Input.{AreAllThere, IsPending, IsSoundFed, IsWithin, Feeds, Finishes, FeedsPart};
+ghost use Rattle.sessions.specs.steps.Input.{AreAllThere, IsPending, IsSoundFed, PlacesAreWithin, Feeds, Finishes, FeedsPart};
 
 use form_eval::ReadForm;
 use form_reader::{Advance, FormReader, Limits, ReadOutcome};
@@ -142,7 +142,7 @@ impl Pending {
             (bytes ++ byte ∷ [])) }
         ensures sound { IfOk result IsSoundFed }
         ensures all_there { IfOk result (AreAllThere world.now.0) }
-        ensures within { IfOk result (IsWithin (fed self.old.reader + 1)) }
+        ensures within { IfOk result (PlacesAreWithin (fed self.old.reader + 1)) }
         ensures count { fed self.new.reader ≤ fed self.old.reader + 1 }
     {
         self.text.push(byte)?;
@@ -223,7 +223,7 @@ impl Pending {
             → IfOk result (Finishes R.Meaning.functions world.now.0 mode bytes) }
         ensures sound { IfOk result IsSoundFed }
         ensures all_there { IfOk result (AreAllThere world.now.0) }
-        ensures within { IfOk result (IsWithin (fed self.reader)) }
+        ensures within { IfOk result (PlacesAreWithin (fed self.reader)) }
     {
         let Pending {
             reader,

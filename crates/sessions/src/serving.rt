@@ -8,7 +8,7 @@ ghost use Rattle.form_reader.specs.Reader.{fed};
 ghost use Rattle.sessions.specs.Account.{Account, AreUnderWay, first_account};
 ghost use Rattle.sessions.specs.Pace.{first_pace};
 ghost use Rattle.sessions.specs.Serve.{ServesInput, ServesWanted};
-ghost use Rattle.sessions.specs.steps.Input.{AreAllThere, AwaitsMore, IsPending, IsSoundFed, IsWithin, Feeds, FeedsPart, Finishes};
+ghost use Rattle.sessions.specs.steps.Input.{AreAllThere, AwaitsMore, IsPending, IsSoundFed, PlacesAreWithin, Feeds, FeedsPart, Finishes};
 ghost use Rattle.sessions.specs.steps.Course.{course_of};
 ghost use Rattle.sessions.specs.steps.Serve.{Answers, ComesTo, EndsAt, MovesOn};
 ghost use Rattle.sessions.specs.steps.Standing.{AcknowledgesNone, HandsOn, StandsAtEnd, StandsInPiece};
@@ -329,7 +329,7 @@ fn finish<D: Disk, R: MacroFunctions>(
     ensures sound { IfOk result IsSoundFed }
     ensures all_there { (w : WorldState) → store.now.world ≡ Some w
         → IfOk result (AreAllThere w) }
-    ensures within { IfOk result (IsWithin (fed pending.reader)) }
+    ensures within { IfOk result (PlacesAreWithin (fed pending.reader)) }
 {
     let world = open_world(store);
     pending.finish(store.alloc(), world, store.macros(), mode)

@@ -6,7 +6,7 @@ ghost use Rattle.prevalence_store.specs.steps.Batch.{IsEmpty, IsMarked, entries_
 ghost use Rattle.sessions.specs.steps.Answer.{IsFormOf};
 ghost use Rattle.sessions.specs.steps.Gather.{AreTaken, BeginsWhole, IsCounted, MayBeTaken, TakesGroup};
 
-use crate::gather::{Gathered, GroupLimit};
+use crate::gather::{GatheredForms, GroupLimit};
 use crate::input::PlacedForm;
 use crate::open_world::open_world;
 use disk_trait::Disk;
@@ -34,7 +34,7 @@ impl WholeForms<'_> {
         world: &mut World,
         macros: &WholeMacros<R>,
         batch: &mut Batch,
-    ) -> Result<Option<Gathered>, AllocError>
+    ) -> Result<Option<GatheredForms>, AllocError>
         requires may { MayBeTaken R.Meaning.functions self.now world.old.0 }
         requires none { IsEmpty batch.old }
         ensures taken { IfOk result (AreTaken R.Meaning.functions self.now
@@ -42,7 +42,7 @@ impl WholeForms<'_> {
         ensures marks { (worlds : Worlds) → IsMarked worlds world.old.1
             → IsMarked worlds world.new.1 }
     {
-        let mut gathered = Gathered::new(batch.alloc, self.limit);
+        let mut gathered = GatheredForms::new(batch.alloc, self.limit);
         if !gathered.add(world, macros, batch, self.wanted, self.first)? {
             return Ok(None);
         }
@@ -63,7 +63,7 @@ impl WholeForms<'_> {
 impl<R: MacroFunctions> Turn<R> for WholeForms<'_> {
     ghost use Rattle.sessions.specs.steps.Answer.{IsFormOf};
 
-    type Made = Option<Gathered>;
+    type Made = Option<GatheredForms>;
 
     ghost needs = { λ turn world. MayBeTaken R.Meaning.functions turn world };
 
@@ -74,7 +74,7 @@ impl<R: MacroFunctions> Turn<R> for WholeForms<'_> {
         world: &mut World,
         macros: &WholeMacros<R>,
         batch: &mut Batch,
-    ) -> Result<Option<Gathered>, AllocError> {
+    ) -> Result<Option<GatheredForms>, AllocError> {
         self.gather(world, macros, batch)
     }
 }
@@ -86,7 +86,7 @@ pub(crate) fn take_group<D: Disk, R: MacroFunctions>(
     store: &mut Store<D, R>,
     turn: &WholeForms<'_>,
     listening: bool,
-) -> Result<Option<Gathered>, Unlogged>
+) -> Result<Option<GatheredForms>, Unlogged>
     requires form { IsFormOf R.Meaning.functions store.old.world turn.now.wanted.mode
         turn.now.first.now.read turn.now.first.now.own.items }
     requires begins { (world : WorldState) → store.old.world ≡ Some world

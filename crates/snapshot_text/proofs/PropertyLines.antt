@@ -19,7 +19,7 @@ use Rattle.plist_state.specs.Sound.{IsSound}
 use Rattle.snapshot_text.specs.Built.{with_properties_of}
 use Rattle.world_text.specs.Lines.{snapshot_limits}
 use Rattle.world_text.specs.Texts.{row_of}
-use Rattle.snapshot_text.specs.Rows.{symbol_at, row_text, text_after, IsUpTo}
+use Rattle.snapshot_text.specs.Rows.{row_symbol_at, row_text, text_after, IsUpTo}
 use Rattle.world_text.specs.Snapshot.{line, properties_object}
 use Rattle.world_text.specs.Tokens.{ends_with_token}
 use Rattle.world_text.proofs.Spelling.{met_text}
@@ -74,15 +74,15 @@ rows_line s some =
 module _ (functions : Functions) where
   -- where the row ends, with the whitespace after it
   pub row_next : (s : WorldState) (n : ℕ) (rest : List ℕ) → ℕ
-  row_next s n rest = length (row_text s n) + space_at standard (ends_with_token (row_of s (symbol_at s n))) (text_after s (n + 1) ++ rest)
+  row_next s n rest = length (row_text s n) + space_at standard (ends_with_token (row_of s (row_symbol_at s n))) (text_after s (n + 1) ++ rest)
 
   pub row_read : (s : WorldState) → IsSound s → (n : ℕ) (now : WorldState) → IsUpTo s n now → n < length (symbols_with_properties s)
       → length (row_text s n) ≤ 4294967295 → (rest : List ℕ)
       → reads (setting_of snapshot_limits standard 10 now.packages common_lisp_user functions) (row_text s n ++ (text_after s (n + 1) ++ rest))
-      ≡ form (row_of s (symbol_at s n)) 0 (length (row_text s n)) (row_next s n rest)
+      ≡ form (row_of s (row_symbol_at s n)) 0 (length (row_text s n)) (row_next s n rest)
   unfolding row_next
   row_read s sound n now so_far few fits rest =
-      let x = symbol_at s n in
+      let x = row_symbol_at s n in
       let y = row_of s x in
       let good = row_good s sound x (key_at s n few) in
       let deep = plist_depth s sound x in

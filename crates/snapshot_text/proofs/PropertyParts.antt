@@ -24,7 +24,7 @@ use Rattle.plist_state.proofs.Orders.{symbol_total, symbol_exact, one_symbol}
 use Rattle.plist_state.proofs.Lists.{kept, get-with_list, list-with_list, with_list_twice}
 use Rattle.world_text.specs.Snapshot.{symbol_object}
 use Rattle.snapshot_text.specs.Built.{with_properties, with_each, with_packages_of, with_properties_of}
-use Rattle.snapshot_text.specs.Rows.{symbol_at, IsUpTo}
+use Rattle.snapshot_text.specs.Rows.{row_symbol_at, IsUpTo}
 use Rattle.snapshot_text.proofs.KeysSoFar.{keys_apart, next_is_new, at_index}
 
 -- ---- the properties of one symbol
@@ -191,10 +191,10 @@ at_first s now is = record {
 
 -- the row at an index may be put
 pub record IsRow (s now : WorldState) (n : ℕ) : Type 0 where
-  pub key : IsTrue (finite.contains_key s.properties (symbol_at s n))
-  pub there : IsSymbol now.packages (symbol_at s n)
-  pub may_be : IsPlist now.packages (plist s (symbol_at s n))
-  pub absent : plist now (symbol_at s n) ≡ []
+  pub key : IsTrue (finite.contains_key s.properties (row_symbol_at s n))
+  pub there : IsSymbol now.packages (row_symbol_at s n)
+  pub may_be : IsPlist now.packages (plist s (row_symbol_at s n))
+  pub absent : plist now (row_symbol_at s n) ≡ []
 
 has_list : (s : WorldState) (x : Symbol) → IsTrue (finite.contains_key s.properties x) → finite.get s.properties x ≡ Some (plist s x)
 has_list s x there =
@@ -204,14 +204,14 @@ has_list s x there =
     ] there
 
 -- the symbol of the row at an index has properties
-pub key_at : (s : WorldState) (n : ℕ) → n < length (symbols_with_properties s) → IsTrue (finite.contains_key s.properties (symbol_at s n))
+pub key_at : (s : WorldState) (n : ℕ) → n < length (symbols_with_properties s) → IsTrue (finite.contains_key s.properties (row_symbol_at s n))
 key_at s n few =
-    contains_key-keys s.properties (symbol_at s n) ∙ at_index symbol_cmp symbol_total (symbols_with_properties s) n none few
+    contains_key-keys s.properties (row_symbol_at s n) ∙ at_index symbol_cmp symbol_total (symbols_with_properties s) n none few
 
 pub row_at : (s : WorldState) → IsSound s → (n : ℕ) (now : WorldState) → IsUpTo s n now → n < length (symbols_with_properties s) → IsRow s now n
 row_at s sound n now so_far few =
     let xs = symbols_with_properties s in
-    let x = symbol_at s n in
+    let x = row_symbol_at s n in
     let there : IsTrue (finite.contains_key s.properties x) = key_at s n few in
     let same : s.packages ≡ now.packages = sym (ap (λ (w : WorldState). w.packages) so_far.rest) in
     record {
@@ -230,10 +230,10 @@ one_more false true o p same = sym (same refl)
 one_more false false o p same = refl
 
 pub next_up_to : (s : WorldState) → IsSound s → (n : ℕ) (now then : WorldState) → IsUpTo s n now → n < length (symbols_with_properties s)
-    → then ≡ with_properties now (with_list now.properties (symbol_at s n) (plist s (symbol_at s n))) → IsUpTo s (n + 1) then
+    → then ≡ with_properties now (with_list now.properties (row_symbol_at s n) (plist s (row_symbol_at s n))) → IsUpTo s (n + 1) then
 next_up_to s sound n now then so_far few is =
     let xs = symbols_with_properties s in
-    let x = symbol_at s n in
+    let x = row_symbol_at s n in
     let there : IsTrue (finite.contains_key s.properties x) = key_at s n few in
     let listed : finite.get s.properties x ≡ kept (plist s x) = has_list s x there ∙ some_kept (plist s x) (sound.properties x (plist s x) (has_list s x there)).some in
     record {

@@ -23,7 +23,7 @@ use Rattle.package_table.proofs.Frames.{equal_names}
 use Rattle.plist_state.specs.declared.error.ReadtableError.{ReadtableError}
 use Rattle.plist_state.specs.declared.error.ReadtableError.TheVariants.{NoReadtable, StandardReadtable, NotDispatching, DigitSubcharacter, Limit, OutOfMemory}
 use Rattle.plist_state.specs.State.{Readtables, WorldState, standard_name}
-use Rattle.plist_state.specs.Changes.{writable, put_changed, with_changed, changed, in_state, dispatched, refused_as, Refused}
+use Rattle.plist_state.specs.Changes.{writable, put_changed, with_changed, changed_readtable, in_state, dispatched, refused_as, Refused}
 use Rattle.plist_state.specs.Sound.{IsSymbol}
 use Rattle.plist_state.proofs.Orders.{name_total, name_exact, name_tied}
 use Rattle.snapshot_text.specs.Built.{with_table, IsWritable, IsSubFunction}
@@ -39,7 +39,7 @@ writable_is m n t w =
 
 -- a change of a readtable that may be written
 pub changed_to : (s : WorldState) (n : Name) (t u : Table) (change : Table → Result Table ReadtableError) → IsWritable s.readtables n t → change t ≡ Ok u
-    → in_state s (changed s.readtables n change) ≡ Ok (with_table s n u)
+    → in_state s (changed_readtable s.readtables n change) ≡ Ok (with_table s n u)
 changed_to s n t u change w is =
     ap (λ r. in_state s (with_changed s.readtables n change r)) (writable_is s.readtables n t w) ∙ ap (λ r. in_state s (put_changed s.readtables n r)) is
 

@@ -6,10 +6,10 @@ use Rattle.snapshot_lines.specs.declared.error.BuildError.TheVariants.{Damaged a
 use Rattle.snapshot_text.specs.declared.error.SnapshotError.{SnapshotError}
 use Rattle.snapshot_text.specs.declared.error.SnapshotError.TheVariants.{Damaged, MissingFunction, OutOfMemory}
 
-abbrev pub number_of : SnapshotError → ℕ
-number_of Damaged = DAMAGED
-number_of MissingFunction = MISSING_MACRO
-number_of OutOfMemory = NO_MEMORY
+abbrev pub snapshot_error_number : SnapshotError → ℕ
+snapshot_error_number Damaged = DAMAGED
+snapshot_error_number MissingFunction = MISSING_MACRO
+snapshot_error_number OutOfMemory = NO_MEMORY
 
 -- the same of a world that is not built
 abbrev pub of_build : BuildError → SnapshotError

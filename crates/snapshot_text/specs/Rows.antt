@@ -14,12 +14,12 @@ use Rattle.world_text.specs.Texts.{row_of}
 use Rattle.snapshot_text.specs.Built.{with_properties, with_packages_of}
 
 -- the symbol of the row at an index
-abbrev pub symbol_at : WorldState → ℕ → Symbol
-symbol_at s n = slice_index_or (symbols_with_properties s) n ([], [])
+abbrev pub row_symbol_at : WorldState → ℕ → Symbol
+row_symbol_at s n = slice_index_or (symbols_with_properties s) n ([], [])
 
 -- the text of the row at an index
 abbrev pub row_text : WorldState → ℕ → List ℕ
-row_text s n = printed s.packages common_lisp_user (row_of s (symbol_at s n))
+row_text s n = printed s.packages common_lisp_user (row_of s (row_symbol_at s n))
 
 -- the text from the end of the row before an index to the parenthesis that closes the rows: each row after a space
 abbrev pub text_after : WorldState → ℕ → List ℕ

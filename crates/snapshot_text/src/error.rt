@@ -1,6 +1,6 @@
 //! Why a text is refused as a snapshot.
 ghost use Rattle.std.specs.Prelude.{◌≡◌};
-ghost use Rattle.snapshot_text.specs.Refused.{number_of};
+ghost use Rattle.snapshot_text.specs.Refused.{snapshot_error_number};
 
 use lisp_object::refusal;
 use snapshot_lines::BuildError;
@@ -20,7 +20,7 @@ pub enum SnapshotError {
 impl SnapshotError {
     /// The number of the refusal: 62, 63 or 90.
     pub fn number(self) -> u16
-        ensures { result ≡ number_of self }
+        ensures { result ≡ snapshot_error_number self }
     {
         match self {
             SnapshotError::Damaged => refusal::DAMAGED,

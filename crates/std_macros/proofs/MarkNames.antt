@@ -4,15 +4,15 @@ use Rattle.std.proofs.Math.Dec.{eqb-suc-zero}
 use Rattle.std.specs.Char.{eq_ignore_ascii_case}
 use Rattle.token_scan.specs.declared.mark.Mark.{Mark}
 use Rattle.token_scan.specs.declared.mark.Mark.TheVariants.{Plain, Quoted, Bar}
-use Rattle.token_scan.specs.Marks.{characters, character_of}
+use Rattle.token_scan.specs.Marks.{characters, mark_character}
 use Rattle.std_macros.specs.Values.{is_named}
 
-pub with_character : (m : Mark) (c : ℕ) (ms : List Mark) → character_of m ≡ Some c → characters (m ∷ ms) ≡ c ∷ characters ms
+pub with_character : (m : Mark) (c : ℕ) (ms : List Mark) → mark_character m ≡ Some c → characters (m ∷ ms) ≡ c ∷ characters ms
 with_character (Plain x) c ms e = let same : x ≡ c = cc in ap (λ y. y ∷ characters ms) same
 with_character (Quoted x) c ms e = let same : x ≡ c = cc in ap (λ y. y ∷ characters ms) same
 with_character Bar c ms e = absurd cc
 
-pub without_character : (m : Mark) (ms : List Mark) → character_of m ≡ None → characters (m ∷ ms) ≡ characters ms
+pub without_character : (m : Mark) (ms : List Mark) → mark_character m ≡ None → characters (m ∷ ms) ≡ characters ms
 without_character (Plain x) ms e = absurd cc
 without_character (Quoted x) ms e = absurd cc
 without_character Bar ms e = refl

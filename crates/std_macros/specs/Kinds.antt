@@ -39,22 +39,22 @@ abbrev pub kind_among : List Standard → List ℕ → Option Standard
 kind_among [] name = None
 kind_among (k ∷ ks) name = if same_name (name_of k) name then Some k else kind_among ks name
 
-abbrev pub way_of : Standard → StdGather
-way_of AList = ByList
-way_of Close = Nothing
-way_of Quote = One
-way_of Comment = Line
-way_of String = Text
-way_of Out = Nothing
-way_of Char = EscapedToken
-way_of Function = One
-way_of Vector = Many
-way_of Uninterned = Token
-way_of Block = ByBlock
-way_of Binary = Token
-way_of Octal = Token
-way_of Hex = Token
-way_of Radix = Token
+abbrev pub way_of_standard : Standard → StdGather
+way_of_standard AList = ByList
+way_of_standard Close = Nothing
+way_of_standard Quote = One
+way_of_standard Comment = Line
+way_of_standard String = Text
+way_of_standard Out = Nothing
+way_of_standard Char = EscapedToken
+way_of_standard Function = One
+way_of_standard Vector = Many
+way_of_standard Uninterned = Token
+way_of_standard Block = ByBlock
+way_of_standard Binary = Token
+way_of_standard Octal = Token
+way_of_standard Hex = Token
+way_of_standard Radix = Token
 
 -- the number of a call as a base, from 2 to 36
 abbrev pub radix_of : Option ℕ → Option ℕ

@@ -63,14 +63,14 @@ view_finished (One datum) = Some (object_of datum)
 view_finished Nothing = None
 
 -- Out of memory is answered only for an object, and any other error is the refusal.
-abbrev pub Fails : FinishError → Value → Type 0
-Fails OutOfMemory value = (x : Object) × (value ≡ Ok (Some x))
-Fails (Refused refusal) value = value ≡ Err refusal
+abbrev pub FinishFails : FinishError → Value → Type 0
+FinishFails OutOfMemory value = (x : Object) × (value ≡ Ok (Some x))
+FinishFails (Refused refusal) value = value ≡ Err refusal
 
 -- what was answered is the value, unless memory ran out
 abbrev pub Gives : Result Finished FinishError → Value → Type 0
 Gives (Ok answer) value = value ≡ Ok (view_finished answer)
-Gives (Err error) value = Fails error value
+Gives (Err error) value = FinishFails error value
 
 -- an object that was answered is a proper and sound datum
 abbrev pub IsProperFinished : Finished → Type 0

@@ -1,6 +1,6 @@
 //! Characters, and their names (standard 13.1.7).
 ghost use Rattle.std.specs.Prelude.{◌≡◌, ◌≢◌, ◌∷◌, [], Err, IfOk, IsTrue, MatchOption};
-ghost use Rattle.token_scan.specs.Marks.{characters, character_of as character_of_mark, are_ascii};
+ghost use Rattle.token_scan.specs.Marks.{characters, mark_character as character_of_mark, are_ascii};
 ghost use Rattle.std_macros.specs.Values.{is_named, code_named, character_of, character_or_refused};
 ghost use Rattle.std_macros.specs.Results.{Gives, IsProperFinished};
 

@@ -1,7 +1,7 @@
 //! The standard functions, by their names, and the ways in which they gather.
 ghost use Rattle.std.specs.Prelude.{◌≡◌, is_some, IfSome};
 ghost use Rattle.readtable_core.specs.Names.{is_standard, same_name};
-ghost use Rattle.std_macros.specs.Kinds.{name_of, macro_kinds, dispatch_kinds, kinds, kind_among, way_of, radix_of};
+ghost use Rattle.std_macros.specs.Kinds.{name_of, macro_kinds, dispatch_kinds, kinds, kind_among, way_of_standard, radix_of};
 
 use readtable_core::FnName;
 use readtable_core::standard_names::{
@@ -139,7 +139,7 @@ fn is_name(name: &[u8], wanted: &[u8]) -> bool
 
 /// The way in which the function gathers. Takes no memory.
 pub fn way(kind: Standard) -> StdGather
-    ensures { result ≡ way_of kind }
+    ensures { result ≡ way_of_standard kind }
 {
     match kind {
         Standard::List => StdGather::List,

@@ -18,7 +18,7 @@ use Rattle.prevalence_store.specs.calls.Open.{fault_number}
 use Rattle.lisp_object.specs.Object.{Object}
 use Rattle.lisp_operators.specs.Evaluation.{Evaluation}
 use Rattle.lisp_reading.specs.Reading.{empty, refused}
-use Rattle.sessions.specs.Answers.{Progress, after_forms, begun, evaluated, last_line, one_form, one_form_more, onward, refusal_line}
+use Rattle.sessions.specs.Answers.{Progress, after_forms, first_progress, evaluated, last_line, one_form, one_form_more, onward, refusal_line}
 use Rattle.sessions.specs.Serve.{IsUnaccepted, Serves, ServesInput, ServesWanted}
 use Rattle.prevalence_store.specs.calls.Store.{StoreView}
 use Rattle.prevalence_store.specs.meaning.Acceptance.{between, read_in}
@@ -47,7 +47,7 @@ module _ (functions : Functions) (mode : Mode) where
     left = input;
     parts = refl;
     forms = 0;
-    far = begun initial [];
+    far = first_progress initial [];
     far_is = refl;
     front = [];
     unwritten = last_line (read_in functions initial mode []);

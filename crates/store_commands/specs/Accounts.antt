@@ -25,7 +25,7 @@ pub record IsAccounted (functions : Functions) {D R : Type 0} (state : D → Sta
   pub ends : EndsAccount functions state closed account
 
 -- From one account on to the next there is one call, as the theorem has calls in a row, and it acknowledges none of its forms.
-pub record GoesOn (functions : Functions) {D : Type 0} (state : D → State) (account next : Account D) : Type 0 where
+pub record AccountGoesOn (functions : Functions) {D : Type 0} (state : D → State) (account next : Account D) : Type 0 where
   pub call : Call D
   pub run : Run functions state account.disk (Some account.now) (call ∷ [])
   pub acknowledges : call.acknowledged ≡ 0

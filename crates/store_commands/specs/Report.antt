@@ -43,16 +43,16 @@ position_line (Some number) = codes "position " ++ (decimal number ++ 10 ∷ [])
 
 -- what is told of an open store with this world: `dump` writes the text of it, and `verify` the line on the half in use, and that on
 -- the position of messages
-abbrev pub text_of : Report → {D R : Type 0} → StoreView D R → WorldState → List ℕ
-text_of Dump store world = snapshot world
-text_of Verify store world = half_line_of store ++ position_line (position world)
+abbrev pub report_text : Report → {D R : Type 0} → StoreView D R → WorldState → List ℕ
+report_text Dump store world = snapshot world
+report_text Verify store world = half_line_of store ++ position_line (position world)
 
 -- The store that a disk holds was opened with these macro functions, this was told of it, and it was closed: this is its disk.
 pub record IsReport (functions : Functions) {D R : Type 0} (state : D → State) (report : Report) (disk : D) (macros : R)
     (held written : Option (List ℕ)) (status : Status) (back : D) : Type 0 where
   pub opened : StoreView D R
   pub is_opened : IsOpened functions state disk macros half_limit opened
-  pub tells : TellsText status held written (text_of report opened is_opened.world)
+  pub tells : TellsText status held written (report_text report opened is_opened.world)
   pub disk_is : back ≡ opened.disk
 
 -- no form was accepted

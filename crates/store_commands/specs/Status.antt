@@ -13,14 +13,14 @@ use Rattle.store_commands.specs.declared.status.Status.{Status}
 use Rattle.store_commands.specs.declared.status.Status.TheVariants.{Done, Helped, FormRefused, Unanswered, WordsRefused, LeftOut, Fault}
 
 -- the exit status
-abbrev pub code_of : Status → ℕ
-code_of Done = 0
-code_of Helped = 0
-code_of FormRefused = 1
-code_of Unanswered = 1
-code_of WordsRefused = 2
-code_of LeftOut = 3
-code_of (Fault number) = 3
+abbrev pub exit_code : Status → ℕ
+exit_code Done = 0
+exit_code Helped = 0
+exit_code FormRefused = 1
+exit_code Unanswered = 1
+exit_code WordsRefused = 2
+exit_code LeftOut = 3
+exit_code (Fault number) = 3
 
 -- after a session
 abbrev pub status_of_ended : Ended → Status

@@ -26,7 +26,7 @@ use diagnostics::Places;
 use disk_trait::HostError;
 use lisp_object::refusal::{INPUT, NO_MEMORY, OUTPUT};
 use plist_state::Seed;
-use program_streams::Shown;
+use program_streams::ShownText;
 use sessions::Wanted;
 use std::convert::AsStr;
 use std::fmt::Write as WriteText;
@@ -241,7 +241,7 @@ pub fn answer_words<O: Write, F: Write>(error: &Error, output: &mut O, faults: &
     match Status::of_kind(error.kind()) {
         Status::Helped => write_help(error, output),
         Status::WordsRefused => {
-            let mut shown = Shown::new(faults);
+            let mut shown = ShownText::new(faults);
             let _ = write!(shown, "{error}");
             Status::WordsRefused
         }

@@ -9,7 +9,7 @@ ghost use Rattle.sessions.specs.declared.ending.Ended.{Ended};
 ghost use Rattle.session_ledger.specs.Went.{calls_in, disk_at};
 ghost use Rattle.session_words.specs.declared.mode.Mode.{Mode};
 ghost use Rattle.session_words.specs.declared.wanted.Wanted.{Wanted};
-ghost use Rattle.store_commands.specs.Accounts.{GoesOn};
+ghost use Rattle.store_commands.specs.Accounts.{AccountGoesOn};
 ghost use Rattle.store_commands.specs.Folders.{HoldsStore, OpensStore};
 ghost use Rattle.store_commands.specs.Session.{IsSession};
 ghost use Rattle.store_commands.specs.Sessions.{AreSessions, calls_in_turn};
@@ -38,7 +38,7 @@ pub fn sessions_go_on<D: Disk, R>()
         → (mode : Mode) (had : Option (List ℕ))
         → IsHonest (D.state account.disk) → AreUnderWay functions D.state account store
         → store.world ≡ Some world
-        → GoesOn functions D.state account (first_account world mode had store.disk) }
+        → AccountGoesOn functions D.state account (first_account world mode had store.disk) }
 {}
 
 /// A session of the program over an honest disk, from the opening of the store to its end: from the moment on at which lines went out for the

@@ -4,7 +4,7 @@ ghost use Rattle.prevalence_store.specs.calls.Open.{IsUnopened};
 ghost use Rattle.messages.specs.Position.{position};
 ghost use Rattle.user_macros.specs.Functions.{are_registered};
 ghost use Rattle.world_text.specs.Snapshot.{snapshot};
-ghost use Rattle.store_commands.specs.Report.{IsReport, half_line_of, position_line, text_of};
+ghost use Rattle.store_commands.specs.Report.{IsReport, half_line_of, position_line, report_text};
 ghost use Rattle.store_commands.specs.Session.{half_limit};
 ghost use Rattle.store_commands.specs.Status.{status_of_output};
 ghost use Rattle.store_commands.specs.Texts.{TellsText};
@@ -62,7 +62,7 @@ fn write_report<D: Disk, M: MacroFunctions, O: Write>(
 ) -> Status
     requires known { IsSome store.now.world }
     ensures { IfSome store.now.world (λ world.
-        TellsText result (O.contents output.old) (O.contents output.new) (text_of report store.now world)) }
+        TellsText result (O.contents output.old) (O.contents output.new) (report_text report store.now world)) }
 {
     match report {
         Report::Dump => write_world(alloc, store, output),

@@ -1,6 +1,6 @@
 // How the program ends.
 ghost use Rattle.std.specs.Prelude.{◌≡◌};
-ghost use Rattle.store_commands.specs.Status.{code_of, status_of_ended, status_of_host, status_of_kind, status_after};
+ghost use Rattle.store_commands.specs.Status.{exit_code, status_of_ended, status_of_host, status_of_kind, status_after};
 
 use clap::error::ErrorKind;
 use disk_trait::HostError;
@@ -30,7 +30,7 @@ impl Status {
     /// The exit status: 0 if the command was carried out and after help, 1 after a refusal that ended the session and where a strict one
     /// answered nothing, 2 for words that are refused, 3 after a fault and if something was left out of an export.
     pub fn code(self) -> u8
-        ensures { result ≡ code_of self }
+        ensures { result ≡ exit_code self }
     {
         match self {
             Status::Done | Status::Helped => 0,

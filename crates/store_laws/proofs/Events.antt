@@ -7,7 +7,7 @@ use Rattle.plist_state.specs.State.{WorldState}
 use Rattle.prevalence_store.specs.meaning.Acceptance.{Acceptance, accepts, after, mode_of}
 use Rattle.prevalence_store.specs.calls.Open.{IsNoWord, IsUnopened, limit_of}
 use Rattle.prevalence_store.specs.Theorem.{Call, IsAfterSome, Keeps, KeepsSome, MeansSome, Reopens, Survives}
-use Rattle.store_laws.specs.Histories.{Event, StillStands, disk_by, last_disk, last_left, left_by, opened, refused, called, stopped, stopped_in_call, stopped_in_opening, Follows, Happened, Happens, IsCall, IsOpenedOrNot, IsStop, Stands}
+use Rattle.store_laws.specs.Histories.{Event, StillStands, disk_by, last_disk, last_left, world_left_by, opened, refused, called, stopped, stopped_in_call, stopped_in_opening, Follows, Happened, Happens, IsCall, IsOpenedOrNot, IsStop, Stands}
 use Rattle.user_macros.specs.Functions.{Functions}
 
 module _ (functions : Functions) where
@@ -146,8 +146,8 @@ module _ (functions : Functions) where
       next_sure : ℕ
       no_less : sure ≤ next_sure
       same : take sure next ≡ take sure line
-      stands : Stands functions state first next next_sure (disk_by event) (left_by event)
-      follows : (events : List (Event D)) → Follows functions state first next next_sure (disk_by event) (left_by event) events
+      stands : Stands functions state first next next_sure (disk_by event) (world_left_by event)
+      follows : (events : List (Event D)) → Follows functions state first next next_sure (disk_by event) (world_left_by event) events
           → Follows functions state first line sure disk left (event ∷ events)
 
     step : (event : Event D) (line : List LogRecord) (sure : ℕ) (disk : D) (left : Option WorldState) → Stands functions state first line sure disk left → Happens functions state disk left event
@@ -228,9 +228,9 @@ module _ (functions : Functions) where
     )
     follow (event ∷ events) line sure disk left stands happened =
         let one = step event line sure disk left stands happened.0 in
-        let rest = follow events one.next one.next_sure (disk_by event) (left_by event) one.stands happened.1 in (
+        let rest = follow events one.next one.next_sure (disk_by event) (world_left_by event) one.stands happened.1 in (
           one.follows events rest.0,
-          still_first line one.next sure one.next_sure (last_disk (disk_by event) events) (last_left (left_by event) events) one.no_less one.same rest.1,
+          still_first line one.next sure one.next_sure (last_disk (disk_by event) events) (last_left (world_left_by event) events) one.no_less one.same rest.1,
         )
 
   -- from files that mean the first world

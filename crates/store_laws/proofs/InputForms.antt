@@ -9,7 +9,7 @@ use Rattle.lisp_operators.specs.Evaluation.{Evaluation}
 use Rattle.plist_state.specs.State.{WorldState}
 use Rattle.session_words.specs.declared.mode.Mode.{Mode}
 use Rattle.prevalence_store.specs.meaning.Acceptance.{between, read_in, transacted}
-use Rattle.sessions.specs.Answers.{Progress, after_forms, begun, evaluated, last_line, one_form, one_form_more, onward}
+use Rattle.sessions.specs.Answers.{Progress, after_forms, first_progress, evaluated, last_line, one_form, one_form_more, onward}
 use Rattle.sessions.specs.Serve.{IsUnaccepted}
 use Rattle.store_laws.specs.Outcomes.{EndsAtRefusal, HasForms, answers}
 use Rattle.user_macros.specs.Functions.{Functions}
@@ -83,7 +83,7 @@ module _ (functions : Functions) (world : WorldState) (mode : Mode) where
 
   -- so an input has a number of them
   pub some_count : TakesBytes → (text : List ℕ) → (forms : ℕ) × (all : Progress) × HasForms functions world mode text forms all
-  some_count takes text = counted takes text (length text) 0 (begun world text) refl (omega arith)
+  some_count takes text = counted takes text (length text) 0 (first_progress world text) refl (omega arith)
 
   -- ---- what comes of more forms begins with what came of fewer
 

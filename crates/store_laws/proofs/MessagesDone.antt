@@ -9,7 +9,7 @@ use Rattle.prevalence_store.specs.meaning.Acceptance.{after}
 use Rattle.prevalence_store.specs.meaning.Files.{MeansWorld}
 use Rattle.prevalence_store.specs.calls.ExecuteAll.{MeansAllOrNone}
 use Rattle.prevalence_store.specs.calls.Store.{StoreView}
-use Rattle.messages.specs.Answers.{Round, answered, begun, closed, each_request}
+use Rattle.messages.specs.Answers.{Round, answered, first_round, closed, each_request}
 use Rattle.messages.specs.Calls.{AnswersRequests, AreAnswered, Fail, entries_by, left_after}
 use Rattle.messages.specs.Position.{position_property}
 use Rattle.prevalence_store.specs.Theorem.{Keeps}
@@ -32,7 +32,7 @@ closed_at round false is said =
 module _ (functions : Functions) {D R : Type 0} (state : D → State) (sound : (d : D) → IsHonest (state d) → IsSound (state d)) (old new : StoreView D R)
     (world : WorldState) (known : old.world ≡ Some world) (honest : IsHonest (state old.disk)) (keeps : Keeps functions (state old.disk) world) (last : ℕ) (requests : List Request) where
   abbrev round : Round
-  round = answered functions (begun last world) requests
+  round = answered functions (first_round last world) requests
 
   -- one of the two worlds that an image may mean
   of_image : (wrote : Bool) → round.wrote ≡ wrote → after functions world (entries_by wrote round.entries) ≡ Some (left_after wrote world round.left)
@@ -41,7 +41,7 @@ module _ (functions : Functions) {D R : Type 0} (state : D → State) (sound : (
   of_image true is again image now (inr later) means =
       let both : Some round.left ≡ Some later.0 = sym again ∙ later.1 in
       let here : now ≡ round.left = one_world functions image now later.0 means later.2 ∙ (let same : round.left ≡ later.0 = cc in sym same) in
-      inr (is, here, ap position_property here ∙ closed_at (each_request functions (begun last world) requests) (each_request functions (begun last world) requests).wrote refl is)
+      inr (is, here, ap position_property here ∙ closed_at (each_request functions (first_round last world) requests) (each_request functions (first_round last world) requests).wrote refl is)
   of_image false is again image now (inr later) means =
       let both : Some world ≡ Some later.0 = later.1 in
       inl (one_world functions image now later.0 means later.2 ∙ (let same : world ≡ later.0 = cc in sym same))

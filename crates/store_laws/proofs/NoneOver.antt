@@ -9,11 +9,11 @@ use Rattle.lisp_object.specs.Object.{integer}
 use Rattle.session_words.specs.declared.mode.Mode.TheVariants.{Current}
 use Rattle.messages.specs.declared.request.Request.{Request}
 use Rattle.messages.specs.declared.request.TheConstants.{OLD_NUMBER}
-use Rattle.prevalence_store.specs.calls.ExecuteAll.{left_by, told_of}
+use Rattle.prevalence_store.specs.calls.ExecuteAll.{world_left_after, told_of}
 use Rattle.prevalence_store.specs.meaning.Acceptance.{accepts}
 use Rattle.messages.specs.Answers.{Round, answer_in, answered, by_number, cleared, closed, each_request, one_request, refusal_text, with_message, with_old, wrote_by}
 use Rattle.messages.specs.Position.{position_property}
-use Rattle.store_laws.specs.Rounds.{HasWritten, IsUpTo, Place, after_rounds, begun_from, with_round}
+use Rattle.store_laws.specs.Rounds.{HasWritten, IsUpToPosition, Place, after_rounds, begun_from, with_round}
 use Rattle.store_laws.proofs.RoundsDone.{rounds_append}
 use Rattle.user_macros.specs.Functions.{Functions}
 
@@ -82,7 +82,7 @@ module _ (functions : Functions) where
     given_wrote = wrote_by (accepts functions (cleared round).left Current text)
 
     answer : List ℕ
-    answer = answer_in (left_by (cleared round).left (accepts functions (cleared round).left Current text)) (told_of (accepts functions (cleared round).left Current text))
+    answer = answer_in (world_left_after (cleared round).left (accepts functions (cleared round).left Current text)) (told_of (accepts functions (cleared round).left Current text))
 
     by : (b : Bool) → (if b then with_old round else with_message functions number text round).told ≡ round.told ++ (told, true) ∷ [] → Counts (if b then with_old round else with_message functions number text round) number
     by true is = absurd (false≢true (last_wrote round.told (refusal_text OLD_NUMBER (codes "OLD-NUMBER")) told false is))
@@ -110,10 +110,10 @@ module _ (functions : Functions) where
 
   -- it is not over the position, and will not be
   record Covers (place : Place) (number : ℕ) : Type 0 where
-    position : IsUpTo place.position number
+    position : IsUpToPosition place.position number
     last : number ≤ place.last
 
-  covers : (place : Place) (round : Round) (number : ℕ) → number ≤ round.last → (round.wrote ≡ false → IsUpTo place.position number) → Covers (with_round place round) number
+  covers : (place : Place) (round : Round) (number : ℕ) → number ≤ round.last → (round.wrote ≡ false → IsUpToPosition place.position number) → Covers (with_round place round) number
   covers place round number last else_before = by round.wrote refl where
     by : (wrote : Bool) → round.wrote ≡ wrote → Covers (with_round place round) number
     by true is = record { position = (round.last, ap (λ b. if b then Some (integer (pos round.last)) else place.position) is, last); last = last }
@@ -139,7 +139,7 @@ module _ (functions : Functions) where
       covers place (answered functions (begun_from place) requests) number (omega (arith, counts.1, same.last))
       (λ none. absurd (false≢true (sym none ∙ same.wrote ∙ counts.0)))
 
-  pub none_over : (first : Place) (rounds : List (List Request)) (number : ℕ) → HasWritten functions first rounds number → IsUpTo (after_rounds functions first rounds).position number
+  pub none_over : (first : Place) (rounds : List (List Request)) (number : ℕ) → HasWritten functions first rounds number → IsUpToPosition (after_rounds functions first rounds).position number
   none_over first rounds number written =
       let place = after_rounds functions first written.earlier in
       let round = written.before ++ written.request ∷ written.more in
@@ -147,4 +147,4 @@ module _ (functions : Functions) where
       let here = subst (λ far. Counts (one_request functions far written.request) number) written.far_is counts in
       let all = covers_first place round number (counts_all (begun_from place) written.before written.more written.request number here) in
       let after_all = covers_later written.later (with_round place (answered functions (begun_from place) round)) number all in
-      subst (λ far. IsUpTo far.position number) (sym (ap (after_rounds functions first) written.among ∙ rounds_append functions first written.earlier (round ∷ written.later))) after_all.position
+      subst (λ far. IsUpToPosition far.position number) (sym (ap (after_rounds functions first) written.among ∙ rounds_append functions first written.earlier (round ∷ written.later))) after_all.position

@@ -13,7 +13,7 @@ use Rattle.messages.specs.declared.request.Replies.{Replies}
 use Rattle.messages.specs.declared.request.Request.{Request}
 use Rattle.prevalence_store.specs.meaning.Acceptance.{after}
 use Rattle.prevalence_store.specs.meaning.Files.{MeansWorld}
-use Rattle.messages.specs.Answers.{Round, answered, begun, each_request}
+use Rattle.messages.specs.Answers.{Round, answered, first_round, each_request}
 use Rattle.messages.specs.Calls.{AnswersRequests, AreAnswered, Fail, left_after}
 use Rattle.messages.specs.Position.{position_property}
 use Rattle.messages.proofs.Settling.{unchanged_or_failed}
@@ -84,7 +84,7 @@ module _ (functions : Functions) {D R : Type 0} (state : D → State) where
   refuses : (old new : StoreView D R) (place : Place) → HasCome functions state old place → (requests : List Request) (number : ℕ)
       → AnswersRequests functions state old new place.world place.last requests (Err number) → IsSome new.world → HasCome functions state new place
   refuses old new place come requests number is still_open = by (unchanged_or_failed functions state old new place.world place.last requests number is) where
-    by : (new ≡ old) ⊎ Fail functions state old new place.world (answered functions (begun place.last place.world) requests) → HasCome functions state new place
+    by : (new ≡ old) ⊎ Fail functions state old new place.world (answered functions (first_round place.last place.world) requests) → HasCome functions state new place
     by (inl same) = subst (λ (s : StoreView D R). HasCome functions state s place) (sym same) come
     by (inr failed) = absurd (false≢true (subst (λ (w : Option WorldState). IsSome w) failed.failed.unknown still_open))
 

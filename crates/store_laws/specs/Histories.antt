@@ -33,13 +33,13 @@ disk_by (stopped now) = now
 disk_by (stopped_in_call call now) = now
 disk_by (stopped_in_opening there now) = now
 
-abbrev pub left_by : {D : Type 0} → Event D → Option WorldState
-left_by (opened now world) = Some world
-left_by (refused limit fault back) = None
-left_by (called call) = call.left
-left_by (stopped now) = None
-left_by (stopped_in_call call now) = None
-left_by (stopped_in_opening there now) = None
+abbrev pub world_left_by : {D : Type 0} → Event D → Option WorldState
+world_left_by (opened now world) = Some world
+world_left_by (refused limit fault back) = None
+world_left_by (called call) = call.left
+world_left_by (stopped now) = None
+world_left_by (stopped_in_call call now) = None
+world_left_by (stopped_in_opening there now) = None
 
 -- ---- what has to be true of events
 
@@ -83,7 +83,7 @@ module _ (functions : Functions) {D : Type 0} (state : D → State) where
   -- each of these happened where the one before it ended
   abbrev pub Happened : D → Option WorldState → List (Event D) → Type 0
   Happened disk left [] = Unit {0}
-  Happened disk left (event ∷ events) = Happens disk left event × Happened (disk_by event) (left_by event) events
+  Happened disk left (event ∷ events) = Happens disk left event × Happened (disk_by event) (world_left_by event) events
 
 -- ---- what follows from them
 
@@ -126,4 +126,4 @@ last_disk disk (event ∷ events) = last_disk (disk_by event) events
 
 abbrev pub last_left : {D : Type 0} → Option WorldState → List (Event D) → Option WorldState
 last_left left [] = left
-last_left left (event ∷ events) = last_left (left_by event) events
+last_left left (event ∷ events) = last_left (world_left_by event) events

@@ -8,7 +8,7 @@ use Rattle.prevalence_store.specs.calls.Execute.{SurvivesAs}
 use Rattle.prevalence_store.specs.calls.Store.{StoreView}
 use Rattle.messages.specs.declared.request.Replies.{Replies}
 use Rattle.messages.specs.declared.request.Request.{Request}
-use Rattle.messages.specs.Answers.{Round, answered, begun, each_request, one_request}
+use Rattle.messages.specs.Answers.{Round, answered, first_round, each_request, one_request}
 use Rattle.messages.specs.Calls.{AnswersRequests, left_after}
 use Rattle.messages.specs.Position.{position_property}
 use Rattle.user_macros.specs.Functions.{Functions}
@@ -25,7 +25,7 @@ place_at last world = record { world = world; last = last; position = position_p
 
 -- what the next round begins with
 abbrev pub begun_from : Place → Round
-begun_from place = begun place.last place.world
+begun_from place = first_round place.last place.world
 
 -- A round more. If a message of it wrote, the position is the number of its last message; else position and world stay as they are.
 abbrev pub with_round : Place → Round → Place
@@ -58,8 +58,8 @@ pub record HasWritten (functions : Functions) (first : Place) (rounds : List (Li
   pub wrote : (one_request functions far request).told ≡ far.told ++ (text, true) ∷ []
 
 -- this number is not over the position
-abbrev pub IsUpTo : Option Object → ℕ → Type 0
-IsUpTo position number = (p : ℕ) × (position ≡ Some (integer (pos p))) × (number ≤ p)
+abbrev pub IsUpToPosition : Option Object → ℕ → Type 0
+IsUpToPosition position number = (p : ℕ) × (position ≡ Some (integer (pos p))) × (number ≤ p)
 
 -- ---- calls of a store
 

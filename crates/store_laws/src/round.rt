@@ -6,7 +6,7 @@ ghost use Rattle.prevalence_store.specs.Theorem.{Keeps};
 ghost use Rattle.prevalence_store.specs.calls.Store.{StoreView};
 ghost use Rattle.messages.specs.declared.request.Request.{Request};
 ghost use Rattle.prevalence_store.specs.meaning.Files.{MeansWorld};
-ghost use Rattle.store_laws.specs.Rounds.{AreSteps, HasCome, HasWritten, IsStep, IsThere, IsUpTo, Place, Step, after_rounds, begun_in, place_at, rounds_of, store_after, store_by};
+ghost use Rattle.store_laws.specs.Rounds.{AreSteps, HasCome, HasWritten, IsStep, IsThere, IsUpToPosition, Place, Step, after_rounds, begun_in, place_at, rounds_of, store_after, store_by};
 ghost use Rattle.user_macros.specs.Functions.{Functions};
 
 use disk_trait::Disk;
@@ -34,5 +34,5 @@ pub fn rounds<D: Disk, R>()
         → IsThere (after_rounds functions (place_at last world) (rounds_of steps)) now
         ⊎ IsThere (after_rounds functions (place_at last world) (rounds_of steps ++ begun_in step)) now }
     ensures none_over { (functions : Functions) (first : Place) (rounds : List (List Request)) (number : ℕ)
-        → HasWritten functions first rounds number → IsUpTo (after_rounds functions first rounds).position number }
+        → HasWritten functions first rounds number → IsUpToPosition (after_rounds functions first rounds).position number }
 {}

@@ -16,7 +16,7 @@ use Rattle.prevalence_store.specs.calls.Store.{StoreView}
 use Rattle.store_commands.specs.Session.{half_limit}
 use Rattle.store_commands.specs.Status.{IsOfWords}
 use Rattle.store_commands.specs.declared.status.Status.{Status}
-use Rattle.store_looks.specs.Checked.{Checks, EndsSo, FindsIn, IsCheckText, IsTextOf, IsWorldOf, TellsForms}
+use Rattle.store_looks.specs.Checked.{Checks, EndsSo, FindsIn, IsCheckText, IsTextOf, IsWorldOfFolder, TellsForms}
 use Rattle.store_looks.specs.Told.{Has, notation_of}
 use Rattle.store_looks.specs.Unlooked.{status_of}
 use Rattle.store_looks.proofs.Looking.{at_world}
@@ -28,7 +28,7 @@ use Rattle.user_macros.specs.Functions.{Functions}
 module _ (functions registered : Functions) {R : Type 0} (macros : R) (input held written : Option (List ℕ)) where
   -- what was found was told
   pub forms_told : (asked : Check) (text seen : List ℕ) (world : WorldState) (found : Checking) (lines told : List ℕ) (all : Bool) (status : Status) → seen ≡ text → told ≡ lines
-      → IsTextOf (text_of asked.file) input text → IsWorldOf functions macros (text_of asked.store) world → FindsIn registered world seen found → (notation : Notation)
+      → IsTextOf (text_of asked.file) input text → IsWorldOfFolder functions macros (text_of asked.store) world → FindsIn registered world seen found → (notation : Notation)
       → notation ≡ notation_of asked.json → IsCheckText notation found lines
       → all ≡ (length found.1 == 0) → EndsSo all held written told status → TellsForms functions registered macros input held written asked status
   forms_told asked text seen world found lines told all status seen_is told_is text_is world_is finds notation asked_so lines_are all_is ends = record {

@@ -22,11 +22,11 @@ use Rattle.command_words.specs.declared.looks.Records.{Records}
 use Rattle.command_words.specs.declared.looks.Shown.{Shown}
 use Rattle.command_words.specs.declared.words.Report.TheVariants as reports
 use Rattle.lisp_object.specs.declared.refusal.TheConstants.{INPUT, NO_MEMORY}
-use Rattle.log_look.specs.Cut.{IsCut, IsNoPlace, IsUnopened as IsNoLog}
+use Rattle.log_look.specs.Cut.{IsCut, IsNoPlace, LogIsUnopened as IsNoLog}
 use Rattle.log_look.specs.declared.error.LogError.{LogError}
 use Rattle.store_commands.specs.Report.{IsReport}
 use Rattle.store_commands.specs.Status.{IsOfWords}
-use Rattle.store_reports.specs.Log.{IsLogText, least}
+use Rattle.store_reports.specs.Log.{IsLogText, least_records}
 use Rattle.store_commands.specs.Session.{half_limit}
 use Rattle.store_commands.specs.Texts.{TellsText}
 use Rattle.store_commands.specs.declared.status.Status.{Status}
@@ -244,7 +244,7 @@ module _ (sight : Sight) where
       subst (IsLogText (record (part_of records) { notation = notation }) (state_of sight).reads) (sym same) is in
       (lines, subst (λ (n : Notation). IsLogText (record (part_of records) { notation = n }) (state_of sight).reads lines) asked of_lines, tells)
 
-  pub log_failed : (records : Records) (error : LogError) (why : Unlooked) → IsNoPlace (least records.from.number) records.from.generation error (state_of sight).reads → why ≡ of_log error
+  pub log_failed : (records : Records) (error : LogError) (why : Unlooked) → IsNoPlace (least_records records.from.number) records.from.generation error (state_of sight).reads → why ≡ of_log error
       → WithholdsLog records sight why
   unfolding WithholdsLog
   log_failed records error why none is = (error, none, is)

@@ -4,7 +4,7 @@ use Rattle.std.specs.List.{flat_map}
 use Rattle.std.proofs.lemmas.List.{flat_map_more, take_more}
 use Rattle.diagnostics.specs.declared.refusal.Refusal.{Refusal}
 use Rattle.form_check.specs.declared.checking.Unreadable.{Unreadable}
-use Rattle.store_looks.specs.Checked.{AreRefusalsOf, IsCheckText, IsRefusalOf, counts_text, unreadable_text}
+use Rattle.store_looks.specs.Checked.{AreRefusalsOf, IsCheckText, IsRefusalOfUnreadable, counts_text, unreadable_text}
 use Rattle.store_reports.specs.declared.numbers.Notation.{Notation}
 
 -- none so far
@@ -13,7 +13,7 @@ unfolding AreRefusalsOf
 none_so_far = tt
 
 -- one more
-one_more : (ones : List Unreadable) (refusals : List Refusal) (one : Unreadable) (refusal : Refusal) → AreRefusalsOf ones refusals → IsRefusalOf one refusal
+one_more : (ones : List Unreadable) (refusals : List Refusal) (one : Unreadable) (refusal : Refusal) → AreRefusalsOf ones refusals → IsRefusalOfUnreadable one refusal
     → AreRefusalsOf (ones ++ one ∷ []) (refusals ++ refusal ∷ [])
 unfolding AreRefusalsOf
 one_more [] [] one refusal are is = (is, tt)
@@ -23,7 +23,7 @@ one_more (o ∷ os) (r ∷ rs) one refusal are is = (are.0, one_more os rs one r
 
 -- with what is told of it
 pub told_more : (notation : Notation) (unreadable : List Unreadable) (i : ℕ) (one default : Unreadable) (refusal : Refusal) (t u v : List ℕ) → i < length unreadable → one ≡ get_or unreadable i default
-    → IsRefusalOf one refusal → ((refusals : List Refusal) × AreRefusalsOf (take i unreadable) refusals × (u ≡ t ++ flat_map (unreadable_text notation) refusals)) → v ≡ u ++ unreadable_text notation refusal
+    → IsRefusalOfUnreadable one refusal → ((refusals : List Refusal) × AreRefusalsOf (take i unreadable) refusals × (u ≡ t ++ flat_map (unreadable_text notation) refusals)) → v ≡ u ++ unreadable_text notation refusal
     → (refusals : List Refusal) × AreRefusalsOf (take (i + 1) unreadable) refusals × (v ≡ t ++ flat_map (unreadable_text notation) refusals)
 told_more notation unreadable i one default refusal t u v within is told so wrote = (
   so.0 ++ refusal ∷ [],

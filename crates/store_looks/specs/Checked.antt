@@ -32,7 +32,7 @@ use Rattle.user_macros.specs.Functions.{Functions}
 -- ---- the text that is told
 
 -- the line on a form that cannot be read: its number, how many forms come before it, where it begins, and where it is refused
-pub record IsRefusalOf (one : Unreadable) (refusal : Refusal) : Type 0 where
+pub record IsRefusalOfUnreadable (one : Unreadable) (refusal : Refusal) : Type 0 where
   pub number : refusal.number ≡ one.number
   pub place : refusal.place ≡ record { forms = one.forms; start = one.start; at = one.at }
 
@@ -40,7 +40,7 @@ unfoldable pub AreRefusalsOf : List Unreadable → List Refusal → Type 0
 AreRefusalsOf [] [] = Unit {0}
 AreRefusalsOf [] (refusal ∷ refusals) = ⊥
 AreRefusalsOf (one ∷ others) [] = ⊥
-AreRefusalsOf (one ∷ others) (refusal ∷ refusals) = IsRefusalOf one refusal × AreRefusalsOf others refusals
+AreRefusalsOf (one ∷ others) (refusal ∷ refusals) = IsRefusalOfUnreadable one refusal × AreRefusalsOf others refusals
 
 -- a number that is not the first member of an object
 unfoldable pub later_member : List ℕ → ℕ → List ℕ
@@ -65,15 +65,15 @@ unreadable_text Lines refusal = line_of refusal
 unreadable_text Json refusal = refusal_object refusal
 
 -- and last how many forms there are, and how many of them cannot be read
-abbrev pub counts_line : (forms unreadable : ℕ) → List ℕ
-counts_line forms unreadable = codes "forms " ++ decimal forms ++ codes " unreadable " ++ decimal unreadable ++ codes "\n"
+abbrev pub checked_counts_line : (forms unreadable : ℕ) → List ℕ
+checked_counts_line forms unreadable = codes "forms " ++ decimal forms ++ codes " unreadable " ++ decimal unreadable ++ codes "\n"
 
 abbrev pub counts_object : (forms unreadable : ℕ) → List ℕ
 counts_object forms unreadable =
     123 ∷ [] ++ number_member (codes "forms") forms ++ later_member (codes "unreadable") unreadable ++ 125 ∷ 10 ∷ []
 
 abbrev pub counts_text : Notation → (forms unreadable : ℕ) → List ℕ
-counts_text Lines forms unreadable = counts_line forms unreadable
+counts_text Lines forms unreadable = checked_counts_line forms unreadable
 counts_text Json forms unreadable = counts_object forms unreadable
 
 pub record IsCheckText (notation : Notation) (found : Checking) (text : List ℕ) : Type 0 where
@@ -100,9 +100,9 @@ FindsIn functions world text found =
     (λ table. found ≡ checked (setting_under table world.read_base world.packages world.current_package functions) text)
 
 -- that of a new store, or that which a store in a folder had
-unfoldable pub IsWorldOf : Functions → {R : Type 0} → R → Option Text → WorldState → Type 0
-IsWorldOf functions macros None world = world ≡ initial
-IsWorldOf functions macros (Some folder) world = (sight : Sight) × Has functions macros (λ had. world ≡ had) sight
+unfoldable pub IsWorldOfFolder : Functions → {R : Type 0} → R → Option Text → WorldState → Type 0
+IsWorldOfFolder functions macros None world = world ≡ initial
+IsWorldOfFolder functions macros (Some folder) world = (sight : Sight) × Has functions macros (λ had. world ≡ had) sight
 
 -- of a file the text that it gave, and else that of the input
 unfoldable pub IsTextOf : Option Text → Option (List ℕ) → List ℕ → Type 0
@@ -115,7 +115,7 @@ module _ (functions registered : Functions) {R : Type 0} (macros : R) (input hel
     pub text : List ℕ
     pub text_is : IsTextOf (text_of asked.file) input text
     pub world : WorldState
-    pub world_is : IsWorldOf functions macros (text_of asked.store) world
+    pub world_is : IsWorldOfFolder functions macros (text_of asked.store) world
     pub found : Checking
     pub finds : FindsIn registered world text found
     pub told : List ℕ

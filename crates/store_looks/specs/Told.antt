@@ -14,7 +14,7 @@ use Rattle.disk_trait.specs.declared.host.HostError.{HostError}
 use Rattle.disk_trait.specs.declared.host.HostError.TheVariants.{NoName}
 use Rattle.disk_trait.specs.declared.host.IfMissing.{IfMissing}
 use Rattle.lisp_object.specs.declared.refusal.TheConstants.{INPUT, NO_MEMORY}
-use Rattle.log_look.specs.Cut.{IsCut, IsNoPlace, IsUnopened as IsNoLog}
+use Rattle.log_look.specs.Cut.{IsCut, IsNoPlace, LogIsUnopened as IsNoLog}
 use Rattle.log_look.specs.SeenState.{state_of}
 use Rattle.log_look.specs.declared.error.LogError.{LogError}
 use Rattle.log_look.specs.declared.host.Figures.{Figures}
@@ -35,7 +35,7 @@ use Rattle.store_looks.specs.declared.unlooked.Unlooked.{Unlooked}
 use Rattle.store_looks.specs.declared.unlooked.Unlooked.TheVariants as unlooked
 use Rattle.store_reports.specs.Backup.{IsMade, IsUnmade}
 use Rattle.store_reports.specs.Figures.{AreFiguresOf, file_info_text, info_text, verified_text}
-use Rattle.store_reports.specs.Log.{IsLogText, least}
+use Rattle.store_reports.specs.Log.{IsLogText, least_records}
 use Rattle.store_reports.specs.Places.{Deed}
 use Rattle.store_reports.specs.Counted.{IsCountText, IsNoCount}
 use Rattle.store_reports.specs.Shown.{IsShown, IsUnshown}
@@ -115,7 +115,7 @@ TellsLog held written records sight status =
 
 unfoldable pub WithholdsLog : Records → Sight → Unlooked → Type 0
 WithholdsLog records sight why =
-    (error : LogError) × IsNoPlace (least records.from.number) records.from.generation error (state_of sight).reads × (why ≡ of_log error)
+    (error : LogError) × IsNoPlace (least_records records.from.number) records.from.generation error (state_of sight).reads × (why ≡ of_log error)
 
 -- ---- the files that were seen
 

@@ -9,7 +9,7 @@ ghost use Rattle.world_text.specs.Snapshot.{snapshot};
 ghost use Rattle.store_commands.specs.Status.{IsQuiet};
 ghost use Rattle.store_commands.specs.Told.{TellsFault};
 ghost use Rattle.store_commands.specs.declared.told.Told.{Told};
-ghost use Rattle.store_looks.specs.Checked.{AreRefusalsOf, Checks, EndsSo, FindsIn, IsCheckText, IsRefusalOf, IsTextOf, IsWorldOf, TellsForms, unreadable_text};
+ghost use Rattle.store_looks.specs.Checked.{AreRefusalsOf, Checks, EndsSo, FindsIn, IsCheckText, IsRefusalOfUnreadable, IsTextOf, IsWorldOfFolder, TellsForms, unreadable_text};
 ghost use Rattle.store_looks.specs.Told.{Has};
 
 use crate::looks::{end_unlooked, notation_for, opened, sight_of};
@@ -153,14 +153,14 @@ fn read_input<I: Read>(alloc: Global, input: &mut I) -> Result<Vec<u8>, Unlooked
 }
 
 // The world under which a text is read: that of the store in this folder, or of a new one. The macro functions are given back.
-#[tactic(auto, unfolding(crate::specs::Checked::IsWorldOf))]
+#[tactic(auto, unfolding(crate::specs::Checked::IsWorldOfFolder))]
 fn world_of<R, M>(rt: &R, macros: M, store: Option<&str>) -> Result<(World, M), Unlooked>
 where
     R: Files<File = File> + Seeds + AllocGlobal,
     M: MacroFunctions + Drop,
     requires answers { M.answers macros }
     ensures macros { IfOk result (λ p. p.1 ≡ macros) }
-    ensures world { IfOk result (λ p. IsWorldOf M.Meaning.functions macros (borrowed_text store.entry) p.0.0) }
+    ensures world { IfOk result (λ p. IsWorldOfFolder M.Meaning.functions macros (borrowed_text store.entry) p.0.0) }
 {
     let Ok(seed) = rt.seed() else {
         return Err(Unlooked::Fault(INPUT));
@@ -285,7 +285,7 @@ fn spots_of(text: &[u8], spot: Option<Spot>, passed: usize, one: &Unreadable) ->
 }
 
 fn refusal_of(one: &Unreadable, spots: Option<Spots>) -> Refusal
-    ensures { IsRefusalOf one.now result }
+    ensures { IsRefusalOfUnreadable one.now result }
 {
     Refusal {
         number: one.number,

@@ -37,7 +37,7 @@ use store_commands::{
     Folders, HALF_LIMIT, Opening, Status, TellsCause, Told, answer_words, end_with, end_with_told,
     open_folder, report_on, status_of_output,
 };
-use store_reports::{BackupError, LogPart, Notation, Places, backup, log_lines};
+use store_reports::{BackupError, LogPart, Notation, StorePlaces, backup, log_lines};
 use user_macros::MacroFunctions;
 
 /// Looks into the store in a folder, as the words ask (`Way::Look` of `command_words`), and answers how that ended. The first word is the
@@ -56,7 +56,7 @@ pub fn look<R, L, M, S, O, F>(
     faults: &mut F,
 ) -> Status
 where
-    R: Seeds + Measures + Places + AllocGlobal,
+    R: Seeds + Measures + StorePlaces + AllocGlobal,
     L: Folders<Disk = Sight>,
     M: MacroFunctions + Drop,
     S: AsStr,
@@ -112,7 +112,7 @@ pub(crate) fn end_unlooked<F: Write>(faults: &mut F, unlooked: Unlooked) -> Stat
             Status::WordsRefused
         }
         Unlooked::Unread(error) => {
-            let mut shown = program_streams::Shown::new(faults);
+            let mut shown = program_streams::ShownText::new(faults);
             let _ = writeln!(shown, "error: the file cannot be read: {error}");
             Status::WordsRefused
         }
@@ -121,7 +121,7 @@ pub(crate) fn end_unlooked<F: Write>(faults: &mut F, unlooked: Unlooked) -> Stat
 
 // Tells why what is asked for is not there. A name in it goes to a terminal.
 fn tell_error<F: Write, E: Display>(faults: &mut F, error: &E) {
-    let mut shown = program_streams::Shown::new(faults);
+    let mut shown = program_streams::ShownText::new(faults);
     let _ = writeln!(shown, "error: {error}");
 }
 
@@ -146,7 +146,7 @@ fn look_at<R, L, M, O>(
     output: &mut O,
 ) -> Result<Status, Unlooked>
 where
-    R: Seeds + Measures + Places + AllocGlobal,
+    R: Seeds + Measures + StorePlaces + AllocGlobal,
     L: Folders<Disk = Sight>,
     M: MacroFunctions + Drop,
     O: Write,
@@ -179,7 +179,7 @@ fn look_into<R, M, O>(
     output: &mut O,
 ) -> Result<Status, Unlooked>
 where
-    R: Measures + Places + AllocGlobal,
+    R: Measures + StorePlaces + AllocGlobal,
     M: MacroFunctions + Drop,
     O: Write,
     requires answers { M.answers macros }
@@ -312,7 +312,7 @@ fn back_up<P, M>(
     to: &str,
 ) -> Result<Status, Unlooked>
 where
-    P: Places,
+    P: StorePlaces,
     M: MacroFunctions + Drop,
     requires answers { M.answers macros }
     requires may { P.may places.now to.now }
@@ -330,7 +330,7 @@ where
 }
 
 // Makes a new store of the world of an open one.
-fn backed_up<P: Places, M: MacroFunctions>(
+fn backed_up<P: StorePlaces, M: MacroFunctions>(
     alloc: Global,
     places: &P,
     store: &Store<Sight, M>,

@@ -1,7 +1,7 @@
 // How forms that cannot be read are told: by lines, or by objects of JSON.
 ghost use Rattle.std.specs.Prelude.{◌≡◌, ◌++◌, codes, decimal, OnOk};
 ghost use Rattle.diagnostics.specs.Refusals.{form_of, line_of};
-ghost use Rattle.store_looks.specs.Checked.{counts_line, counts_object, counts_text, later_member, refusal_object, place_members, unreadable_text};
+ghost use Rattle.store_looks.specs.Checked.{checked_counts_line, counts_object, counts_text, later_member, refusal_object, place_members, unreadable_text};
 
 use diagnostics::{Refusal, Spots, write_refusal};
 use lisp_object::refusal::name_of;
@@ -119,7 +119,7 @@ fn push_counts_line(
     forms: usize,
     unreadable: usize,
 ) -> Result<(), AllocError>
-    ensures { OnOk result (text.new.items ≡ text.old.items ++ counts_line forms unreadable) }
+    ensures { OnOk result (text.new.items ≡ text.old.items ++ checked_counts_line forms unreadable) }
 {
     text.extend_from_slice(b"forms ")?;
     push_number(alloc, text, forms)?;

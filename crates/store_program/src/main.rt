@@ -15,7 +15,7 @@ use crate::counted::Counted;
 use crate::opening::Telling;
 use crate::pages::Pages;
 use crate::reasons::{reasons_for, tell_unread};
-use command_words::{Way, asks_for_quiet, way_of};
+use command_words::{CommandWay, asks_for_quiet, way_of};
 use lisp_object::refusal::NO_MEMORY;
 use message_command::run_messages;
 use program_streams::{
@@ -35,7 +35,7 @@ use store_commands::{
     Status, Terminal, end_with, program, program_at_terminal,
 };
 use store_looks::{check, look};
-use user_macros::{Answer, Call, Cause, MacroFn, MacroFunctions, Macros, Refusal};
+use user_macros::{Answer, Call, Cause, MacroFn, MacroFunctions, Macros, RegistryRefusal};
 
 /// How many bytes of the stack are taken at the start. The deepest form takes fewer.
 const STACK: usize = 524_288;
@@ -90,15 +90,19 @@ fn serve_words<M: MacroFunctions + Drop, F: Write>(
     }
     let mut output = Uninterrupted::new(rt.stdout());
     match way_of(words) {
-        way @ (Way::Look | Way::Check | Way::See) => tell(rt, way, macros, words),
-        Way::Messages => {
+        way @ (CommandWay::Look | CommandWay::Check | CommandWay::See) => tell(
+            rt, way, macros, words,
+        ),
+        CommandWay::Messages => {
             let mut input = Uninterrupted::new(rt.stdin());
             let folders = Telling::new(rt, rt);
             run_messages(&folders, macros, words, &mut input, &mut output, faults)
         }
-        Way::Serve if asks_for_quiet(words) => serve_quietly(rt, macros, words, faults),
-        Way::Serve if rt.stdin().is_terminal() => serve_at_terminal(rt, macros, words, faults),
-        Way::Serve => serve_pipe(
+        CommandWay::Serve if asks_for_quiet(words) => serve_quietly(rt, macros, words, faults),
+        CommandWay::Serve if rt.stdin().is_terminal() => serve_at_terminal(
+            rt, macros, words, faults,
+        ),
+        CommandWay::Serve => serve_pipe(
             rt,
             &Telling::new(rt, rt),
             macros,
@@ -110,14 +114,19 @@ fn serve_words<M: MacroFunctions + Drop, F: Write>(
 }
 
 // Tells what the words ask for, in this way. If the reader of the output goes before its end, as `head` does, that is no fault.
-fn tell<M: MacroFunctions + Drop>(rt: &HostRuntime, way: Way, macros: M, words: &[String]) -> Status
+fn tell<M: MacroFunctions + Drop>(
+    rt: &HostRuntime,
+    way: CommandWay,
+    macros: M,
+    words: &[String],
+) -> Status
     requires answers { M.answers macros }
 {
     let closed = Cell::new(false);
     let mut output = Pipe::new(Uninterrupted::new(rt.stdout()), &closed);
     let mut faults = BesidePipe::new(rt.stderr(), &closed);
     let status = match way {
-        Way::Look => look(
+        CommandWay::Look => look(
             rt,
             &Looking::new(rt),
             macros,
@@ -125,7 +134,7 @@ fn tell<M: MacroFunctions + Drop>(rt: &HostRuntime, way: Way, macros: M, words: 
             &mut output,
             &mut faults,
         ),
-        Way::Check => {
+        CommandWay::Check => {
             let mut input = Uninterrupted::new(rt.stdin());
             check(rt, macros, words, &mut input, &mut output, &mut faults)
         }
@@ -302,7 +311,7 @@ fn serve_quietly_at_terminal<M: MacroFunctions + Drop, F: Write>(
 }
 
 // What comes of registering a function whose name is known and not taken: only memory can refuse it.
-fn registered(registering: Result<(), Refusal>) -> Result<(), AllocError>
+fn registered(registering: Result<(), RegistryRefusal>) -> Result<(), AllocError>
     requires { IfErr registering (λ refusal. refusal.cause ≡ Cause.OutOfMemory) }
     ensures { is_ok result ≡ is_ok registering }
 {

@@ -11,7 +11,7 @@ use Rattle.plist_state.specs.Readers.{symbols_with_properties}
 use Rattle.plist_state.specs.State.{WorldState}
 use Rattle.store_reports.specs.Figures.{told_number}
 use Rattle.store_reports.specs.Json.{number_member}
-use Rattle.store_reports.specs.Shown.{has_wanted, is_asked, is_named, shown_symbol, takes_symbol}
+use Rattle.store_reports.specs.Shown.{has_wanted, is_asked, is_wanted_name, shown_symbol, takes_symbol}
 use Rattle.store_reports.specs.declared.numbers.Notation.{Notation}
 use Rattle.store_reports.specs.declared.numbers.Notation.TheVariants.{Json, Lines}
 use Rattle.store_reports.specs.declared.selection.Selection.{Selection}
@@ -28,7 +28,7 @@ sum_at_homes world f = sum_by (sum_at_home world f) (package_names world.package
 module _ (wanted : Selection) (world : WorldState) where
   -- how many properties of a symbol are asked for
   unfoldable pub taken_properties : Symbol → ℕ
-  taken_properties x = if takes_symbol wanted x then count_by (λ p. is_named wanted.indicator p.0.1) (plist world x) else 0
+  taken_properties x = if takes_symbol wanted x then count_by (λ p. is_wanted_name wanted.indicator p.0.1) (plist world x) else 0
 
   -- a symbol is asked for, and by this text
   unfoldable pub is_printed : List ℕ → Symbol → Bool

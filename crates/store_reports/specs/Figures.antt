@@ -13,7 +13,7 @@ use Rattle.plist_state.specs.Changes.{plist}
 use Rattle.plist_state.specs.Readers.{symbols_with_properties}
 use Rattle.plist_state.specs.State.{WorldState}
 use Rattle.store_reports.specs.Json.{json_number}
-use Rattle.store_reports.specs.declared.figures.Counts.{Counts}
+use Rattle.store_reports.specs.declared.figures.FigureCounts.{FigureCounts}
 use Rattle.store_reports.specs.declared.figures.HalfFigures.{HalfFigures}
 use Rattle.store_reports.specs.declared.numbers.Notation.{Notation}
 use Rattle.store_reports.specs.declared.numbers.Notation.TheVariants.{Json, Lines}
@@ -42,11 +42,11 @@ known_figure notation name None = []
 known_figure notation name (Some value) = figure notation name value
 
 -- what comes first: which half it is
-abbrev pub half_line : Notation → Half → List ℕ
-half_line Lines A = codes "half A" ++ 10 ∷ []
-half_line Lines B = codes "half B" ++ 10 ∷ []
-half_line Json A = codes "{\"half\":\"A\""
-half_line Json B = codes "{\"half\":\"B\""
+abbrev pub half_figures_line : Notation → Half → List ℕ
+half_figures_line Lines A = codes "half A" ++ 10 ∷ []
+half_figures_line Lines B = codes "half B" ++ 10 ∷ []
+half_figures_line Json A = codes "{\"half\":\"A\""
+half_figures_line Json B = codes "{\"half\":\"B\""
 
 -- and last
 abbrev pub end_of_figures : Notation → List ℕ
@@ -56,7 +56,7 @@ end_of_figures Json = codes "}\n"
 -- what is told of an open store, as an object: its half in use, and the position of messages, where there is one
 abbrev pub verified_text : Half → (generation records : ℕ) → Option ℕ → List ℕ
 verified_text half generation records position =
-    half_line Json half ++ figure Json (codes "generation") generation ++ figure Json (codes "records") records
+    half_figures_line Json half ++ figure Json (codes "generation") generation ++ figure Json (codes "records") records
     ++ known_figure Json (codes "position") position ++ end_of_figures Json
 
 -- as much of a number as one of 64 bits can tell
@@ -71,7 +71,7 @@ abbrev pub property_count : WorldState → ℕ
 property_count world = sum_by (λ symbol. length (plist world symbol)) (symbols_with_properties world)
 
 -- how much is in a world
-abbrev pub counts_in : WorldState → Counts
+abbrev pub counts_in : WorldState → FigureCounts
 counts_in world = record {
   packages = length (package_names world.packages);
   symbols = told_number (symbol_count world.packages);
@@ -89,13 +89,13 @@ module _ (notation : Notation) where
 
   abbrev pub half_text : HalfFigures → List ℕ
   half_text half =
-      half_line notation half.half
+      half_figures_line notation half.half
       ++ figure notation (codes "version") half.version
       ++ figure notation (codes "generation") half.generation
       ++ sizes_text half
 
   -- of the world
-  abbrev pub counts_text : Counts → List ℕ
+  abbrev pub counts_text : FigureCounts → List ℕ
   counts_text counts =
       figure notation (codes "packages") counts.packages
       ++ figure notation (codes "symbols") counts.symbols

@@ -3,7 +3,7 @@ use Rattle.std.specs.Prelude.{◌≡◌, ℕ, ◌+◌, Bool, if◌then◌else◌
 use Rattle.disk_trait.specs.Disk.{Image}
 use Rattle.gate_log.specs.Layout.{Contents, LogRecord}
 use Rattle.gate_log.specs.Log.{FilesMean}
-use Rattle.log_look.specs.Cut.{IsPlace}
+use Rattle.log_look.specs.Cut.{IsRecordPlace}
 use Rattle.store_reports.specs.Escaped.{escaped}
 use Rattle.store_reports.specs.Json.{number_member, string_member}
 use Rattle.store_reports.specs.declared.log.LogPart.{LogPart}
@@ -11,8 +11,8 @@ use Rattle.store_reports.specs.declared.numbers.Notation.{Notation}
 use Rattle.store_reports.specs.declared.numbers.Notation.TheVariants.{Json, Lines}
 
 -- how many records there have to be, where the lines begin with the record of this number: the first of none may be asked for
-abbrev pub least : ℕ → ℕ
-least from = if nat_le from 1 then 0 else from
+abbrev pub least_records : ℕ → ℕ
+least_records from = if nat_le from 1 then 0 else from
 
 -- the number of a record, behind the generation and a dot where that is asked for
 abbrev pub place_text : Bool → ℕ → ℕ → List ℕ
@@ -59,5 +59,5 @@ log_text part k = record_lines part k.generation 1 k.entries
 pub record IsLogText (part : LogPart) (image : Image) (text : List ℕ) : Type 0 where
   pub contents : Contents
   pub means : FilesMean (Some contents) image
-  pub place : IsPlace (least part.from) part.generation contents
+  pub place : IsRecordPlace (least_records part.from) part.generation contents
   pub is : text ≡ log_text part contents

@@ -26,12 +26,12 @@ use Rattle.store_reports.specs.declared.showing.ShowError.TheVariants as showing
 -- ---- which
 
 -- a name is the one that is asked for, if one is
-abbrev pub is_named : Option (Bor Name) → Name → Bool
-is_named wanted name = option_map_or (λ (w : Bor Name). bytes_eq w.now name) wanted true
+abbrev pub is_wanted_name : Option (Bor Name) → Name → Bool
+is_wanted_name wanted name = option_map_or (λ (w : Bor Name). bytes_eq w.now name) wanted true
 
 -- the symbols of a package, and those whose names are like a pattern
 unfoldable pub takes_symbol : Selection → Symbol → Bool
-takes_symbol wanted x = is_named wanted.package x.0 && option_map_or (λ (pattern : Bor (List ℕ)). is_like pattern.now x.1) wanted.like true
+takes_symbol wanted x = is_wanted_name wanted.package x.0 && option_map_or (λ (pattern : Bor (List ℕ)). is_like pattern.now x.1) wanted.like true
 
 -- ---- how
 
@@ -62,7 +62,7 @@ module _ (wanted : Selection) (t : Table) (x : List ℕ) where
   -- a property of the symbol of this text, where its indicator has the name that is asked for
   unfoldable pub shown_property : Symbol × Object → List ℕ
   shown_property p =
-      if is_named wanted.indicator p.0.1 then property_text wanted.layout x (shown_symbol t p.0) (printed t common_lisp_user p.1) else []
+      if is_wanted_name wanted.indicator p.0.1 then property_text wanted.layout x (shown_symbol t p.0) (printed t common_lisp_user p.1) else []
 
 module _ (wanted : Selection) (world : WorldState) where
   -- those of a symbol, in the order of its list

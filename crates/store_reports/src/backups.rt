@@ -9,7 +9,7 @@ ghost use Rattle.store_reports.specs.Backup.{HoldsWorld, IsAlone, IsBare, IsComp
 ghost use Rattle.store_reports.specs.Numbers.{open_number, read_number, start_number};
 ghost use Rattle.store_reports.specs.declared.backups.BackupError.TheVariants as errors;
 
-use crate::places::Places;
+use crate::places::StorePlaces;
 use disk_trait::{Disk, HostError, IfMissing};
 use gate_log::{Halves, OpenRefusal, ReadError, StartError, shown_is_meant};
 use lisp_object::refusal::{DAMAGED, DEVICE, NO_MEMORY, SNAPSHOT_TOO_LARGE, VERSION};
@@ -170,7 +170,7 @@ pub fn backup_onto<D: Disk>(
 /// Each with its cause (`IsUnmade`); what was begun is taken away. `Exists` where something is at `dir`, and `Unfinished` where something is
 /// beside it: none of that is touched. `Host` with the cause where a call of the system failed. `Refused` with its number. `Differs`
 /// where what was opened again has another text.
-pub fn backup<P: Places>(
+pub fn backup<P: StorePlaces>(
     alloc: Global,
     places: &P,
     world: &World,
@@ -192,7 +192,7 @@ pub fn backup<P: Places>(
 }
 
 // Makes a backup in its folder, and gives it its name.
-fn make_and_place<P: Places>(
+fn make_and_place<P: StorePlaces>(
     alloc: Global,
     places: &P,
     world: &World,
@@ -209,7 +209,7 @@ fn make_and_place<P: Places>(
 }
 
 // Writes a world to new files, which are closed then.
-fn write_at<P: Places>(
+fn write_at<P: StorePlaces>(
     alloc: Global,
     places: &P,
     world: &World,
@@ -228,7 +228,7 @@ fn write_at<P: Places>(
 }
 
 // The error, with the cause of a fault of the device.
-fn with_cause<P: Places>(places: &P, error: BackupError, disk: &P::Disk) -> BackupError
+fn with_cause<P: StorePlaces>(places: &P, error: BackupError, disk: &P::Disk) -> BackupError
     ensures { IsToldAs (P.does places.now) disk.now error result }
 {
     match (error, places.cause(disk)) {
@@ -238,7 +238,7 @@ fn with_cause<P: Places>(places: &P, error: BackupError, disk: &P::Disk) -> Back
 }
 
 // Opens the files of a backup again, and looks whether they hold the text of a world and no record.
-fn compare_at<P: Places>(
+fn compare_at<P: StorePlaces>(
     alloc: Global,
     places: &P,
     world: &World,

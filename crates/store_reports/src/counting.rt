@@ -5,7 +5,7 @@ ghost use Rattle.package_table.specs.Readers.{names_of, own_names};
 ghost use Rattle.plist_state.specs.Readers.{borrowed_symbols};
 ghost use Rattle.store_reports.specs.Counted.{count_text, shown_properties, shown_symbols, taken_properties, IsCountText, IsNoCount, printed_properties, printed_symbols, sum_at_home};
 ghost use Rattle.store_reports.specs.Figures.{told_number};
-ghost use Rattle.store_reports.specs.Shown.{is_named};
+ghost use Rattle.store_reports.specs.Shown.{is_wanted_name};
 ghost use Rattle.store_reports.specs.declared.showing.ShowError.TheVariants as showing;
 
 use crate::homes::AskedSymbol;
@@ -128,7 +128,7 @@ fn taken_properties(world: &World, selection: &Selection<'_>, home: &[u8], name:
 
 // How many of these properties are.
 fn taken_of(selection: &Selection<'_>, properties: &PropertyList<'_>) -> u64
-    ensures { result ≡ count_by (λ p. is_named selection.now.indicator p.0.1) properties.now }
+    ensures { result ≡ count_by (λ p. is_wanted_name selection.now.indicator p.0.1) properties.now }
 {
     let mut count = 0;
     for index in 0..properties.len() {

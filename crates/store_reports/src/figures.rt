@@ -1,9 +1,9 @@
 //! Figures of a store.
 ghost use Rattle.std.specs.Prelude.{◌≡◌, ◌+◌, ◌-◌, ◌^◌, ◌<◌, ◌++◌, length, IfErr, IfOk, OnOk};
-ghost use Rattle.log_look.specs.Cut.{IsUnopened};
+ghost use Rattle.log_look.specs.Cut.{LogIsUnopened};
 ghost use Rattle.package_table.specs.Readers.{package_names};
 ghost use Rattle.plist_state.specs.Readers.{borrowed_symbols, symbols_with_properties};
-ghost use Rattle.store_reports.specs.Figures.{AreFiguresOf, counts_in, end_of_figures, file_info_text, files_text, half_line, half_text, info_text, sizes_text, known_figure, property_count, symbol_count, told_number, verified_text, world_text};
+ghost use Rattle.store_reports.specs.Figures.{AreFiguresOf, counts_in, end_of_figures, file_info_text, files_text, half_figures_line, half_text, info_text, sizes_text, known_figure, property_count, symbol_count, told_number, verified_text, world_text};
 
 use crate::numbers::{Notation, push_figure};
 use disk_trait::{Disk, Half};
@@ -35,7 +35,7 @@ pub fn half_figures(alloc: Global, sight: Sight) -> Result<(HalfFigures, Sight),
     ensures figures { IfOk result (λ told. AreFiguresOf (⟦<Sight as Disk>⟧.state sight).reads told.0) }
     ensures reads { IfOk result (λ told. (⟦<Sight as Disk>⟧.state told.1).reads ≡ (⟦<Sight as Disk>⟧.state sight).reads) }
     ensures room { IfOk result (λ told. (⟦<Sight as Disk>⟧.state told.1).failures ≡ (⟦<Sight as Disk>⟧.state sight).failures) }
-    ensures refused { IfErr result (λ e. IsUnopened e (⟦<Sight as Disk>⟧.state sight).reads) }
+    ensures refused { IfErr result (λ e. LogIsUnopened e (⟦<Sight as Disk>⟧.state sight).reads) }
 {
     let log = open_sight(alloc, sight)?;
     let figures = HalfFigures {
@@ -144,7 +144,7 @@ pub fn verified(
 }
 
 fn push_letter(text: &mut Vec<u8>, notation: Notation, half: Half) -> Result<(), AllocError>
-    ensures { OnOk result (text.new.items ≡ text.old.items ++ half_line notation half) }
+    ensures { OnOk result (text.new.items ≡ text.old.items ++ half_figures_line notation half) }
 {
     let line: &[u8] = match (notation, half) {
         (Notation::Lines, Half::A) => b"half A\n",
@@ -194,21 +194,21 @@ fn push_sizes(
 
 // How much is in a world.
 #[derive(Clone, Copy)]
-struct Counts {
+struct FigureCounts {
     packages: u64,
     symbols: u64,
     owners: u64,
     properties: u64,
 }
 
-fn counts_of(alloc: Global, world: &World) -> Result<Counts, AllocError>
+fn counts_of(alloc: Global, world: &World) -> Result<FigureCounts, AllocError>
     ensures { IfOk result (λ counts. counts ≡ counts_in world.now.0) }
 {
     let packages = world.packages().package_names(alloc)?;
     let symbols = symbol_count(alloc, world.packages())?;
     let owners = world.owners(alloc)?;
     let properties = property_count(world, owners.as_slice());
-    Ok(Counts {
+    Ok(FigureCounts {
         packages: packages.len() as u64,
         symbols,
         owners: owners.len() as u64,

@@ -5,7 +5,7 @@
 //! - `info`: figures of a store and of its files, and `file_info`: those that need no world; `verified`: what is told of a store that was
 //!   verified, as JSON (module `figures`).
 //! - `log_lines`: the records of the half in use, a line each (module `log`).
-//! - `backup`: a new store with the world of another one (module `backups`), at a place that something makes and names (`Places`, module
+//! - `backup`: a new store with the world of another one (module `backups`), at a place that something makes and names (`StorePlaces`, module
 //!   `places`); `backup_onto`: on a disk that is there.
 //!
 //! All but these two give bytes and write nothing. In lines control characters are escaped (module `escaped`); JSON is that of module
@@ -31,6 +31,6 @@ pub use figures::{HalfFigures, file_info, half_figures, info, verified};
 pub use json::{push_number_member, push_string_member};
 pub use log::{LogPart, log_lines};
 pub use numbers::{Notation, push_figure};
-pub use places::Places;
+pub use places::StorePlaces;
 pub use selection::{Layout, Selection};
 pub use showing::{ShowError, show};

@@ -10,7 +10,7 @@ use std::rt::Files;
 use std::{fs, io};
 
 /// Where new stores are made, each in a folder beside its place, which gets the place's name once the store is whole: the system.
-pub trait Places {
+pub trait StorePlaces {
     /// The disk that the two files of a store are.
     type Disk: Disk + Drop;
 
@@ -61,7 +61,7 @@ pub trait Places {
         ensures { does self.now (taken_away dir.now) };
 }
 
-impl Places for HostRuntime {
+impl StorePlaces for HostRuntime {
     type Disk = HostDisk;
 
     ghost may = { λ host dir. ⊤ };

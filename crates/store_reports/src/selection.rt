@@ -1,6 +1,6 @@
 //! Which properties are asked for, and how they are written.
 ghost use Rattle.std.specs.Prelude.{◌≡◌};
-ghost use Rattle.store_reports.specs.Shown.{is_named, takes_symbol};
+ghost use Rattle.store_reports.specs.Shown.{is_wanted_name, takes_symbol};
 
 use name_patterns::is_like;
 
@@ -32,7 +32,7 @@ pub struct Selection<'a> {
 
 // Whether a name is the one that is asked for, if one is.
 fn is_named(wanted: Option<&[u8]>, name: &[u8]) -> bool
-    ensures { result ≡ is_named wanted.entry name.now }
+    ensures { result ≡ is_wanted_name wanted.entry name.now }
 {
     match wanted {
         Some(wanted) => wanted == name,
@@ -55,7 +55,7 @@ impl Selection<'_> {
 
     /// Whether properties of an indicator of this name are.
     pub(crate) fn takes_indicator(&self, name: &[u8]) -> bool
-        ensures { result ≡ is_named self.now.indicator name.now }
+        ensures { result ≡ is_wanted_name self.now.indicator name.now }
     {
         is_named(self.indicator, name)
     }

@@ -8,7 +8,7 @@ use Rattle.std.proofs.lemmas.List.Folds.{list_all-append}
 use Rattle.lisp_object.specs.Object.{Object}
 use Rattle.token_meaning.specs.declared.refusal.MeaningRefusal.{MeaningRefusal}
 use Rattle.token_meaning.specs.declared.refusal.MeaningRefusal.TheVariants.{FloatToken}
-use Rattle.token_meaning.specs.Numerals.{is_digit_in, is_empty, are_digits, is_numeral, value, without_sign, cut}
+use Rattle.token_meaning.specs.Numerals.{is_digit_in, is_empty, are_digits, is_numeral, value, without_sign, cut_at_first}
 use Rattle.token_meaning.specs.Numbers.{is_point, is_exponent_marker, integer_of, decimal_form, is_pointed, is_mantissa, is_scaled, is_float, decimal_or_float_form}
 use Rattle.token_meaning.specs.Leading.{begins_with_digit, IsLeading, after_code, is_exponent}
 use Rattle.token_meaning.proofs.Parts.{cut_with, cut_without, cut_past, onto_front}
@@ -53,10 +53,10 @@ far_scaled : (ds : List ℕ) (c : ℕ) (o : Option (List ℕ × List ℕ)) → a
     → is_scaled (option_map (onto_front ds c) o) ≡ false
 far_scaled ds c None are e point = refl
 far_scaled ds c (Some parts) are e point =
-    and_left _ _ (ap (is_mantissa (ds ++ c ∷ parts.0)) (cut_past is_point ds c parts.0 (no_point ds are) point) ∙ far_mantissa ds c parts.0 (cut is_point parts.0) e)
+    and_left _ _ (ap (is_mantissa (ds ++ c ∷ parts.0)) (cut_past is_point ds c parts.0 (no_point ds are) point) ∙ far_mantissa ds c parts.0 (cut_at_first is_point parts.0) e)
 
 scaled_at : (ds : List ℕ) (c : ℕ) (cs : List ℕ) (b : Bool) → are_digits 10 ds ≡ true → is_digit_in 10 c ≡ false → is_point c ≡ false → is_exponent_marker c ≡ b
-    → is_scaled (cut is_exponent_marker (ds ++ c ∷ cs)) ≡ (not (is_empty ds) && (b && is_numeral 10 (without_sign cs)))
+    → is_scaled (cut_at_first is_exponent_marker (ds ++ c ∷ cs)) ≡ (not (is_empty ds) && (b && is_numeral 10 (without_sign cs)))
 scaled_at ds c cs true are e point marker =
     ap is_scaled (cut_with is_exponent_marker ds c cs (no_marker ds are) marker)
     ∙ ap (λ o. is_mantissa ds o && is_numeral 10 (without_sign cs)) (cut_without is_point ds (no_point ds are))
@@ -66,28 +66,28 @@ scaled_at ds c cs true are e point marker =
     some [] = refl
     some (x ∷ xs) = refl
 scaled_at ds c cs false are e point marker =
-    ap is_scaled (cut_past is_exponent_marker ds c cs (no_marker ds are) marker) ∙ far_scaled ds c (cut is_exponent_marker cs) are e point
+    ap is_scaled (cut_past is_exponent_marker ds c cs (no_marker ds are) marker) ∙ far_scaled ds c (cut_at_first is_exponent_marker cs) are e point
     ∙ sym (and_right (not (is_empty ds)) false refl)
 
 pub unpointed_float : (ds rest : List ℕ) → are_digits 10 ds ≡ true → IsApart rest → is_float (ds ++ rest) ≡ (not (is_empty ds) && is_exponent rest)
 unpointed_float ds [] are apart =
-    let pointed : is_pointed (cut is_point (ds ++ [])) ≡ false = ap (λ (xs : List ℕ). is_pointed (cut is_point xs)) (append-nil ds) ∙ ap is_pointed (cut_without is_point ds (no_point ds are)) in
-    let scaled : is_scaled (cut is_exponent_marker (ds ++ [])) ≡ false = ap (λ (xs : List ℕ). is_scaled (cut is_exponent_marker xs)) (append-nil ds) ∙ ap is_scaled (cut_without is_exponent_marker ds (no_marker ds are)) in
+    let pointed : is_pointed (cut_at_first is_point (ds ++ [])) ≡ false = ap (λ (xs : List ℕ). is_pointed (cut_at_first is_point xs)) (append-nil ds) ∙ ap is_pointed (cut_without is_point ds (no_point ds are)) in
+    let scaled : is_scaled (cut_at_first is_exponent_marker (ds ++ [])) ≡ false = ap (λ (xs : List ℕ). is_scaled (cut_at_first is_exponent_marker xs)) (append-nil ds) ∙ ap is_scaled (cut_without is_exponent_marker ds (no_marker ds are)) in
     (λ i. pointed i || scaled i) ∙ sym (and_right (not (is_empty ds)) false refl)
 unpointed_float ds (c ∷ rest) are apart =
-    let pointed : is_pointed (cut is_point (ds ++ c ∷ rest)) ≡ false = ap is_pointed (cut_past is_point ds c rest (no_point ds are) apart.1) ∙ far_point ds c (cut is_point rest) apart.0 in
+    let pointed : is_pointed (cut_at_first is_point (ds ++ c ∷ rest)) ≡ false = ap is_pointed (cut_past is_point ds c rest (no_point ds are) apart.1) ∙ far_point ds c (cut_at_first is_point rest) apart.0 in
     λ i. pointed i || scaled_at ds c rest (is_exponent_marker c) are apart.0 apart.1 refl i
 
-pub unpointed_decimal : (negative : Bool) (ds rest : List ℕ) → are_digits 10 ds ≡ true → IsApart rest → decimal_form negative (cut is_point (ds ++ rest)) ≡ None
+pub unpointed_decimal : (negative : Bool) (ds rest : List ℕ) → are_digits 10 ds ≡ true → IsApart rest → decimal_form negative (cut_at_first is_point (ds ++ rest)) ≡ None
 unpointed_decimal negative ds [] are apart =
-    ap (λ (xs : List ℕ). decimal_form negative (cut is_point xs)) (append-nil ds) ∙ ap (decimal_form negative) (cut_without is_point ds (no_point ds are))
+    ap (λ (xs : List ℕ). decimal_form negative (cut_at_first is_point xs)) (append-nil ds) ∙ ap (decimal_form negative) (cut_without is_point ds (no_point ds are))
 unpointed_decimal negative ds (c ∷ rest) are apart =
-    ap (decimal_form negative) (cut_past is_point ds c rest (no_point ds are) apart.1) ∙ far_decimal negative ds c (cut is_point rest) apart.0
+    ap (decimal_form negative) (cut_past is_point ds c rest (no_point ds are) apart.1) ∙ far_decimal negative ds c (cut_at_first is_point rest) apart.0
 
 -- ---- with a point after the digits
 
 pointed_at : (ds fs rest : List ℕ) → are_digits 10 ds ≡ true → are_digits 10 fs ≡ true → begins_with_digit 10 rest ≡ false
-    → is_pointed (cut is_point (ds ++ 46 ∷ (fs ++ rest))) ≡ (not (is_empty fs) && is_empty rest)
+    → is_pointed (cut_at_first is_point (ds ++ 46 ∷ (fs ++ rest))) ≡ (not (is_empty fs) && is_empty rest)
 pointed_at ds fs [] are fraction ends =
     ap is_pointed (cut_with is_point ds 46 (fs ++ []) (no_point ds are) refl) ∙ all_of (is_numeral 10 (fs ++ [])) ds are
     ∙ ap (is_numeral 10) (append-nil fs) ∙ (rw fraction refl)
@@ -103,20 +103,20 @@ far_fraction ds fs c (Some parts) are e =
     ∙ and_left _ _ (and_right (are_digits 10 ds) _ (not_all fs c parts.0 e)))
 
 behind_fraction : (ds fs : List ℕ) (c : ℕ) (cs : List ℕ) (b : Bool) → are_digits 10 ds ≡ true → are_digits 10 fs ≡ true → is_digit_in 10 c ≡ false → is_exponent_marker c ≡ b
-    → is_scaled (option_map (onto_front ds 46) (cut is_exponent_marker (fs ++ c ∷ cs))) ≡ (not (is_empty ds && is_empty fs) && (b && is_numeral 10 (without_sign cs)))
+    → is_scaled (option_map (onto_front ds 46) (cut_at_first is_exponent_marker (fs ++ c ∷ cs))) ≡ (not (is_empty ds && is_empty fs) && (b && is_numeral 10 (without_sign cs)))
 behind_fraction ds fs c cs true are fraction e marker =
     ap (λ o. is_scaled (option_map (onto_front ds 46) o)) (cut_with is_exponent_marker fs c cs (no_marker fs fraction) marker)
     ∙ ap (λ o. is_mantissa (ds ++ 46 ∷ fs) o && is_numeral 10 (without_sign cs)) (cut_with is_point ds 46 fs (no_point ds are) refl)
     ∙ (rw (are, fraction) refl)
 behind_fraction ds fs c cs false are fraction e marker =
     ap (λ o. is_scaled (option_map (onto_front ds 46) o)) (cut_past is_exponent_marker fs c cs (no_marker fs fraction) marker)
-    ∙ far_fraction ds fs c (cut is_exponent_marker cs) are e ∙ sym (and_right (not (is_empty ds && is_empty fs)) false refl)
+    ∙ far_fraction ds fs c (cut_at_first is_exponent_marker cs) are e ∙ sym (and_right (not (is_empty ds && is_empty fs)) false refl)
 
 scaled_behind : (ds fs rest : List ℕ) → are_digits 10 ds ≡ true → are_digits 10 fs ≡ true → begins_with_digit 10 rest ≡ false
-    → is_scaled (cut is_exponent_marker (ds ++ 46 ∷ (fs ++ rest))) ≡ (not (is_empty ds && is_empty fs) && is_exponent rest)
+    → is_scaled (cut_at_first is_exponent_marker (ds ++ 46 ∷ (fs ++ rest))) ≡ (not (is_empty ds && is_empty fs) && is_exponent rest)
 scaled_behind ds fs [] are fraction ends =
     ap is_scaled (cut_past is_exponent_marker ds 46 (fs ++ []) (no_marker ds are) refl)
-    ∙ ap (λ (xs : List ℕ). is_scaled (option_map (onto_front ds 46) (cut is_exponent_marker xs))) (append-nil fs)
+    ∙ ap (λ (xs : List ℕ). is_scaled (option_map (onto_front ds 46) (cut_at_first is_exponent_marker xs))) (append-nil fs)
     ∙ ap (λ o. is_scaled (option_map (onto_front ds 46) o)) (cut_without is_exponent_marker fs (no_marker fs fraction))
     ∙ sym (and_right (not (is_empty ds && is_empty fs)) false refl)
 scaled_behind ds fs (c ∷ rest) are fraction ends =
@@ -128,7 +128,7 @@ pub pointed_float : (ds fs rest : List ℕ) → are_digits 10 ds ≡ true → ar
 pointed_float ds fs rest are fraction ends = λ i. pointed_at ds fs rest are fraction ends i || scaled_behind ds fs rest are fraction ends i
 
 pub pointed_decimal : (negative : Bool) (ds after : List ℕ) → are_digits 10 ds ≡ true
-    → decimal_form negative (cut is_point (ds ++ 46 ∷ after)) ≡ (if not (is_empty ds) && is_empty after then Some (integer_of negative (value 10 ds)) else None)
+    → decimal_form negative (cut_at_first is_point (ds ++ 46 ∷ after)) ≡ (if not (is_empty ds) && is_empty after then Some (integer_of negative (value 10 ds)) else None)
 pointed_decimal negative ds after are =
     ap (decimal_form negative) (cut_with is_point ds 46 after (no_point ds are) refl) ∙ (rw are (some ds))
   where
@@ -139,15 +139,15 @@ pointed_decimal negative ds after are =
 
 -- ---- the cases of a text that begins with decimal digits
 
-by_decimal : (negative : Bool) (text : List ℕ) (given : Result Object MeaningRefusal) → decimal_form negative (cut is_point text) ≡ Some given
+by_decimal : (negative : Bool) (text : List ℕ) (given : Result Object MeaningRefusal) → decimal_form negative (cut_at_first is_point text) ≡ Some given
     → decimal_or_float_form negative text ≡ Some given
 by_decimal negative text given e = rw e refl
 
-by_float : (negative : Bool) (text : List ℕ) → decimal_form negative (cut is_point text) ≡ None → is_float text ≡ true
+by_float : (negative : Bool) (text : List ℕ) → decimal_form negative (cut_at_first is_point text) ≡ None → is_float text ≡ true
     → decimal_or_float_form negative text ≡ Some (Err FloatToken)
 by_float negative text e f = rw (e, f) refl
 
-by_neither : (negative : Bool) (text : List ℕ) → decimal_form negative (cut is_point text) ≡ None → is_float text ≡ false
+by_neither : (negative : Bool) (text : List ℕ) → decimal_form negative (cut_at_first is_point text) ≡ None → is_float text ≡ false
     → decimal_or_float_form negative text ≡ None
 by_neither negative text e f = rw (e, f) refl
 
@@ -160,10 +160,10 @@ apart (c ∷ rest) ends none = (ends, by (c == 46) refl none)
     by false e none = e
 
 unpointed : (negative : Bool) (text rest : List ℕ) (some : Bool) (size : Option ℕ) (b : Bool) → IsLeading 10 text some size rest → after_code 46 rest ≡ None
-    → (some && is_exponent rest) ≡ b → (decimal_form negative (cut is_point text) ≡ None) × (is_float text ≡ b)
+    → (some && is_exponent rest) ≡ b → (decimal_form negative (cut_at_first is_point text) ≡ None) × (is_float text ≡ b)
 unpointed negative text rest some size b h none e =
     let there = apart rest h.ends none in (
-      ap (λ (xs : List ℕ). decimal_form negative (cut is_point xs)) h.leads.split ∙ unpointed_decimal negative h.leads.digits rest h.leads.are there,
+      ap (λ (xs : List ℕ). decimal_form negative (cut_at_first is_point xs)) h.leads.split ∙ unpointed_decimal negative h.leads.digits rest h.leads.are there,
       ap is_float h.leads.split ∙ unpointed_float h.leads.digits rest h.leads.are there ∙ (λ i. sym h.leads.there i && is_exponent rest) ∙ e,
     )
 
@@ -177,7 +177,7 @@ no_exponent negative text rest some size h none e = let both = unpointed negativ
 
 -- the two tests, where the digits before and after the point are known
 record Point (negative : Bool) (text rest : List ℕ) (whole fraction : Bool) (size : ℕ) : Type 0 where
-  decimal : decimal_form negative (cut is_point text) ≡ (if whole && (not fraction && is_empty rest) then Some (integer_of negative size) else None)
+  decimal : decimal_form negative (cut_at_first is_point text) ≡ (if whole && (not fraction && is_empty rest) then Some (integer_of negative size) else None)
   float : is_float text ≡ ((fraction && is_empty rest) || ((whole || fraction) && is_exponent rest))
 
 or_of : (xs ys : List ℕ) → not (is_empty xs && is_empty ys) ≡ (not (is_empty xs) || not (is_empty ys))
@@ -194,7 +194,7 @@ point negative text after rest whole fraction size part h g =
     let ds = h.leads.digits in
     let fs = g.leads.digits in
     record {
-      decimal = ap (λ (xs : List ℕ). decimal_form negative (cut is_point xs)) h.leads.split ∙ pointed_decimal negative ds after h.leads.are
+      decimal = ap (λ (xs : List ℕ). decimal_form negative (cut_at_first is_point xs)) h.leads.split ∙ pointed_decimal negative ds after h.leads.are
           ∙ (λ i. if sym h.leads.there i && is_empty (g.leads.split i) then Some (integer_of negative (value 10 ds)) else None)
           ∙ (λ i. if whole && empty_of fs rest i then Some (integer_of negative (value 10 ds)) else None)
           ∙ (λ i. if whole && (not (sym g.leads.there i) && is_empty rest) then Some (integer_of negative (value 10 ds)) else None);
@@ -220,7 +220,7 @@ point_alone negative text after size part h g = let p = point negative text afte
 
 more_after : (negative : Bool) (text after rest : List ℕ) (whole fraction b : Bool) (size part : Option ℕ) → IsLeading 10 text whole size (46 ∷ after)
     → IsLeading 10 after fraction part rest → is_empty rest ≡ false → ((whole || fraction) && is_exponent rest) ≡ b
-    → (decimal_form negative (cut is_point text) ≡ None) × (is_float text ≡ b)
+    → (decimal_form negative (cut_at_first is_point text) ≡ None) × (is_float text ≡ b)
 more_after negative text after rest whole fraction b size part h g more e =
     let p = point negative text after rest whole fraction size part h g in
     (p.decimal ∙ (rw (more, and_right (not fraction) false refl, and_right whole false refl) refl), p.float ∙ (rw (more, and_right fraction false refl) e))

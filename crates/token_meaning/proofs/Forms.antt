@@ -6,9 +6,9 @@ use Rattle.std.proofs.lemmas.Bool.{eqb-true, and_parts, or_cases}
 use Rattle.lisp_object.specs.Object.{Object}
 use Rattle.token_meaning.specs.declared.refusal.MeaningRefusal.{MeaningRefusal}
 use Rattle.token_meaning.specs.declared.refusal.MeaningRefusal.TheVariants.{FloatToken}
-use Rattle.token_meaning.specs.Numerals.{is_empty, is_numeral, are_digits, value, without_sign, is_negative, cut}
-use Rattle.token_meaning.specs.Numbers.{is_point, is_slash, is_exponent_marker, integer_of, ratio_of, decimal_form, ratio_form, is_pointed, is_mantissa, is_scaled, is_float, number_of, rational_number}
-use Rattle.token_meaning.specs.Grammar.{spelled, IsDigits, IsDecimal, IsRatio, IsExponent, IsFloat, IsRational, IsNumber}
+use Rattle.token_meaning.specs.Numerals.{is_empty, is_numeral, are_digits, value, without_sign, is_negative, cut_at_first}
+use Rattle.token_meaning.specs.Numbers.{is_point, is_slash, is_exponent_marker, integer_of, ratio_of, decimal_form, ratio_form, is_pointed, is_mantissa, is_scaled, is_float, number_in_base, rational_number}
+use Rattle.token_meaning.specs.Grammar.{spelled, IsDigits, IsDecimal, IsRatio, IsExponent, IsFloat, IsRational, GivesNumber}
 use Rattle.token_meaning.proofs.Parts.{IsCut, CutAt, cut_parts}
 use Rattle.token_meaning.proofs.Signs.{has_sign}
 
@@ -139,12 +139,12 @@ mantissa_is text mantissa exponent (Some parts) at joined scale e =
 pub scaled_is : (text : List ℕ) (o : Option (List ℕ × List ℕ)) → CutAt is_exponent_marker (without_sign text) o → is_scaled o ≡ true → IsFloat text
 scaled_is text None at e = absurd cc
 scaled_is text (Some parts) at e =
-    let both = and_parts (is_mantissa parts.0 (cut is_point parts.0)) (is_numeral 10 (without_sign parts.1)) e in
-    mantissa_is text parts.0 (at.mark ∷ parts.1) (cut is_point parts.0) (cut_parts is_point parts.0) at.joined (exponent_is at.mark parts.1 at.passes both.1) both.0
+    let both = and_parts (is_mantissa parts.0 (cut_at_first is_point parts.0)) (is_numeral 10 (without_sign parts.1)) e in
+    mantissa_is text parts.0 (at.mark ∷ parts.1) (cut_at_first is_point parts.0) (cut_parts is_point parts.0) at.joined (exponent_is at.mark parts.1 at.passes both.1) both.0
 
 float_is : (text : List ℕ) → is_float (without_sign text) ≡ true → IsFloat text
 float_is text e =
-    elim (or_cases (is_pointed (cut is_point (without_sign text))) (is_scaled (cut is_exponent_marker (without_sign text))) e) [
+    elim (or_cases (is_pointed (cut_at_first is_point (without_sign text))) (is_scaled (cut_at_first is_exponent_marker (without_sign text))) e) [
       | inl f ↦ pointed_is text _ (cut_parts is_point (without_sign text)) f
       | inr f ↦ scaled_is text _ (cut_parts is_exponent_marker (without_sign text)) f
     ]
@@ -152,40 +152,40 @@ float_is text e =
 -- ---- numbers
 
 Found : ℕ → List ℕ → Option (Result Object MeaningRefusal) → Type 0
-Found base text o = IfSome o (IsNumber base text)
+Found base text o = IfSome o (GivesNumber base text)
 
-first_found : (base : ℕ) (text : List ℕ) (o p : Option (Result Object MeaningRefusal)) → IfSome o (IsNumber base text) → IfSome p (IsNumber base text) → IfSome (option_or o p) (IsNumber base text)
+first_found : (base : ℕ) (text : List ℕ) (o p : Option (Result Object MeaningRefusal)) → IfSome o (GivesNumber base text) → IfSome p (GivesNumber base text) → IfSome (option_or o p) (GivesNumber base text)
 first_found base text None p f g = g
 first_found base text (Some given) p f g = f
 
 integer_found : (base : ℕ) (text : List ℕ) (b : Bool) → is_numeral base (without_sign text) ≡ b
-    → IfSome (if b then Some (integer_of (is_negative text) (value base (without_sign text))) else None) (IsNumber base text)
+    → IfSome (if b then Some (integer_of (is_negative text) (value base (without_sign text))) else None) (GivesNumber base text)
 integer_found base text true e = inl (is_negative text, value base (without_sign text), inl (digits_form base text e), refl)
 integer_found base text false e = tt
 
 decimal_cases : (base : ℕ) (text : List ℕ) (parts : List ℕ × List ℕ) → IsCut is_point (without_sign text) parts → (b : Bool) → (is_numeral 10 parts.0 && is_empty parts.1) ≡ b
-    → IfSome (if b then Some (integer_of (is_negative text) (value 10 parts.0)) else None) (IsNumber base text)
+    → IfSome (if b then Some (integer_of (is_negative text) (value 10 parts.0)) else None) (GivesNumber base text)
 decimal_cases base text parts at true e = inl (is_negative text, value 10 parts.0, inr (decimal_is text parts at e), refl)
 decimal_cases base text parts at false e = tt
 
-decimal_found : (base : ℕ) (text : List ℕ) (o : Option (List ℕ × List ℕ)) → CutAt is_point (without_sign text) o → IfSome (decimal_form (is_negative text) o) (IsNumber base text)
+decimal_found : (base : ℕ) (text : List ℕ) (o : Option (List ℕ × List ℕ)) → CutAt is_point (without_sign text) o → IfSome (decimal_form (is_negative text) o) (GivesNumber base text)
 decimal_found base text None at = tt
 decimal_found base text (Some parts) at = decimal_cases base text parts at (is_numeral 10 parts.0 && is_empty parts.1) refl
 
 ratio_cases : (base : ℕ) (text : List ℕ) (parts : List ℕ × List ℕ) → IsCut is_slash (without_sign text) parts → (b : Bool) → (is_numeral base parts.0 && is_numeral base parts.1) ≡ b
-    → IfSome (if b then Some (ratio_of (is_negative text) (value base parts.0) (value base parts.1)) else None) (IsNumber base text)
+    → IfSome (if b then Some (ratio_of (is_negative text) (value base parts.0) (value base parts.1)) else None) (GivesNumber base text)
 ratio_cases base text parts at true e = inr (inl (is_negative text, value base parts.0, value base parts.1, ratio_is base text parts at e, refl))
 ratio_cases base text parts at false e = tt
 
-ratio_found : (base : ℕ) (text : List ℕ) (o : Option (List ℕ × List ℕ)) → CutAt is_slash (without_sign text) o → IfSome (ratio_form base (is_negative text) o) (IsNumber base text)
+ratio_found : (base : ℕ) (text : List ℕ) (o : Option (List ℕ × List ℕ)) → CutAt is_slash (without_sign text) o → IfSome (ratio_form base (is_negative text) o) (GivesNumber base text)
 ratio_found base text None at = tt
 ratio_found base text (Some parts) at = ratio_cases base text parts at (is_numeral base parts.0 && is_numeral base parts.1) refl
 
-float_cases : (base : ℕ) (text : List ℕ) (b : Bool) → is_float (without_sign text) ≡ b → IfSome (if b then Some (Err FloatToken) else None) (IsNumber base text)
+float_cases : (base : ℕ) (text : List ℕ) (b : Bool) → is_float (without_sign text) ≡ b → IfSome (if b then Some (Err FloatToken) else None) (GivesNumber base text)
 float_cases base text true e = inr (inr (float_is text e, refl))
 float_cases base text false e = tt
 
-pub found : (base : ℕ) (text : List ℕ) → IfSome (number_of base text) (IsNumber base text)
+pub found : (base : ℕ) (text : List ℕ) → IfSome (number_in_base base text) (GivesNumber base text)
 found base text =
     let body = without_sign text in
     first_found base text _ _

@@ -4,8 +4,8 @@ use Rattle.std.proofs.lemmas.Bool.{and_parts, or_left, both_ways}
 use Rattle.lisp_object.specs.Object.{Object}
 use Rattle.token_meaning.specs.declared.refusal.MeaningRefusal.{MeaningRefusal}
 use Rattle.token_meaning.specs.Numerals.{is_digit_in, is_sign, is_numeral, are_digits}
-use Rattle.token_meaning.specs.Numbers.{is_point, number_of}
-use Rattle.token_meaning.specs.Grammar.{Sign, absent, plus, minus, spelled, IsNumber}
+use Rattle.token_meaning.specs.Numbers.{is_point, number_in_base}
+use Rattle.token_meaning.specs.Grammar.{Sign, absent, plus, minus, spelled, GivesNumber}
 use Rattle.token_meaning.proofs.Forms.{found}
 
 abbrev pub begins_number : ℕ → Bool
@@ -32,16 +32,16 @@ point_begins : (ds more : List ℕ) → are_digits 10 ds ≡ true → begins (ds
 point_begins [] more e = refl
 point_begins (d ∷ ds) more e = or_left (is_digit_in 10 d) _ (and_parts (is_digit_in 10 d) (are_digits 10 ds) e).0
 
-number_begins : (text : List ℕ) (given : Result Object MeaningRefusal) → IsNumber 10 text given → begins text ≡ true
+number_begins : (text : List ℕ) (given : Result Object MeaningRefusal) → GivesNumber 10 text given → begins text ≡ true
 number_begins text given (inl (negative, size, inl h, is)) = ap begins h.parts ∙ signed_begins h.sign h.digits (bare_numeral_begins h.digits h.numeral)
 number_begins text given (inl (negative, size, inr h, is)) = ap begins h.parts ∙ signed_begins h.sign _ (numeral_begins h.digits _ h.numeral)
 number_begins text given (inr (inl (negative, numerator, denominator, h, is))) = ap begins h.parts ∙ signed_begins h.sign _ (numeral_begins h.above _ h.numeral_above)
 number_begins text given (inr (inr (inl h, is))) = ap begins h.parts ∙ signed_begins h.sign _ (point_begins h.whole _ h.digits)
 number_begins text given (inr (inr (inr h, is))) = ap begins h.parts ∙ signed_begins h.sign _ (numeral_begins h.whole _ h.numeral)
 
-pub no_number : (text : List ℕ) → begins text ≡ false → number_of 10 text ≡ None
+pub no_number : (text : List ℕ) → begins text ≡ false → number_in_base 10 text ≡ None
 no_number text e =
-    elim (number_of 10 text) as (λ o. IfSome o (IsNumber 10 text) → o ≡ None) [
+    elim (number_in_base 10 text) as (λ o. IfSome o (GivesNumber 10 text) → o ≡ None) [
       | None ↦ λ _. refl
       | Some given ↦ λ is. absurd (both_ways (begins text) e (number_begins text given is))
     ] (found 10 text)

@@ -3,20 +3,20 @@ use Rattle.std.proofs.Common.{◌≡◌, Bool, true, false, ◌||◌, List, [], 
 use Rattle.std.specs.Prelude.{if◌then◌else◌}
 use Rattle.std.specs.List.{list_any}
 use Rattle.std.specs.Option.{option_map}
-use Rattle.token_meaning.specs.Numerals.{cut, with_first}
+use Rattle.token_meaning.specs.Numerals.{cut_at_first, with_first}
 
-pub cut_with : {X : Type 0} (p : X → Bool) (xs : List X) (y : X) (ys : List X) → list_any p xs ≡ false → p y ≡ true → cut p (xs ++ y ∷ ys) ≡ Some (xs, ys)
+pub cut_with : {X : Type 0} (p : X → Bool) (xs : List X) (y : X) (ys : List X) → list_any p xs ≡ false → p y ≡ true → cut_at_first p (xs ++ y ∷ ys) ≡ Some (xs, ys)
 cut_with p [] y ys before here = rw here refl
 cut_with p (x ∷ xs) y ys before here =
     elim (p x)
-    as (λ b. (b || list_any p xs) ≡ false → (if b then Some ([], xs ++ y ∷ ys) else option_map (with_first x) (cut p (xs ++ y ∷ ys))) ≡ Some (x ∷ xs, ys))
+    as (λ b. (b || list_any p xs) ≡ false → (if b then Some ([], xs ++ y ∷ ys) else option_map (with_first x) (cut_at_first p (xs ++ y ∷ ys))) ≡ Some (x ∷ xs, ys))
     [ true ↦ λ e. absurd cc | false ↦ λ e. rw (cut_with p xs y ys e here) refl ] before
 
-pub cut_without : {X : Type 0} (p : X → Bool) (xs : List X) → list_any p xs ≡ false → cut p xs ≡ None
+pub cut_without : {X : Type 0} (p : X → Bool) (xs : List X) → list_any p xs ≡ false → cut_at_first p xs ≡ None
 cut_without p [] e = refl
 cut_without p (x ∷ xs) e =
     elim (p x)
-    as (λ b. (b || list_any p xs) ≡ false → (if b then Some ([], xs) else option_map (with_first x) (cut p xs)) ≡ None)
+    as (λ b. (b || list_any p xs) ≡ false → (if b then Some ([], xs) else option_map (with_first x) (cut_at_first p xs)) ≡ None)
     [ true ↦ λ f. absurd cc | false ↦ λ f. rw (cut_without p xs f) refl ] e
 
 -- an element that does not pass stays in front
@@ -29,12 +29,12 @@ longer_front x xs y None = refl
 longer_front x xs y (Some parts) = refl
 
 pub cut_past : {X : Type 0} (p : X → Bool) (xs : List X) (y : X) (ys : List X) → list_any p xs ≡ false → p y ≡ false
-    → cut p (xs ++ y ∷ ys) ≡ option_map (onto_front xs y) (cut p ys)
+    → cut_at_first p (xs ++ y ∷ ys) ≡ option_map (onto_front xs y) (cut_at_first p ys)
 cut_past p [] y ys before here = rw here refl
 cut_past p (x ∷ xs) y ys before here =
     elim (p x)
-    as (λ b. (b || list_any p xs) ≡ false → (if b then Some ([], xs ++ y ∷ ys) else option_map (with_first x) (cut p (xs ++ y ∷ ys))) ≡ option_map (onto_front (x ∷ xs) y) (cut p ys))
-    [ true ↦ λ e. absurd cc | false ↦ λ e. ap (option_map (with_first x)) (cut_past p xs y ys e here) ∙ longer_front x xs y (cut p ys) ] before
+    as (λ b. (b || list_any p xs) ≡ false → (if b then Some ([], xs ++ y ∷ ys) else option_map (with_first x) (cut_at_first p (xs ++ y ∷ ys))) ≡ option_map (onto_front (x ∷ xs) y) (cut_at_first p ys))
+    [ true ↦ λ e. absurd cc | false ↦ λ e. ap (option_map (with_first x)) (cut_past p xs y ys e here) ∙ longer_front x xs y (cut_at_first p ys) ] before
 
 -- the element between both parts
 pub record IsCut {X : Type 0} (p : X → Bool) (whole : List X) (parts : List X × List X) : Type 0 where
@@ -50,11 +50,11 @@ longer : {X : Type 0} (p : X → Bool) (x : X) (xs : List X) (o : Option (List X
 longer p x xs None at = tt
 longer p x xs (Some parts) at = record { mark = at.mark; passes = at.passes; joined = ap (λ zs. x ∷ zs) at.joined }
 
-at_front : {X : Type 0} (p : X → Bool) (x : X) (xs : List X) (b : Bool) → p x ≡ b → CutAt p xs (cut p xs)
-    → CutAt p (x ∷ xs) (if b then Some ([], xs) else option_map (with_first x) (cut p xs))
+at_front : {X : Type 0} (p : X → Bool) (x : X) (xs : List X) (b : Bool) → p x ≡ b → CutAt p xs (cut_at_first p xs)
+    → CutAt p (x ∷ xs) (if b then Some ([], xs) else option_map (with_first x) (cut_at_first p xs))
 at_front p x xs true e at = record { mark = x; passes = e; joined = refl }
-at_front p x xs false e at = longer p x xs (cut p xs) at
+at_front p x xs false e at = longer p x xs (cut_at_first p xs) at
 
-pub cut_parts : {X : Type 0} (p : X → Bool) (xs : List X) → CutAt p xs (cut p xs)
+pub cut_parts : {X : Type 0} (p : X → Bool) (xs : List X) → CutAt p xs (cut_at_first p xs)
 cut_parts p [] = tt
 cut_parts p (x ∷ xs) = at_front p x xs (p x) refl (cut_parts p xs)

@@ -5,7 +5,7 @@ use Rattle.std.specs.List.{list_any, slice_split, onto_first}
 use Rattle.token_scan.specs.declared.mark.Mark.{Mark}
 use Rattle.token_meaning.specs.declared.refusal.MeaningRefusal.TheVariants.{PackageMarkers}
 use Rattle.token_meaning.specs.declared.token.TokenName.TheVariants.{Unqualified, Keyword, External, Internal}
-use Rattle.token_meaning.specs.Numerals.{is_empty, cut, with_first}
+use Rattle.token_meaning.specs.Numerals.{is_empty, cut_at_first, with_first}
 use Rattle.token_scan.specs.Marks.{characters}
 use Rattle.token_meaning.specs.Meanings.{name, is_package_marker, pattern, name_of}
 use Rattle.token_meaning.specs.Results.{begins_with_marker, is_one_part}
@@ -126,14 +126,14 @@ behind_none : (m : Mark) (o : Option (List Mark × List Mark)) → option_map (w
 behind_none m None e = refl
 behind_none m (Some parts) e = absurd cc
 
-none_marked : (marks : List Mark) → cut is_package_marker marks ≡ None → list_any is_package_marker marks ≡ false
+none_marked : (marks : List Mark) → cut_at_first is_package_marker marks ≡ None → list_any is_package_marker marks ≡ false
 none_marked [] e = refl
 none_marked (m ∷ ms) e =
     elim (is_package_marker m)
-    as (λ b. (if b then Some ([], ms) else option_map (with_first m) (cut is_package_marker ms)) ≡ None → (b || list_any is_package_marker ms) ≡ false)
+    as (λ b. (if b then Some ([], ms) else option_map (with_first m) (cut_at_first is_package_marker ms)) ≡ None → (b || list_any is_package_marker ms) ≡ false)
     [ true ↦ λ f. absurd cc | false ↦ λ f. none_marked ms (behind_none m _ f) ] e
 
-pub unmarked : (marks : List Mark) → cut is_package_marker marks ≡ None → name_of marks ≡ Ok (name (Unqualified (characters marks)))
+pub unmarked : (marks : List Mark) → cut_at_first is_package_marker marks ≡ None → name_of marks ≡ Ok (name (Unqualified (characters marks)))
 unmarked marks e = rw (whole_part marks (none_marked marks e)) refl
 
 -- the parts of a token are what is before the first package marker and the parts after it
@@ -145,12 +145,12 @@ more_parts : (m : Mark) (ps : List (List Mark)) (o : Option (List Mark × List M
 more_parts m ps None h = tt
 more_parts m ps (Some pair) h = rw h refl
 
-cut_parts : (marks : List Mark) → CutParts (parts marks) (cut is_package_marker marks)
+cut_parts : (marks : List Mark) → CutParts (parts marks) (cut_at_first is_package_marker marks)
 cut_parts [] = tt
 cut_parts (m ∷ ms) =
     elim (is_package_marker m)
-    as (λ b. CutParts (if b then [] ∷ parts ms else onto_first m (parts ms)) (if b then Some ([], ms) else option_map (with_first m) (cut is_package_marker ms)))
-    [ true ↦ refl | false ↦ more_parts m (parts ms) (cut is_package_marker ms) (cut_parts ms) ]
+    as (λ b. CutParts (if b then [] ∷ parts ms else onto_first m (parts ms)) (if b then Some ([], ms) else option_map (with_first m) (cut_at_first is_package_marker ms)))
+    [ true ↦ refl | false ↦ more_parts m (parts ms) (cut_at_first is_package_marker ms) (cut_parts ms) ]
 
-pub marked : (marks prefix rest : List Mark) → cut is_package_marker marks ≡ Some (prefix, rest) → parts marks ≡ prefix ∷ parts rest
+pub marked : (marks prefix rest : List Mark) → cut_at_first is_package_marker marks ≡ Some (prefix, rest) → parts marks ≡ prefix ∷ parts rest
 marked marks prefix rest e = subst (λ o. CutParts (parts marks) o) e (cut_parts marks)

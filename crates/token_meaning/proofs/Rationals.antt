@@ -6,7 +6,7 @@ use Rattle.std.specs.Option.{option_map, option_or}
 use Rattle.std.proofs.lemmas.Bool.{and_from, and_left, and_right, eqb-true}
 use Rattle.lisp_object.specs.Object.{Object}
 use Rattle.token_meaning.specs.declared.refusal.MeaningRefusal.{MeaningRefusal}
-use Rattle.token_meaning.specs.Numerals.{is_digit_in, is_empty, are_digits, is_numeral, value, cut}
+use Rattle.token_meaning.specs.Numerals.{is_digit_in, is_empty, are_digits, is_numeral, value, cut_at_first}
 use Rattle.token_meaning.specs.Numbers.{is_slash, integer_of, ratio_of, integer_form, ratio_form, rational_form}
 use Rattle.token_meaning.specs.Leading.{IsLeading, after_code}
 use Rattle.token_meaning.proofs.Parts.{cut_with, cut_without, cut_past, onto_front}
@@ -40,9 +40,9 @@ far_slash base negative ds c (Some parts) e =
     (and_left _ _ (mixed base ds c parts.0 e))
 
 no_ratio : (base : ℕ) (negative : Bool) (ds : List ℕ) (c : ℕ) (cs : List ℕ) → base ≤ 36 → are_digits base ds ≡ true → is_digit_in base c ≡ false
-    → (b : Bool) → is_slash c ≡ b → (b && not (is_empty ds)) ≡ false → ratio_form base negative (cut is_slash (ds ++ c ∷ cs)) ≡ None
+    → (b : Bool) → is_slash c ≡ b → (b && not (is_empty ds)) ≡ false → ratio_form base negative (cut_at_first is_slash (ds ++ c ∷ cs)) ≡ None
 no_ratio base negative ds c cs top are e false slash none =
-    ap (ratio_form base negative) (cut_past is_slash ds c cs (no_slash base ds top are) slash) ∙ far_slash base negative ds c (cut is_slash cs) e
+    ap (ratio_form base negative) (cut_past is_slash ds c cs (no_slash base ds top are) slash) ∙ far_slash base negative ds c (cut_at_first is_slash cs) e
 no_ratio base negative ds c cs top are e true slash none =
     ap (ratio_form base negative) (cut_with is_slash ds c cs (no_slash base ds top are) slash)
     ∙ passed_over (is_numeral base ds && is_numeral base cs) (ratio_of negative (value base ds) (value base cs)) (and_left _ _ (and_left _ _ none))

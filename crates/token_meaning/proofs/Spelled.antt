@@ -8,8 +8,8 @@ use Rattle.std.proofs.lemmas.List.Folds.{list_any-append}
 use Rattle.lisp_object.specs.Object.{Object}
 use Rattle.token_meaning.specs.declared.refusal.MeaningRefusal.{MeaningRefusal}
 use Rattle.token_meaning.specs.declared.refusal.MeaningRefusal.TheVariants.{FloatToken}
-use Rattle.token_meaning.specs.Numerals.{is_empty, is_numeral, are_digits, value, without_sign, is_negative, cut}
-use Rattle.token_meaning.specs.Numbers.{is_point, is_slash, is_exponent_marker, integer_of, ratio_of, decimal_form, ratio_form, is_pointed, is_mantissa, is_scaled, is_float, rational_form, unsigned_number, number_of, rational_number}
+use Rattle.token_meaning.specs.Numerals.{is_empty, is_numeral, are_digits, value, without_sign, is_negative, cut_at_first}
+use Rattle.token_meaning.specs.Numbers.{is_point, is_slash, is_exponent_marker, integer_of, ratio_of, decimal_form, ratio_form, is_pointed, is_mantissa, is_scaled, is_float, rational_form, unsigned_number, number_in_base, rational_number}
 use Rattle.token_meaning.specs.Grammar.{Sign, absent, plus, minus, spelled, is_minus, IsDigits, IsDecimal, IsInteger, IsRatio, IsExponent, IsPointed, IsScaled, IsFloat}
 use Rattle.token_meaning.proofs.Parts.{cut_with, cut_without, CutAt, cut_parts}
 use Rattle.token_meaning.proofs.Signs.{is_signed, behind_sign}
@@ -19,7 +19,7 @@ use Rattle.token_meaning.proofs.Forms.{digits_form, decimal_is}
 -- ---- the forms in turn
 
 at_body : (base : ℕ) (text : List ℕ) (sign : Sign) (body : List ℕ) (negative : Bool) → text ≡ spelled sign ++ body → is_signed body ≡ false → negative ≡ is_minus sign
-    → number_of base text ≡ unsigned_number base negative body
+    → number_in_base base text ≡ unsigned_number base negative body
 at_body base text sign body negative parts first below =
     let both = behind_sign sign body first in
     let minus_there : is_negative text ≡ negative = ap is_negative parts ∙ both.1 ∙ sym below in
@@ -51,7 +51,7 @@ by_second o p given e f = rw (e, f) refl
 
 -- ---- integers
 
-pub digits_given : (base : ℕ) (text : List ℕ) (negative : Bool) (size : ℕ) → base ≤ 36 → IsDigits base text negative size → number_of base text ≡ Some (integer_of negative size)
+pub digits_given : (base : ℕ) (text : List ℕ) (negative : Bool) (size : ℕ) → base ≤ 36 → IsDigits base text negative size → number_in_base base text ≡ Some (integer_of negative size)
 digits_given base text negative size top h =
     let unsigned : is_signed h.digits ≡ false = subst (λ (xs : List ℕ). is_signed xs ≡ false) (append-nil h.digits) (numeral_unsigned base h.digits [] top h.numeral) in
     at_body base text h.sign h.digits negative h.parts unsigned h.below_zero
@@ -71,11 +71,11 @@ no_marker ds e = none_among 10 is_exponent_marker marker_no_digit ds e
 none_in : (p : ℕ → Bool) (xs : List ℕ) (y : ℕ) (ys : List ℕ) → list_any p xs ≡ false → p y ≡ false → list_any p ys ≡ false → list_any p (xs ++ y ∷ ys) ≡ false
 none_in p xs y ys before here behind = list_any-append p xs (y ∷ ys) ∙ (rw (before, here, behind) refl)
 
-pub decimal_given : (base : ℕ) (text : List ℕ) (negative : Bool) (size : ℕ) → base ≤ 36 → IsDecimal text negative size → number_of base text ≡ Some (integer_of negative size)
+pub decimal_given : (base : ℕ) (text : List ℕ) (negative : Bool) (size : ℕ) → base ≤ 36 → IsDecimal text negative size → number_in_base base text ≡ Some (integer_of negative size)
 decimal_given base text negative size top h =
     let digits = numeral_digits 10 h.digits h.numeral in
-    let no_cut : cut is_slash (h.digits ++ 46 ∷ []) ≡ None = cut_without is_slash (h.digits ++ 46 ∷ []) (none_in is_slash h.digits 46 [] (no_slash 10 h.digits (lit≤ tt) digits) refl refl) in
-    let there : cut is_point (h.digits ++ 46 ∷ []) ≡ Some (h.digits, []) = cut_with is_point h.digits 46 [] (no_point 10 h.digits (lit≤ tt) digits) refl in
+    let no_cut : cut_at_first is_slash (h.digits ++ 46 ∷ []) ≡ None = cut_without is_slash (h.digits ++ 46 ∷ []) (none_in is_slash h.digits 46 [] (no_slash 10 h.digits (lit≤ tt) digits) refl refl) in
+    let there : cut_at_first is_point (h.digits ++ 46 ∷ []) ≡ Some (h.digits, []) = cut_with is_point h.digits 46 [] (no_point 10 h.digits (lit≤ tt) digits) refl in
     at_body base text h.sign (h.digits ++ 46 ∷ []) negative h.parts (digits_unsigned h.digits [] digits) h.below_zero
     ∙ by_second _ _ _ (both_none _ _ (passed_over (is_numeral base (h.digits ++ 46 ∷ [])) _ (mixed base h.digits 46 [] (point_no_digit base 46 top refl)))
     (ap (ratio_form base negative) no_cut))
@@ -85,11 +85,11 @@ decimal_given base text negative size top h =
 -- ---- ratios
 
 pub ratio_given : (base : ℕ) (text : List ℕ) (negative : Bool) (numerator denominator : ℕ) → base ≤ 36 → IsRatio base text negative numerator denominator
-    → number_of base text ≡ Some (ratio_of negative numerator denominator)
+    → number_in_base base text ≡ Some (ratio_of negative numerator denominator)
 ratio_given base text negative numerator denominator top h =
     let above = numeral_digits base h.above h.numeral_above in
     let below = numeral_digits base h.below h.numeral_below in
-    let there : cut is_slash (h.above ++ 47 ∷ h.below) ≡ Some (h.above, h.below) = cut_with is_slash h.above 47 h.below (no_slash base h.above top above) refl in
+    let there : cut_at_first is_slash (h.above ++ 47 ∷ h.below) ≡ Some (h.above, h.below) = cut_with is_slash h.above 47 h.below (no_slash base h.above top above) refl in
     at_body base text h.sign (h.above ++ 47 ∷ h.below) negative h.parts (numeral_unsigned base h.above (47 ∷ h.below) top h.numeral_above) h.below_zero
     ∙ by_first _ _ _ (by_second _ _ _ (passed_over (is_numeral base (h.above ++ 47 ∷ h.below)) _ (mixed base h.above 47 h.below (slash_no_digit base 47 top refl)))
     (ap (ratio_form base negative) there ∙ taken (is_numeral base h.above && is_numeral base h.below) _ (and_from _ _ h.numeral_above h.numeral_below)))
@@ -108,7 +108,7 @@ pub rational_of_ratio : (base : ℕ) (text : List ℕ) (negative : Bool) (numera
     → rational_number base text ≡ Some (ratio_of negative numerator denominator)
 rational_of_ratio base text negative numerator denominator top h =
     let above = numeral_digits base h.above h.numeral_above in
-    let there : cut is_slash (h.above ++ 47 ∷ h.below) ≡ Some (h.above, h.below) = cut_with is_slash h.above 47 h.below (no_slash base h.above top above) refl in
+    let there : cut_at_first is_slash (h.above ++ 47 ∷ h.below) ≡ Some (h.above, h.below) = cut_with is_slash h.above 47 h.below (no_slash base h.above top above) refl in
     rational_body base text h.sign (h.above ++ 47 ∷ h.below) negative h.parts (numeral_unsigned base h.above (47 ∷ h.below) top h.numeral_above) h.below_zero
     ∙ by_second _ _ _ (passed_over (is_numeral base (h.above ++ 47 ∷ h.below)) _ (mixed base h.above 47 h.below (slash_no_digit base 47 top refl)))
     (ap (ratio_form base negative) there ∙ taken (is_numeral base h.above && is_numeral base h.below) _ (and_from _ _ h.numeral_above h.numeral_below))
@@ -141,14 +141,14 @@ record IsFloating (body : List ℕ) : Type 0 where
   float : is_float body ≡ true
 
 float_body : (base : ℕ) (text : List ℕ) (sign : Sign) (body : List ℕ) → text ≡ spelled sign ++ body → NoInteger base text → IsFloating body
-    → number_of base text ≡ Some (Err FloatToken)
+    → number_in_base base text ≡ Some (Err FloatToken)
 float_body base text sign body parts none h =
     let there : without_sign text ≡ body = ap without_sign parts ∙ (behind_sign sign body h.first).0 in
     let slash : list_any is_slash (without_sign text) ≡ false = ap (list_any is_slash) there ∙ h.slash in
     let float : is_float (without_sign text) ≡ true = ap is_float there ∙ h.float in
     by_second _ _ _ (both_none _ _ (passed_over (is_numeral base (without_sign text)) _ (no_digits base text none))
     (ap (ratio_form base (is_negative text)) (cut_without is_slash (without_sign text) slash)))
-    (by_second _ _ _ (no_decimal base text (cut is_point (without_sign text)) none (cut_parts is_point (without_sign text)))
+    (by_second _ _ _ (no_decimal base text (cut_at_first is_point (without_sign text)) none (cut_parts is_point (without_sign text)))
     (taken (is_float (without_sign text)) _ float))
 
 or_left : (x y : Bool) → x ≡ true → (x || y) ≡ true
@@ -161,7 +161,7 @@ or_right false y e = e
 -- digits, a point and digits
 pointed_floating : (whole fraction : List ℕ) → are_digits 10 whole ≡ true → is_numeral 10 fraction ≡ true → IsFloating (whole ++ 46 ∷ fraction)
 pointed_floating whole fraction e f =
-    let there : cut is_point (whole ++ 46 ∷ fraction) ≡ Some (whole, fraction) = cut_with is_point whole 46 fraction (no_point 10 whole (lit≤ tt) e) refl in
+    let there : cut_at_first is_point (whole ++ 46 ∷ fraction) ≡ Some (whole, fraction) = cut_with is_point whole 46 fraction (no_point 10 whole (lit≤ tt) e) refl in
     record {
       first = digits_unsigned whole fraction e;
       slash = none_in is_slash whole 46 fraction (no_slash 10 whole (lit≤ tt) e) refl (no_slash 10 fraction (lit≤ tt) (numeral_digits 10 fraction f));
@@ -173,7 +173,7 @@ record IsMantissa (text : List ℕ) : Type 0 where
   first : (rest : List ℕ) → is_signed (text ++ rest) ≡ false
   slash : list_any is_slash text ≡ false
   marker : list_any is_exponent_marker text ≡ false
-  form : is_mantissa text (cut is_point text) ≡ true
+  form : is_mantissa text (cut_at_first is_point text) ≡ true
 
 whole_mantissa : (whole : List ℕ) → is_numeral 10 whole ≡ true → IsMantissa whole
 whole_mantissa whole e =
@@ -187,7 +187,7 @@ whole_mantissa whole e =
 
 cut_mantissa : (whole fraction : List ℕ) → are_digits 10 whole ≡ true → are_digits 10 fraction ≡ true → (is_empty whole && is_empty fraction) ≡ false → IsMantissa (whole ++ 46 ∷ fraction)
 cut_mantissa whole fraction e f some =
-    let there : cut is_point (whole ++ 46 ∷ fraction) ≡ Some (whole, fraction) = cut_with is_point whole 46 fraction (no_point 10 whole (lit≤ tt) e) refl in
+    let there : cut_at_first is_point (whole ++ 46 ∷ fraction) ≡ Some (whole, fraction) = cut_with is_point whole 46 fraction (no_point 10 whole (lit≤ tt) e) refl in
     let kept : not (is_empty whole && is_empty fraction) ≡ true = ap not some in
     record {
       first = λ rest. subst (λ (xs : List ℕ). is_signed xs ≡ false) (sym (append_assoc whole (46 ∷ fraction) rest)) (digits_unsigned whole (fraction ++ rest) e);
@@ -210,7 +210,7 @@ marked_floating : (mantissa : List ℕ) (marker : ℕ) (sign : Sign) (digits : L
     → IsFloating (mantissa ++ marker ∷ (spelled sign ++ digits))
 marked_floating mantissa marker sign digits h e f =
     let tail = spelled sign ++ digits in
-    let there : cut is_exponent_marker (mantissa ++ marker ∷ tail) ≡ Some (mantissa, tail) = cut_with is_exponent_marker mantissa marker tail h.marker e in
+    let there : cut_at_first is_exponent_marker (mantissa ++ marker ∷ tail) ≡ Some (mantissa, tail) = cut_with is_exponent_marker mantissa marker tail h.marker e in
     record {
       first = h.first (marker ∷ tail);
       slash = none_in is_slash mantissa marker tail h.slash (marker_no_slash marker e) (no_slash_signed sign digits (no_slash 10 digits (lit≤ tt) (numeral_digits 10 digits f)));
@@ -240,7 +240,7 @@ scaled_body text p =
           (cut_mantissa p.whole more.fraction (numeral_digits 10 p.whole p.numeral) more.digits (and_left _ (is_empty more.fraction) (numeral_some 10 p.whole p.numeral))) p.scale))
     ]
 
-pub float_given : (base : ℕ) (text : List ℕ) → IsFloat text → NoInteger base text → number_of base text ≡ Some (Err FloatToken)
+pub float_given : (base : ℕ) (text : List ℕ) → IsFloat text → NoInteger base text → number_in_base base text ≡ Some (Err FloatToken)
 float_given base text (inl p) none = float_body base text p.sign _ p.parts none (pointed_body text p)
 float_given base text (inr p) none = float_body base text p.sign _ p.parts none (scaled_body text p)
 

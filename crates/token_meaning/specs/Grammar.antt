@@ -1,5 +1,5 @@
 -- The syntax of numbers by its grammar (standard 2.3.1, 2.3.2): a text is a number of a form where it is the parts of that
--- form, one after the other. `number_of` gives what this grammar says (laws.rt).
+-- form, one after the other. `number_in_base` gives what this grammar says (laws.rt).
 use Rattle.std.specs.Prelude.{◌≡◌, ℕ, Bool, true, false, List, [], ◌∷◌, ◌++◌, ◌⊎◌, Result, Err}
 use Rattle.lisp_object.specs.Object.{Object}
 use Rattle.token_meaning.specs.declared.refusal.MeaningRefusal.{MeaningRefusal}
@@ -105,8 +105,8 @@ IsRational base text given =
     × (given ≡ ratio_of negative numerator denominator))
 
 -- what a number of each form gives
-abbrev pub IsNumber : ℕ → List ℕ → Result Object MeaningRefusal → Type 0
-IsNumber base text given =
+abbrev pub GivesNumber : ℕ → List ℕ → Result Object MeaningRefusal → Type 0
+GivesNumber base text given =
     ((negative : Bool) × (size : ℕ) × IsInteger base text negative size × (given ≡ integer_of negative size))
     ⊎ (((negative : Bool) × (numerator : ℕ) × (denominator : ℕ) × IsRatio base text negative numerator denominator
     × (given ≡ ratio_of negative numerator denominator))

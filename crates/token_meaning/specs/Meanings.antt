@@ -10,7 +10,7 @@ use Rattle.token_meaning.specs.declared.refusal.MeaningRefusal.{MeaningRefusal}
 use Rattle.token_meaning.specs.declared.refusal.MeaningRefusal.TheVariants.{DotsOnly, PackageMarkers}
 use Rattle.token_meaning.specs.declared.token.TokenName.{TokenName}
 use Rattle.token_meaning.specs.declared.token.TokenName.TheVariants.{Unqualified, Keyword, External, Internal}
-use Rattle.token_meaning.specs.Numbers.{is_point, number_of, rational_number}
+use Rattle.token_meaning.specs.Numbers.{is_point, number_in_base, rational_number}
 
 pub data Meaning : Type 0 where
   number : Object → Meaning
@@ -19,10 +19,10 @@ pub data Meaning : Type 0 where
 
 -- ---- marks
 
-abbrev pub is_plain : Mark → Bool
-is_plain (Plain c) = true
-is_plain (Quoted c) = false
-is_plain Bar = false
+abbrev pub is_unescaped : Mark → Bool
+is_unescaped (Plain c) = true
+is_unescaped (Quoted c) = false
+is_unescaped Bar = false
 
 -- a colon that was not escaped (standard 2.3.5)
 abbrev pub is_package_marker : Mark → Bool
@@ -62,11 +62,11 @@ number_or_name None marks = name_of marks
 -- The meaning of a token with these marks, their case folded, in a base from 2 to 36.
 abbrev pub meaning_of : ℕ → List Mark → Result Meaning MeaningRefusal
 meaning_of base marks =
-    if list_all is_plain marks
+    if list_all is_unescaped marks
     then (if list_all is_point (characters marks) then dots_of (characters marks)
-    else number_or_name (number_of base (characters marks)) marks)
+    else number_or_name (number_in_base base (characters marks)) marks)
     else name_of marks
 
 -- The marks of a token as an integer or a ratio of digits in the base, with no decimal point; None where they are none.
 abbrev pub rational_of : ℕ → List Mark → Option (Result Object MeaningRefusal)
-rational_of base marks = if list_all is_plain marks then rational_number base (characters marks) else None
+rational_of base marks = if list_all is_unescaped marks then rational_number base (characters marks) else None

@@ -7,7 +7,7 @@ use Rattle.lisp_object.specs.Object.{Object, integer}
 use Rattle.lisp_object.specs.Quotient.{quotient}
 use Rattle.token_meaning.specs.declared.refusal.MeaningRefusal.{MeaningRefusal}
 use Rattle.token_meaning.specs.declared.refusal.MeaningRefusal.TheVariants.{FloatToken, NumberRange, ZeroDenominator}
-use Rattle.token_meaning.specs.Numerals.{is_empty, is_numeral, are_digits, value, without_sign, is_negative, signed, is_in_range, cut}
+use Rattle.token_meaning.specs.Numerals.{is_empty, is_numeral, are_digits, value, without_sign, is_negative, signed, is_magnitude_in_range, cut_at_first}
 
 abbrev pub is_point : ℕ → Bool
 is_point c = c == 46
@@ -24,13 +24,13 @@ is_exponent_marker c = char_set_contains (codes "eEsSfFdDlL") c
 -- an integer, in the range of 128 bits with a sign
 abbrev pub integer_of : Bool → ℕ → Result Object MeaningRefusal
 integer_of negative size =
-    if is_in_range negative size then Ok (integer (signed negative size)) else Err NumberRange
+    if is_magnitude_in_range negative size then Ok (integer (signed negative size)) else Err NumberRange
 
 -- A quotient in lowest terms, which has no value where the denominator is zero. The parts have to be in range as they are
 -- written, but that is not asked where the denominator is zero.
 abbrev pub ratio_of : Bool → ℕ → ℕ → Result Object MeaningRefusal
 ratio_of negative numerator denominator =
-    if denominator == 0 || (is_in_range negative numerator && nat_lt denominator (2 ^ 128))
+    if denominator == 0 || (is_magnitude_in_range negative numerator && nat_lt denominator (2 ^ 128))
     then ok_or (quotient (signed negative numerator) denominator) ZeroDenominator
     else Err NumberRange
 
@@ -68,10 +68,10 @@ is_mantissa text (Some (whole, fraction)) =
 -- a float with an exponent, which may have a sign
 abbrev pub is_scaled : Option (List ℕ × List ℕ) → Bool
 is_scaled None = false
-is_scaled (Some (mantissa, exponent)) = is_mantissa mantissa (cut is_point mantissa) && is_numeral 10 (without_sign exponent)
+is_scaled (Some (mantissa, exponent)) = is_mantissa mantissa (cut_at_first is_point mantissa) && is_numeral 10 (without_sign exponent)
 
 abbrev pub is_float : List ℕ → Bool
-is_float text = is_pointed (cut is_point text) || is_scaled (cut is_exponent_marker text)
+is_float text = is_pointed (cut_at_first is_point text) || is_scaled (cut_at_first is_exponent_marker text)
 
 abbrev pub float_form : List ℕ → Option (Result Object MeaningRefusal)
 float_form text = if is_float text then Some (Err FloatToken) else None
@@ -80,11 +80,11 @@ float_form text = if is_float text then Some (Err FloatToken) else None
 
 -- an integer or a ratio of digits in the base
 abbrev pub rational_form : ℕ → Bool → List ℕ → Option (Result Object MeaningRefusal)
-rational_form base negative text = option_or (integer_form base negative text) (ratio_form base negative (cut is_slash text))
+rational_form base negative text = option_or (integer_form base negative text) (ratio_form base negative (cut_at_first is_slash text))
 
 -- the forms of decimal digits with a point or an exponent
 abbrev pub decimal_or_float_form : Bool → List ℕ → Option (Result Object MeaningRefusal)
-decimal_or_float_form negative text = option_or (decimal_form negative (cut is_point text)) (float_form text)
+decimal_or_float_form negative text = option_or (decimal_form negative (cut_at_first is_point text)) (float_form text)
 
 abbrev pub unsigned_number : ℕ → Bool → List ℕ → Option (Result Object MeaningRefusal)
 unsigned_number base negative text = option_or (rational_form base negative text) (decimal_or_float_form negative text)
@@ -94,5 +94,5 @@ abbrev pub rational_number : ℕ → List ℕ → Option (Result Object MeaningR
 rational_number base text = rational_form base (is_negative text) (without_sign text)
 
 -- what the text gives as a number in the base; None where it is in no syntax of numbers
-abbrev pub number_of : ℕ → List ℕ → Option (Result Object MeaningRefusal)
-number_of base text = unsigned_number base (is_negative text) (without_sign text)
+abbrev pub number_in_base : ℕ → List ℕ → Option (Result Object MeaningRefusal)
+number_in_base base text = unsigned_number base (is_negative text) (without_sign text)

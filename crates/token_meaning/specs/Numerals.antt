@@ -42,14 +42,14 @@ signed true size = neg_ℤ (pos size)
 signed false size = pos size
 
 -- from -2^127 to 2^127 - 1
-abbrev pub is_in_range : Bool → ℕ → Bool
-is_in_range true size = nat_le size (2 ^ 127)
-is_in_range false size = nat_lt size (2 ^ 127)
+abbrev pub is_magnitude_in_range : Bool → ℕ → Bool
+is_magnitude_in_range true size = nat_le size (2 ^ 127)
+is_magnitude_in_range false size = nat_lt size (2 ^ 127)
 
 abbrev pub with_first : {X : Type 0} → X → List X × List X → List X × List X
 with_first x parts = (x ∷ parts.0, parts.1)
 
 -- what is before the first element that passes, and what comes after it; None where none passes
-abbrev pub cut : {X : Type 0} → (X → Bool) → List X → Option (List X × List X)
-cut test [] = None
-cut test (x ∷ xs) = if test x then Some ([], xs) else option_map (with_first x) (cut test xs)
+abbrev pub cut_at_first : {X : Type 0} → (X → Bool) → List X → Option (List X × List X)
+cut_at_first test [] = None
+cut_at_first test (x ∷ xs) = if test x then Some ([], xs) else option_map (with_first x) (cut_at_first test xs)

@@ -22,7 +22,7 @@ use Rattle.token_meaning.specs.declared.token.TokenMeaning.TheVariants.{Number, 
 use Rattle.token_meaning.specs.declared.names.NameParts.{NameParts}
 use Rattle.token_meaning.specs.declared.names.NameParts.TheVariants.{Unqualified as UnqualifiedParts, Keyword as KeywordParts, External as ExternalParts, Internal as InternalParts}
 use Rattle.token_scan.specs.Marks.{characters}
-use Rattle.token_meaning.specs.Numerals.{is_empty, signed, is_in_range}
+use Rattle.token_meaning.specs.Numerals.{is_empty, signed, is_magnitude_in_range}
 use Rattle.token_meaning.specs.Meanings.{Meaning, number, dot, name, is_package_marker}
 
 -- ---- numbers of refusals
@@ -89,8 +89,8 @@ view_number (Err refusal) = Err refusal
 
 -- the number of this size and sign, where it is in range
 abbrev pub IsSigned : Bool → ℕ → Result ℤ MeaningRefusal → Type 0
-IsSigned negative size (Ok n) = (is_in_range negative size ≡ true) × (n ≡ signed negative size)
-IsSigned negative size (Err refusal) = (is_in_range negative size ≡ false) × (refusal ≡ NumberRange)
+IsSigned negative size (Ok n) = (is_magnitude_in_range negative size ≡ true) × (n ≡ signed negative size)
+IsSigned negative size (Err refusal) = (is_magnitude_in_range negative size ≡ false) × (refusal ≡ NumberRange)
 
 -- the number, or None where it is beyond 128 bits
 abbrev pub IsWorth : Option ℕ → ℕ → Type 0

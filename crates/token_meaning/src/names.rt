@@ -2,7 +2,7 @@
 ghost use Rattle.std.specs.Prelude.{◌≡◌, ◌<◌, ◌∷◌, [], false, length, not, ◌&&◌, true, Ok, IfOk, IfSome, IsTrue, MatchResult, option_map, position, take, drop, ◌+◌};
 ghost use Rattle.std.specs.List.{list_any, slice_split};
 ghost use Rattle.token_scan.specs.Marks.{characters, are_ascii};
-ghost use Rattle.token_meaning.specs.Numerals.{is_empty, cut};
+ghost use Rattle.token_meaning.specs.Numerals.{is_empty, cut_at_first};
 ghost use Rattle.token_meaning.specs.Meanings.{name as named, is_package_marker, pattern, name_of};
 ghost use Rattle.token_meaning.specs.Results.{Fails, begins_with_marker, is_one_part, parts_of, is_ascii_name, name_of_parts, view_parts};
 
@@ -142,7 +142,7 @@ fn has_marker(marks: &[Mark]) -> bool
 /// The marks before the first package marker and after it, if there is one.
 #[tactic(auto, using(crate::proofs::Cuts::cut_is))]
 fn cut_at_marker(marks: &[Mark]) -> Option<(&[Mark], &[Mark])>
-    ensures { option_map parts_of result ≡ cut is_package_marker marks.now }
+    ensures { option_map parts_of result ≡ cut_at_first is_package_marker marks.now }
 {
     cut_at(marks, first_marker(marks))
 }

@@ -2,7 +2,7 @@
 //! base the digits at the front are looked at twice where the token is no rational in that base.
 ghost use Rattle.std.specs.Prelude.{◌≡◌, ◌≤◌, ◌<◌, ℕ, List, ◌∷◌, true, ◌&&◌, IfOk, IfSome, option_map};
 ghost use Rattle.lisp_object.specs.Datum.{is_proper};
-ghost use Rattle.token_meaning.specs.Numbers.{is_exponent_marker, integer_of, ratio_of, rational_form, decimal_or_float_form, number_of, rational_number};
+ghost use Rattle.token_meaning.specs.Numbers.{is_exponent_marker, integer_of, ratio_of, rational_form, decimal_or_float_form, number_in_base, rational_number};
 ghost use Rattle.token_meaning.specs.Leading.{codes_of, IsLeading, after_code, is_exponent};
 ghost use Rattle.token_meaning.specs.Results.{view_number, IsSigned, IsWorth};
 
@@ -16,7 +16,7 @@ use token_scan::Mark;
 pub(crate) fn number(marks: &[Mark], base: u8) -> Option<Result<Datum, MeaningRefusal>>
     requires lowest_base { 2 ≤ base }
     requires highest_base { base ≤ 36 }
-    ensures gives { number_of base (codes_of marks.now) ≡ option_map view_number result }
+    ensures gives { number_in_base base (codes_of marks.now) ≡ option_map view_number result }
     ensures proper { IfSome result (λ given. IfOk given (λ datum. is_proper datum ≡ true)) }
 {
     let text = without_sign(marks);

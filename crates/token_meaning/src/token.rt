@@ -3,7 +3,7 @@ ghost use Rattle.std.specs.Prelude.{◌≡◌, ◌<◌, ◌≤◌, length, true,
 ghost use Rattle.std.specs.List.{list_all};
 ghost use Rattle.lisp_object.specs.Datum.{is_proper};
 ghost use Rattle.token_scan.specs.Marks.{are_ascii};
-ghost use Rattle.token_meaning.specs.Meanings.{is_plain, name_of, dots_of, number_meaning, meaning_of, rational_of};
+ghost use Rattle.token_meaning.specs.Meanings.{is_unescaped, name_of, dots_of, number_meaning, meaning_of, rational_of};
 ghost use Rattle.token_meaning.specs.Leading.{codes_of, is_dot};
 ghost use Rattle.token_meaning.specs.Results.{Gives, view_number, IsProperNumber, IsAsciiName};
 
@@ -86,7 +86,7 @@ pub fn rational(marks: &[Mark], base: u8) -> Option<Result<Datum, MeaningRefusal
 
 /// Whether no character was escaped, and there is no bar.
 fn are_plain(marks: &[Mark]) -> bool
-    ensures { result ≡ list_all is_plain marks.now }
+    ensures { result ≡ list_all is_unescaped marks.now }
 {
     marks.iter().all(|mark| matches!(mark, Mark::Plain(_)))
 }

@@ -8,8 +8,8 @@ use Rattle.token_scan.specs.declared.mark.Mark.TheVariants.{Plain, Quoted, Bar}
 use Rattle.token_scan.specs.declared.stage.Stage.{Stage}
 use Rattle.token_scan.specs.declared.stage.Stage.TheVariants.{Outside, Inside, EscapedOutside, EscapedInside, Refused}
 use Rattle.token_scan.specs.Tokens.{TypedByte, kind, is_character, Scanned, with_front, escaped, outside, inside}
-use Rattle.token_scan.specs.Spelling.{is_plain, ends_tokens}
-use Rattle.token_scan.specs.Scans.{Scan, from_stage, is_empty, has_begun, token_from}
+use Rattle.token_scan.specs.Spelling.{is_plain_syntax, ends_tokens}
+use Rattle.token_scan.specs.Scans.{Scan, from_stage, is_empty_token, has_begun, token_from}
 use Rattle.token_scan.proofs.Steps.{outside_ends, outside_plain, outside_escape, outside_bar, outside_invalid, inside_between, inside_escape, inside_bar, inside_invalid}
 
 abbrev pub Forwards : ℕ → Scanned → Type 0
@@ -30,14 +30,14 @@ chosen false at r s first second = second
 abbrev After : List TypedByte → Type 0
 After xs = (stage : Stage) (left at : ℕ) → Forwards at (from_stage stage left at xs)
 
-plain_forwards : (x : TypedByte) (xs : List TypedByte) (left at : ℕ) → IsTrue (is_plain (kind x)) → After xs
+plain_forwards : (x : TypedByte) (xs : List TypedByte) (left at : ℕ) → IsTrue (is_plain_syntax (kind x)) → After xs
     → Forwards at (outside left at (x ∷ xs))
 plain_forwards x xs left at is after =
     rw (outside_plain x xs left at is) (chosen (left == 0) at _ _ (omega arith)
     (chosen (has_invalid_trait x.byte) at _ _ (omega arith)
     (put_after (Plain x.byte ∷ []) at _ (from_next at _ (after Outside (left - 1) (at + 1))))))
 
-between_forwards : (x : TypedByte) (xs : List TypedByte) (left at : ℕ) → IsTrue (is_plain (kind x) || ends_tokens (kind x)) → After xs
+between_forwards : (x : TypedByte) (xs : List TypedByte) (left at : ℕ) → IsTrue (is_plain_syntax (kind x) || ends_tokens (kind x)) → After xs
     → Forwards at (inside left at (x ∷ xs))
 between_forwards x xs left at is after =
     rw (inside_between x xs left at is) (chosen (left == 0) at _ _ (omega arith)
@@ -49,8 +49,8 @@ outside_forwards x xs left at after = by_kind (kind x) refl
     by_kind : (k : Syntax) → kind x ≡ k → Forwards at (outside left at (x ∷ xs))
     by_kind Whitespace e = rw (outside_ends x xs left at (ap ends_tokens e)) (omega arith)
     by_kind TerminatingMacro e = rw (outside_ends x xs left at (ap ends_tokens e)) (omega arith)
-    by_kind Constituent e = plain_forwards x xs left at (ap is_plain e) after
-    by_kind NonTerminatingMacro e = plain_forwards x xs left at (ap is_plain e) after
+    by_kind Constituent e = plain_forwards x xs left at (ap is_plain_syntax e) after
+    by_kind NonTerminatingMacro e = plain_forwards x xs left at (ap is_plain_syntax e) after
     by_kind SingleEscape e = rw (outside_escape x xs left at e) (from_next at _ (after EscapedOutside left (at + 1)))
     by_kind MultipleEscape e = rw (outside_bar x xs left at e) (put_after (Bar ∷ []) at _ (from_next at _ (after Inside left (at + 1))))
     by_kind Invalid e = rw (outside_invalid x xs left at e) (omega arith)
@@ -95,7 +95,7 @@ forwards scan at text = put_after scan.marks at _ (stage_forwards text scan.stag
 pub begun_has_mark : (scan : Scan) → IsTrue (has_begun scan) → scan.stage ≡ Outside → 0 < length scan.marks
 begun_has_mark scan begun outside = by scan.marks scan.stage begun outside
   where
-    by : (marks : List Mark) (stage : Stage) → IsTrue (not (is_empty marks stage)) → stage ≡ Outside → 0 < length marks
+    by : (marks : List Mark) (stage : Stage) → IsTrue (not (is_empty_token marks stage)) → stage ≡ Outside → 0 < length marks
     by [] Outside begun e = absurd cc
     by [] stage begun e = absurd cc
     by (m ∷ ms) stage begun e = omega arith

@@ -7,7 +7,7 @@ use Rattle.token_scan.specs.declared.mark.Mark.{Mark}
 use Rattle.token_scan.specs.declared.mark.Mark.TheVariants.{Plain, Quoted, Bar}
 use Rattle.token_scan.specs.Tokens.{TypedByte, is_character, kind, Scanned, with_front, plain, quoted, escaped, outside, inside, escaped_token}
 use Rattle.token_scan.specs.Marks.{character_count, is_ascii_mark, are_ascii}
-use Rattle.token_scan.specs.Spelling.{Spells, nothing, plain as spells_plain, between, escaped as spells_escaped, bar, SpellsEscaped, first as spells_first, may_end, is_plain, ends_tokens}
+use Rattle.token_scan.specs.Spelling.{Spells, nothing, plain as spells_plain, between, escaped as spells_escaped, bar, SpellsEscaped, first as spells_first, may_end, is_plain_syntax, ends_tokens}
 use Rattle.token_scan.proofs.Steps.{outside_ends, outside_plain, outside_escape, outside_bar, inside_between, inside_escape, inside_bar, room, plain_taken, escaped_taken}
 
 -- what a text gives, where the test says whether it is between multiple escapes
@@ -87,9 +87,9 @@ front_ascii mark marks first others = rw (first, others) refl
 pub spelled_ascii : {bars : Bool} {taken : List TypedByte} {marks : List Mark} → Spells bars taken marks → IsTrue (are_ascii marks)
 spelled_ascii nothing = refl
 spelled_ascii (spells_plain x xs marks is trait s) =
-    front_ascii (Plain x.byte) marks (no_invalid is_plain (is_character x) x.syntax refl is) (spelled_ascii s)
+    front_ascii (Plain x.byte) marks (no_invalid is_plain_syntax (is_character x) x.syntax refl is) (spelled_ascii s)
 spelled_ascii (between x xs marks is s) =
-    front_ascii (Quoted x.byte) marks (no_invalid (λ k. is_plain k || ends_tokens k) (is_character x) x.syntax refl is) (spelled_ascii s)
+    front_ascii (Quoted x.byte) marks (no_invalid (λ k. is_plain_syntax k || ends_tokens k) (is_character x) x.syntax refl is) (spelled_ascii s)
 spelled_ascii (spells_escaped bars escape x xs marks is character s) = front_ascii (Quoted x.byte) marks character (spelled_ascii s)
 spelled_ascii (bar bars x xs marks is s) = front_ascii Bar marks refl (spelled_ascii s)
 

@@ -8,7 +8,7 @@ use Rattle.token_scan.specs.declared.mark.Mark.{Mark}
 use Rattle.token_scan.specs.declared.mark.Mark.TheVariants.{Plain, Quoted, Bar}
 use Rattle.token_scan.specs.Tokens.{TypedByte, kind, is_character, Scanned, with_front, outside, inside, escaped_token}
 use Rattle.token_scan.specs.Marks.{character_count, are_ascii}
-use Rattle.token_scan.specs.Spelling.{Spells, nothing, plain as spells_plain, between, escaped as spells_escaped, bar, SpellsEscaped, first, Splits, ends_tokens, is_plain}
+use Rattle.token_scan.specs.Spelling.{Spells, nothing, plain as spells_plain, between, escaped as spells_escaped, bar, SpellsEscaped, first, Splits, ends_tokens, is_plain_syntax}
 use Rattle.token_scan.proofs.Steps.{outside_ends, outside_plain, outside_escape, outside_invalid, inside_between, inside_escape, inside_invalid}
 use Rattle.token_scan.proofs.Spelled.{from_bars, escape_at, bar_at, plain_counts, quoted_counts, bar_counts}
 
@@ -75,7 +75,7 @@ escaped_splits x xs after bars escape left at e =
     (after bars (left - 1) (at + 1 + 1))))
     (λ _. tt))
 
-plain_splits : (x : TypedByte) (xs : List TypedByte) (left at : ℕ) → IsTrue (is_plain (kind x)) → After xs
+plain_splits : (x : TypedByte) (xs : List TypedByte) (left at : ℕ) → IsTrue (is_plain_syntax (kind x)) → After xs
     → SplitsBy (Spells false) left at (x ∷ xs) (outside left at (x ∷ xs))
 plain_splits x xs left at is after =
     subst (λ (r : Scanned). SplitsBy (Spells false) left at (x ∷ xs) r) (sym (outside_plain x xs left at is))
@@ -86,7 +86,7 @@ plain_splits x xs left at is after =
     (λ marks fits. omega (arith, fits, plain_counts x.byte marks, eqb-false left 0 more))
     (after false (left - 1) (at + 1)))))
 
-between_splits : (x : TypedByte) (xs : List TypedByte) (left at : ℕ) → IsTrue (is_plain (kind x) || ends_tokens (kind x)) → After xs
+between_splits : (x : TypedByte) (xs : List TypedByte) (left at : ℕ) → IsTrue (is_plain_syntax (kind x) || ends_tokens (kind x)) → After xs
     → SplitsBy (Spells true) left at (x ∷ xs) (inside left at (x ∷ xs))
 between_splits x xs left at is after =
     subst (λ (r : Scanned). SplitsBy (Spells true) left at (x ∷ xs) r) (sym (inside_between x xs left at is))
@@ -123,9 +123,9 @@ byte_splits x xs after escape bars left at = by_kind (kind x) bars refl
     by_kind Whitespace true e = between_splits x xs left at (rw e refl) after
     by_kind TerminatingMacro false e = ends_splits x xs left at (ap ends_tokens e)
     by_kind TerminatingMacro true e = between_splits x xs left at (rw e refl) after
-    by_kind Constituent false e = plain_splits x xs left at (ap is_plain e) after
+    by_kind Constituent false e = plain_splits x xs left at (ap is_plain_syntax e) after
     by_kind Constituent true e = between_splits x xs left at (rw e refl) after
-    by_kind NonTerminatingMacro false e = plain_splits x xs left at (ap is_plain e) after
+    by_kind NonTerminatingMacro false e = plain_splits x xs left at (ap is_plain_syntax e) after
     by_kind NonTerminatingMacro true e = between_splits x xs left at (rw e refl) after
 
 both : (text : List TypedByte) → After text × AfterEscape text

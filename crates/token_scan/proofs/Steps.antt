@@ -5,8 +5,8 @@ use Rattle.readtable_core.specs.declared.characters.Syntax.TheVariants.{Whitespa
 use Rattle.readtable_core.specs.Characters.{has_invalid_trait}
 use Rattle.token_scan.specs.declared.mark.Mark.TheVariants.{Plain, Bar}
 use Rattle.token_scan.specs.declared.refusal.ScanRefusal.TheVariants.{InvalidCharacter}
-use Rattle.token_scan.specs.Tokens.{TypedByte, kind, is_character, Scanned, fault, with_front, one_more, plain, quoted, escaped, outside, inside, escaped_outside, escaped_inside}
-use Rattle.token_scan.specs.Spelling.{is_plain, ends_tokens}
+use Rattle.token_scan.specs.Tokens.{TypedByte, kind, is_character, Scanned, fault_of_scan, with_front, one_more, plain, quoted, escaped, outside, inside, escaped_outside, escaped_inside}
+use Rattle.token_scan.specs.Spelling.{is_plain_syntax, ends_tokens}
 
 -- ---- outside multiple escapes
 
@@ -20,12 +20,12 @@ outside_ends x xs left at ends = by_kind (kind x) refl ends
     by_kind TerminatingMacro e t = rw (e, outside) refl
     by_kind _ e t = cc
 
-pub outside_plain : (x : TypedByte) (xs : List TypedByte) (left at : ℕ) → IsTrue (is_plain (kind x))
+pub outside_plain : (x : TypedByte) (xs : List TypedByte) (left at : ℕ) → IsTrue (is_plain_syntax (kind x))
     → outside left at (x ∷ xs) ≡ one_more left at (λ left. plain x.byte at (outside left (at + 1) xs))
 unfolding outside
 outside_plain x xs left at is = by_kind (kind x) refl is
   where
-    by_kind : (k : Syntax) → kind x ≡ k → IsTrue (is_plain k)
+    by_kind : (k : Syntax) → kind x ≡ k → IsTrue (is_plain_syntax k)
         → outside left at (x ∷ xs) ≡ one_more left at (λ left. plain x.byte at (outside left (at + 1) xs))
     by_kind Constituent e t = rw (e, outside) refl
     by_kind NonTerminatingMacro e t = rw (e, outside) refl
@@ -42,18 +42,18 @@ unfolding outside
 outside_bar x xs left at e = rw (e, outside) refl
 
 pub outside_invalid : (x : TypedByte) (xs : List TypedByte) (left at : ℕ) → kind x ≡ Invalid
-    → outside left at (x ∷ xs) ≡ fault InvalidCharacter at
+    → outside left at (x ∷ xs) ≡ fault_of_scan InvalidCharacter at
 unfolding outside
 outside_invalid x xs left at e = rw (e, outside) refl
 
 -- ---- between multiple escapes
 
-pub inside_between : (x : TypedByte) (xs : List TypedByte) (left at : ℕ) → IsTrue (is_plain (kind x) || ends_tokens (kind x))
+pub inside_between : (x : TypedByte) (xs : List TypedByte) (left at : ℕ) → IsTrue (is_plain_syntax (kind x) || ends_tokens (kind x))
     → inside left at (x ∷ xs) ≡ one_more left at (λ left. quoted x.byte (inside left (at + 1) xs))
 unfolding outside
 inside_between x xs left at is = by_kind (kind x) refl is
   where
-    by_kind : (k : Syntax) → kind x ≡ k → IsTrue (is_plain k || ends_tokens k)
+    by_kind : (k : Syntax) → kind x ≡ k → IsTrue (is_plain_syntax k || ends_tokens k)
         → inside left at (x ∷ xs) ≡ one_more left at (λ left. quoted x.byte (inside left (at + 1) xs))
     by_kind Whitespace e t = rw (e, inside) refl
     by_kind TerminatingMacro e t = rw (e, inside) refl
@@ -72,7 +72,7 @@ unfolding outside
 inside_bar x xs left at e = rw (e, inside) refl
 
 pub inside_invalid : (x : TypedByte) (xs : List TypedByte) (left at : ℕ) → kind x ≡ Invalid
-    → inside left at (x ∷ xs) ≡ fault InvalidCharacter at
+    → inside left at (x ∷ xs) ≡ fault_of_scan InvalidCharacter at
 unfolding outside
 inside_invalid x xs left at e = rw (e, inside) refl
 

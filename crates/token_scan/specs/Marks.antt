@@ -8,14 +8,14 @@ abbrev pub is_bar : Mark → Bool
 is_bar Bar = true
 is_bar _ = false
 
-abbrev pub character_of : Mark → Option ℕ
-character_of (Plain c) = Some c
-character_of (Quoted c) = Some c
-character_of Bar = None
+abbrev pub mark_character : Mark → Option ℕ
+mark_character (Plain c) = Some c
+mark_character (Quoted c) = Some c
+mark_character Bar = None
 
 -- the characters of the marks, in their case, without bars and escapes
 abbrev pub characters : List Mark → List ℕ
-characters marks = filter_map character_of marks
+characters marks = filter_map mark_character marks
 
 -- how many characters a token has
 abbrev pub character_count : List Mark → ℕ

@@ -7,10 +7,10 @@ use Rattle.token_scan.specs.declared.mark.Mark.TheVariants.{Plain, Quoted, Bar}
 use Rattle.token_scan.specs.declared.refusal.ScanRefusal.{ScanRefusal}
 use Rattle.token_scan.specs.declared.stage.Stage.{Stage}
 use Rattle.token_scan.specs.declared.stage.Stage.TheVariants.{Outside, Inside, EscapedOutside, EscapedInside, Refused}
-use Rattle.token_scan.specs.declared.scan.Fed.{Fed}
-use Rattle.token_scan.specs.declared.scan.Fed.TheVariants.{More, Ended, Refused as FedRefused}
+use Rattle.token_scan.specs.declared.scan.FedByte.{FedByte}
+use Rattle.token_scan.specs.declared.scan.FedByte.TheVariants.{More, Ended, Refused as FedRefused}
 use Rattle.token_scan.specs.Spelling.{ends_tokens}
-use Rattle.token_scan.specs.Tokens.{TypedByte, kind, Scanned, fault, with_front, outside, inside, escaped_outside, escaped_inside}
+use Rattle.token_scan.specs.Tokens.{TypedByte, kind, Scanned, fault_of_scan, with_front, outside, inside, escaped_outside, escaped_inside}
 
 -- the marks so far, how many characters may still come, and where the next byte is
 pub record Scan : Type 0 where
@@ -19,8 +19,8 @@ pub record Scan : Type 0 where
   pub stage : Stage
 
 -- nothing was fed yet
-abbrev pub begun : ℕ → Scan
-begun limit = record { marks = []; left = limit; stage = Outside }
+abbrev pub first_scan : ℕ → Scan
+first_scan limit = record { marks = []; left = limit; stage = Outside }
 
 -- nothing was fed yet, and the first character is taken as an escaped one
 abbrev pub begun_escaped : ℕ → Scan
@@ -31,19 +31,19 @@ from_stage Outside left at text = outside left at text
 from_stage Inside left at text = inside left at text
 from_stage EscapedOutside left at text = escaped_outside left at text
 from_stage EscapedInside left at text = escaped_inside left at text
-from_stage (Refused refusal) left at text = fault refusal at
+from_stage (Refused refusal) left at text = fault_of_scan refusal at
 
 -- what the token gives if this text follows, from this offset on
 abbrev pub token_from : Scan → ℕ → List TypedByte → Scanned
 token_from scan at text = with_front scan.marks (from_stage scan.stage scan.left at text)
 
-abbrev pub is_empty : List Mark → Stage → Bool
-is_empty [] Outside = true
-is_empty _ _ = false
+abbrev pub is_empty_token : List Mark → Stage → Bool
+is_empty_token [] Outside = true
+is_empty_token _ _ = false
 
 -- a byte was taken: where the token ends then, it has a mark
 abbrev pub has_begun : Scan → Bool
-has_begun scan = not (is_empty scan.marks scan.stage)
+has_begun scan = not (is_empty_token scan.marks scan.stage)
 
 abbrev pub refused : Scan → ScanRefusal → Scan
 refused scan refusal = record scan { stage = Refused refusal }
@@ -65,16 +65,16 @@ marks_of EscapedInside x = Quoted x.byte ∷ []
 marks_of (Refused refusal) x = []
 
 -- What the token gives if this text follows the byte.
-abbrev pub fed_gives : Fed → Scan → ℕ → TypedByte → List TypedByte → Scanned
+abbrev pub fed_gives : FedByte → Scan → ℕ → TypedByte → List TypedByte → Scanned
 fed_gives More new at x more = token_from new (at + 1) more
 fed_gives Ended new at x more = Ok (new.marks, at, x ∷ more)
-fed_gives (FedRefused refusal) new at x more = fault refusal at
+fed_gives (FedRefused refusal) new at x more = fault_of_scan refusal at
 
 -- How a byte leaves the scan, where it adds these marks if it is taken, and the test says whether it may end a token.
-abbrev pub LeavesBy : List Mark → Bool → Fed → Scan → Scan → Type 0
+abbrev pub LeavesBy : List Mark → Bool → FedByte → Scan → Scan → Type 0
 LeavesBy marks ends More old new = (new.marks ≡ old.marks ++ marks) × IsTrue (has_begun new)
 LeavesBy marks ends Ended old new = (new ≡ old) × (old.stage ≡ Outside) × IsTrue ends
 LeavesBy marks ends (FedRefused refusal) old new = new ≡ refused old refusal
 
-abbrev pub Leaves : Fed → Scan → TypedByte → Scan → Type 0
-Leaves fed old x new = LeavesBy (marks_of old.stage x) (ends_tokens (kind x)) fed old new
+abbrev pub ScanLeaves : FedByte → Scan → TypedByte → Scan → Type 0
+ScanLeaves fed old x new = LeavesBy (marks_of old.stage x) (ends_tokens (kind x)) fed old new

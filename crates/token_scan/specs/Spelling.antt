@@ -16,10 +16,10 @@ ends_tokens TerminatingMacro = true
 ends_tokens _ = false
 
 -- the syntax types of characters that are in a token as they are
-abbrev pub is_plain : Syntax → Bool
-is_plain Constituent = true
-is_plain NonTerminatingMacro = true
-is_plain _ = false
+abbrev pub is_plain_syntax : Syntax → Bool
+is_plain_syntax Constituent = true
+is_plain_syntax NonTerminatingMacro = true
+is_plain_syntax _ = false
 
 -- These bytes spell these marks. The test says whether the first of them is between multiple escapes; after the last
 -- one no multiple escape is open.
@@ -27,11 +27,11 @@ pub data Spells : Bool → List TypedByte → List Mark → Type 0 where
   nothing : Spells false [] []
   -- a character outside, not escaped
   plain : (x : TypedByte) (xs : List TypedByte) (marks : List Mark)
-      → IsTrue (is_plain (kind x)) → has_invalid_trait x.byte ≡ false
+      → IsTrue (is_plain_syntax (kind x)) → has_invalid_trait x.byte ≡ false
       → Spells false xs marks → Spells false (x ∷ xs) (Plain x.byte ∷ marks)
   -- a character between multiple escapes
   between : (x : TypedByte) (xs : List TypedByte) (marks : List Mark)
-      → IsTrue (is_plain (kind x) || ends_tokens (kind x))
+      → IsTrue (is_plain_syntax (kind x) || ends_tokens (kind x))
       → Spells true xs marks → Spells true (x ∷ xs) (Quoted x.byte ∷ marks)
   -- a single escape and the character after it
   escaped : (bars : Bool) (escape x : TypedByte) (xs : List TypedByte) (marks : List Mark)

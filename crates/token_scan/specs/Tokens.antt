@@ -35,8 +35,8 @@ pub record TokenFault : Type 0 where
 abbrev pub Scanned : Type 0
 Scanned = Result (List Mark × ℕ × List TypedByte) TokenFault
 
-abbrev pub fault : ScanRefusal → ℕ → Scanned
-fault refusal at = Err (record { refusal = refusal; at = at })
+abbrev pub fault_of_scan : ScanRefusal → ℕ → Scanned
+fault_of_scan refusal at = Err (record { refusal = refusal; at = at })
 
 -- the token with these marks in front
 abbrev pub with_front : List Mark → Scanned → Scanned
@@ -45,11 +45,11 @@ with_front front (Err e) = Err e
 
 -- a character at this offset, where so many may still come
 abbrev pub one_more : ℕ → ℕ → (ℕ → Scanned) → Scanned
-one_more left at more = if left == 0 then fault TokenTooLong at else more (left - 1)
+one_more left at more = if left == 0 then fault_of_scan TokenTooLong at else more (left - 1)
 
 -- a character that is not escaped
 abbrev pub plain : ℕ → ℕ → Scanned → Scanned
-plain c at more = if has_invalid_trait c then fault InvalidTrait at else with_front (Plain c ∷ []) more
+plain c at more = if has_invalid_trait c then fault_of_scan InvalidTrait at else with_front (Plain c ∷ []) more
 
 -- a character after a single escape or between multiple escapes
 abbrev pub quoted : ℕ → Scanned → Scanned
@@ -58,7 +58,7 @@ quoted c more = with_front (Quoted c ∷ []) more
 -- what comes after a single escape: any character, whatever its syntax type
 abbrev pub escaped : TypedByte → ℕ → ℕ → (ℕ → Scanned) → Scanned
 escaped x left at more =
-    if is_character x then one_more left at (λ left. quoted x.byte (more left)) else fault InvalidCharacter at
+    if is_character x then one_more left at (λ left. quoted x.byte (more left)) else fault_of_scan InvalidCharacter at
 
 -- What a token gives from this offset of a text on, where so many characters may still come. A byte that ends the token is
 -- not taken.
@@ -74,12 +74,12 @@ unfoldable mutual
         | NonTerminatingMacro ↦ one_more left at (λ left. plain x.byte at (outside left (at + 1) xs))
         | SingleEscape ↦ escaped_outside left (at + 1) xs
         | MultipleEscape ↦ with_front (Bar ∷ []) (inside left (at + 1) xs)
-        | Invalid ↦ fault InvalidCharacter at
+        | Invalid ↦ fault_of_scan InvalidCharacter at
       ]
 
   -- between multiple escapes (step 9)
   pub inside : ℕ → ℕ → List TypedByte → Scanned
-  inside left at [] = fault EndOfFile at
+  inside left at [] = fault_of_scan EndOfFile at
   inside left at (x ∷ xs) =
       elim (kind x) [
         | Whitespace ↦ one_more left at (λ left. quoted x.byte (inside left (at + 1) xs))
@@ -88,16 +88,16 @@ unfoldable mutual
         | NonTerminatingMacro ↦ one_more left at (λ left. quoted x.byte (inside left (at + 1) xs))
         | SingleEscape ↦ escaped_inside left (at + 1) xs
         | MultipleEscape ↦ with_front (Bar ∷ []) (outside left (at + 1) xs)
-        | Invalid ↦ fault InvalidCharacter at
+        | Invalid ↦ fault_of_scan InvalidCharacter at
       ]
 
   -- after a single escape, outside and between
   pub escaped_outside : ℕ → ℕ → List TypedByte → Scanned
-  escaped_outside left at [] = fault EndOfFile at
+  escaped_outside left at [] = fault_of_scan EndOfFile at
   escaped_outside left at (x ∷ xs) = escaped x left at (λ left. outside left (at + 1) xs)
 
   pub escaped_inside : ℕ → ℕ → List TypedByte → Scanned
-  escaped_inside left at [] = fault EndOfFile at
+  escaped_inside left at [] = fault_of_scan EndOfFile at
   escaped_inside left at (x ∷ xs) = escaped x left at (λ left. inside left (at + 1) xs)
 
 -- the token that begins at this offset, of at most so many characters: bars and escapes are not counted

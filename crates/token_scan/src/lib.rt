@@ -9,7 +9,7 @@
 //!
 //! - `mark`: `Mark`, `Marks`, `characters`
 //! - `refusal`: `ScanRefusal`, which has no number: `token_meaning` gives it
-//! - `scan`: `TokenScan`, `Fed`
+//! - `scan`: `TokenScan`, `FedByte`
 //! - `stage`: where the next byte of a token is
 //! - `laws`: `token_laws`, `escaped_token_laws`
 //!
@@ -36,4 +36,4 @@ mod stage;
 pub use laws::{escaped_token_laws, token_laws};
 pub use mark::{Mark, Marks, characters};
 pub use refusal::ScanRefusal;
-pub use scan::{Fed, TokenScan};
+pub use scan::{FedByte, TokenScan};

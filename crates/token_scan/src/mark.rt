@@ -1,6 +1,6 @@
 //! The marks of a token.
 ghost use Rattle.std.specs.Prelude.{◌≡◌, IfOk};
-ghost use Rattle.token_scan.specs.Marks.{character_of, characters};
+ghost use Rattle.token_scan.specs.Marks.{mark_character, characters};
 
 use smallvec::SmallVec;
 use std::alloc::{AllocError, Global};
@@ -43,7 +43,7 @@ pub fn characters(alloc: Global, marks: &[Mark]) -> Result<Vec<u8>, AllocError>
 }
 
 fn character_of(mark: Mark) -> Option<u8>
-    ensures { result ≡ character_of mark }
+    ensures { result ≡ mark_character mark }
 {
     match mark {
         Mark::Plain(c) | Mark::Quoted(c) => Some(c),

@@ -3,7 +3,7 @@ ghost use Rattle.std.specs.Prelude.{◌≡◌, ◌+◌, ◌-◌, ◌<◌, ℕ, i
 ghost use Rattle.token_scan.specs.declared.mark.Mark.TheVariants.{Plain, Quoted, Bar};
 ghost use Rattle.token_scan.specs.declared.refusal.ScanRefusal.TheVariants.{EndOfFile};
 ghost use Rattle.token_scan.specs.Marks.{is_ascii_mark, are_ascii};
-ghost use Rattle.token_scan.specs.Tokens.{TypedByte, met, kind, with_front, one_more, plain, quoted, escaped, outside, token, escaped_token, fault};
+ghost use Rattle.token_scan.specs.Tokens.{TypedByte, met, kind, with_front, one_more, plain, quoted, escaped, outside, token, escaped_token, fault_of_scan};
 ghost use Rattle.token_scan.specs.declared.stage.Stage.TheVariants.{Outside, Inside, EscapedOutside, EscapedInside, Refused};
 
 use crate::stage::Stage;
@@ -15,7 +15,7 @@ use std::marker::Model;
 
 /// What a byte is to a token.
 #[derive(Clone, Copy, Debug, PartialEq, Eq)]
-pub enum Fed {
+pub enum FedByte {
     /// The byte was taken, and the token goes on.
     More,
     /// The token ends before the byte, which was not taken.
@@ -46,12 +46,12 @@ impl Model for TokenScan {
 }
 
 impl TokenScan {
-    ghost use Rattle.token_scan.specs.declared.scan.Fed.TheVariants.{More, Refused as FedRefused};
-    ghost use Rattle.token_scan.specs.Scans.{begun, begun_escaped, refused, from_stage, token_from, fed_gives, LeavesBy, Leaves};
+    ghost use Rattle.token_scan.specs.declared.scan.FedByte.TheVariants.{More, Refused as FedRefused};
+    ghost use Rattle.token_scan.specs.Scans.{first_scan, begun_escaped, refused, from_stage, token_from, fed_gives, LeavesBy, ScanLeaves};
 
     /// An empty token of at most `limit` characters, which bars and escapes are not. It keeps `alloc` for its marks.
     pub fn begin(alloc: Global, limit: usize) -> TokenScan
-        ensures value { result ≡ begun limit }
+        ensures value { result ≡ first_scan limit }
         ensures token { (at : ℕ) (text : List TypedByte)
             → token_from result at text ≡ token limit at text }
     {
@@ -75,17 +75,17 @@ impl TokenScan {
     ///
     /// Out of memory for a mark; then nothing has changed.
     #[tactic(auto, unfolding(crate::specs::Tokens::outside))]
-    pub fn feed(&mut self, syntax: Syntax, byte: u8) -> Result<Fed, AllocError>
+    pub fn feed(&mut self, syntax: Syntax, byte: u8) -> Result<FedByte, AllocError>
         ensures gives { (at : ℕ) (more : List TypedByte) → IfOk result (λ fed.
             token_from self.old at (met syntax byte ∷ more) ≡ fed_gives fed self.new at (met syntax byte) more) }
-        ensures leaves { IfOk result (λ fed. Leaves fed self.old (met syntax byte) self.new) }
+        ensures leaves { IfOk result (λ fed. ScanLeaves fed self.old (met syntax byte) self.new) }
         ensures unchanged { OnErr result (self.new ≡ self.old) }
         ensures repeats { (refusal : ScanRefusal) → self.old.stage ≡ Refused refusal
             → result ≡ Ok (FedRefused refusal) }
         ensures no_end { result ≡ Ok (FedRefused EndOfFile) → self.old.stage ≡ Refused EndOfFile }
     {
         match (self.stage, kind_of(syntax, byte)) {
-            (Stage::Refused(refusal), _) => Ok(Fed::Refused(refusal)),
+            (Stage::Refused(refusal), _) => Ok(FedByte::Refused(refusal)),
             // After a single escape any character is one of the token, whatever its syntax type.
             (Stage::EscapedOutside, _) => self.feed_escaped(byte, Stage::Outside),
             (Stage::EscapedInside, _) => self.feed_escaped(byte, Stage::Inside),
@@ -94,7 +94,7 @@ impl TokenScan {
             (Stage::Inside, Syntax::SingleEscape) => Ok(self.pass_escape(Stage::EscapedInside)),
             (Stage::Outside, Syntax::MultipleEscape) => self.feed_bar(Stage::Inside),
             (Stage::Inside, Syntax::MultipleEscape) => self.feed_bar(Stage::Outside),
-            (Stage::Outside, Syntax::Whitespace | Syntax::TerminatingMacro) => Ok(Fed::Ended),
+            (Stage::Outside, Syntax::Whitespace | Syntax::TerminatingMacro) => Ok(FedByte::Ended),
             (Stage::Outside, _) => self.feed_plain(byte),
             (Stage::Inside, _) => self.feed_quoted(byte, Stage::Inside),
         }
@@ -110,7 +110,7 @@ impl TokenScan {
     pub fn finish(&mut self) -> Result<(), ScanRefusal>
         ensures gives { (at : ℕ) → MatchResult result
             (λ _. token_from self.old at [] ≡ Ok (self.old.marks, at, []))
-            (λ refusal. token_from self.old at [] ≡ fault refusal at) }
+            (λ refusal. token_from self.old at [] ≡ fault_of_scan refusal at) }
         ensures leaves { MatchResult result
             (λ _. (self.new ≡ self.old) × (self.old.stage ≡ Outside))
             (λ refusal. self.new ≡ refused self.old refusal) }
@@ -154,27 +154,27 @@ impl TokenScan {
     }
 
     // Takes a single escape, after which the next byte is at `stage`.
-    fn pass_escape(&mut self, stage: Stage) -> Fed
+    fn pass_escape(&mut self, stage: Stage) -> FedByte
         ensures value { result ≡ More }
         ensures after { self.new ≡ record self.old { stage = stage } }
     {
         self.stage = stage;
-        Fed::More
+        FedByte::More
     }
 
     // Takes a multiple escape, after which the next byte is at `stage`.
-    fn feed_bar(&mut self, stage: Stage) -> Result<Fed, AllocError>
+    fn feed_bar(&mut self, stage: Stage) -> Result<FedByte, AllocError>
         ensures more { IfOk result (λ fed. fed ≡ More) }
         ensures after { self.new ≡ (if is_ok result
             then record self.old { marks = self.old.marks ++ Bar ∷ []; stage = stage }
             else self.old) }
     {
         self.add(Mark::Bar, stage)?;
-        Ok(Fed::More)
+        Ok(FedByte::More)
     }
 
     // Takes a character that is not escaped.
-    fn feed_plain(&mut self, byte: u8) -> Result<Fed, AllocError>
+    fn feed_plain(&mut self, byte: u8) -> Result<FedByte, AllocError>
         requires { byte < 128 }
         ensures gives { (x : TypedByte) (at : ℕ) (more : List TypedByte) → IfOk result (λ fed.
             with_front self.old.marks (one_more self.old.left at (λ left. plain byte at (outside left (at + 1) more)))
@@ -192,11 +192,11 @@ impl TokenScan {
             return Ok(self.refuse(ScanRefusal::InvalidTrait));
         }
         self.add_character(Mark::Plain(byte), Stage::Outside)?;
-        Ok(Fed::More)
+        Ok(FedByte::More)
     }
 
     // Takes a byte after a single escape.
-    fn feed_escaped(&mut self, byte: u8, back: Stage) -> Result<Fed, AllocError>
+    fn feed_escaped(&mut self, byte: u8, back: Stage) -> Result<FedByte, AllocError>
         ensures gives { (syntax : Syntax) (at : ℕ) (more : List TypedByte) → IfOk result (λ fed.
             with_front self.old.marks
             (escaped (met syntax byte) self.old.left at (λ left. from_stage back left (at + 1) more))
@@ -213,7 +213,7 @@ impl TokenScan {
     }
 
     // Takes a character that is quoted, after which the next byte is at `back`.
-    fn feed_quoted(&mut self, byte: u8, back: Stage) -> Result<Fed, AllocError>
+    fn feed_quoted(&mut self, byte: u8, back: Stage) -> Result<FedByte, AllocError>
         requires { byte < 128 }
         ensures gives { (x : TypedByte) (at : ℕ) (more : List TypedByte) → IfOk result (λ fed.
             with_front self.old.marks (one_more self.old.left at (λ left. quoted byte (from_stage back left (at + 1) more)))
@@ -227,7 +227,7 @@ impl TokenScan {
             return Ok(self.refuse(ScanRefusal::TokenTooLong));
         }
         self.add_character(Mark::Quoted(byte), back)?;
-        Ok(Fed::More)
+        Ok(FedByte::More)
     }
 
     // Adds the mark of a character.
@@ -254,12 +254,12 @@ impl TokenScan {
         Ok(())
     }
 
-    fn refuse(&mut self, refusal: ScanRefusal) -> Fed
+    fn refuse(&mut self, refusal: ScanRefusal) -> FedByte
         ensures value { result ≡ FedRefused refusal }
         ensures after { self.new ≡ refused self.old refusal }
     {
         self.stage = Stage::Refused(refusal);
-        Fed::Refused(refusal)
+        FedByte::Refused(refusal)
     }
 }
 

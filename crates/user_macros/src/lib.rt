@@ -10,7 +10,7 @@
 //! - `meaning`: the trait `Meaning`
 //! - `no_functions`: the meaning of a program that has none
 //! - `functions`: the trait `MacroFunctions`, in which the crates above are generic
-//! - `registry`: `Macros`, `MacroFn`, `Refusal`, `Cause`
+//! - `registry`: `Macros`, `MacroFn`, `RegistryRefusal`, `Cause`
 //! - `stored`: a stored function and its fact
 //! - `example`: one function, from its meaning to its call
 //!
@@ -33,5 +33,5 @@ pub use call::{Answer, Call, Gather, Gathered};
 pub use functions::MacroFunctions;
 pub use meaning::Meaning;
 pub use no_functions::NoFunctions;
-pub use registry::{Cause, Macros, Refusal};
+pub use registry::{Cause, Macros, RegistryRefusal};
 pub use stored::MacroFn;

@@ -10,7 +10,7 @@ ghost use Rattle.user_macros.specs.Registry.{refusal, is_covered};
 ghost use Rattle.user_macros.specs.Functions.{named_among};
 ghost use Rattle.user_macros.specs.Known.{known_among};
 
-use crate::stored::Stored;
+use crate::stored::StoredFunction;
 use crate::{Answer, Call, Gather, MacroFn, MacroFunctions, Meaning};
 use readtable_core::{CharacterSlot, FnName, Readtable};
 use std::alloc::{AllocError, Global};
@@ -30,7 +30,7 @@ pub enum Cause {
 
 /// A function that was not registered, and why.
 #[derive(Drop)]
-pub struct Refusal {
+pub struct RegistryRefusal {
     pub cause: Cause,
     pub function: MacroFn,
 }
@@ -39,7 +39,7 @@ pub struct Refusal {
 #[derive(Drop)]
 pub struct Macros<M: Meaning> {
     meaning: M,
-    stored: Vec<Stored>,
+    stored: Vec<StoredFunction>,
 }
 
 impl<M: Meaning> Macros<M> {
@@ -58,7 +58,7 @@ impl<M: Meaning> Macros<M> {
     /// Registers a function, which may be called on every sound call and then answers what `M` says of the name, or out of
     /// memory. Refused as reserved, as unknown, as taken or as out of memory, in this order; then the function comes
     /// back, and nothing has changed.
-    pub fn register(&mut self, name: FnName, function: MacroFn) -> Result<(), Refusal>
+    pub fn register(&mut self, name: FnName, function: MacroFn) -> Result<(), RegistryRefusal>
         requires answers { ⟦<Macros<M> as MacroFunctions>⟧.answers self.old }
         requires callable { (call : _) → IsSoundCall call → MacroFn.pre function call }
         requires as_meant { (call : _) (a : _) → IsSoundCall call
@@ -76,33 +76,33 @@ impl<M: Meaning> Macros<M> {
         ensures given_back { IfErr result (λ r. r.function ≡ function) }
     {
         if name.as_bytes().starts_with(b"STD-") {
-            return Err(Refusal {
+            return Err(RegistryRefusal {
                 cause: Cause::Reserved,
                 function,
             });
         }
         if !self.meaning.names().contains(&name) {
-            return Err(Refusal {
+            return Err(RegistryRefusal {
                 cause: Cause::Unknown,
                 function,
             });
         }
         if self.find(name).is_some() {
-            return Err(Refusal {
+            return Err(RegistryRefusal {
                 cause: Cause::Taken,
                 function,
             });
         }
-        match self.stored.push(Stored { name, function }) {
+        match self.stored.push(StoredFunction { name, function }) {
             Ok(()) => Ok(()),
-            Err(refused) => Err(Refusal {
+            Err(refused) => Err(RegistryRefusal {
                 cause: Cause::OutOfMemory,
                 function: refused.value.function,
             }),
         }
     }
 
-    fn find(&self, name: FnName) -> Option<&Stored>
+    fn find(&self, name: FnName) -> Option<&StoredFunction>
         ensures found { is_some result
             ≡ is_among (map (λ s. s.name) self.now.stored.items) name }
         ensures named { IfSome result (λ s. s.now.name ≡ name) }

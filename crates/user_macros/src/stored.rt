@@ -10,7 +10,7 @@ pub type MacroFn = Box<dyn Fn(Call) -> Result<Answer, AllocError>>;
 
 /// A function under its name. It may be called on every sound call.
 #[derive(Drop)]
-pub struct Stored {
+pub struct StoredFunction {
     pub name: FnName,
     pub function: MacroFn,
     pub ghost callable: { (call : _) → IsSoundCall call → MacroFn.pre function call },

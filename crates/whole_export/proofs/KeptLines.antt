@@ -30,7 +30,7 @@ use Rattle.export_laws.proofs.One.{property_set}
 use Rattle.export_laws.proofs.OneForm.{one_more_made}
 use Rattle.export_laws.proofs.PropertyText.{property_is_form}
 use Rattle.export_laws.proofs.There.{value_there}
-use Rattle.whole_export.specs.Kept.{IsWithoutLeftOut, kept}
+use Rattle.whole_export.specs.Kept.{IsWithoutLeftOut, kept_properties}
 
 abbrev eq : Symbol → Symbol → Bool
 eq = eq_by_cmp symbol_cmp
@@ -63,7 +63,7 @@ module _ (s : WorldState) (sound : IsSound s) where
 
   abbrev pub kept_listed : WorldState → List Symbol → WorldState
   kept_listed now [] = now
-  kept_listed now (x ∷ xs) = kept_listed (with_each now x (kept s x)) xs
+  kept_listed now (x ∷ xs) = kept_listed (with_each now x (kept_properties s x)) xs
 
   -- no list is empty
   abbrev AreSome : Properties → Type 0
@@ -92,7 +92,7 @@ module _ (s : WorldState) (sound : IsSound s) where
 
   -- the lists that were there, and those that were put
   record AreKept (now : WorldState) (xs : List Symbol) : Type 0 where
-    lists : (q : Symbol) → plist (kept_listed now xs) q ≡ cond (list_any (eq q) xs) (kept s q) (plist now q)
+    lists : (q : Symbol) → plist (kept_listed now xs) q ≡ cond (list_any (eq q) xs) (kept_properties s q) (plist now q)
     some : AreSome (kept_listed now xs).properties
 
   its_apart : (x : Symbol) → IsApart (plist s x)
@@ -102,19 +102,19 @@ module _ (s : WorldState) (sound : IsSound s) where
         | Some ps ↦ λ is. (sound.properties x ps is).apart
       ] refl
 
-  kept_apart : (x : Symbol) → IsApart (kept s x)
+  kept_apart : (x : Symbol) → IsApart (kept_properties s x)
   kept_apart x = apart_filtered (λ p. is_form s.packages (property_form s.packages x p)) (plist s x) (its_apart x)
 
   all_kept : (xs : List Symbol) (now : WorldState) → AreApart symbol_cmp xs → ((q : Symbol) → list_any (eq q) xs ≡ true → plist now q ≡ []) → AreSome now.properties → AreKept now xs
   all_kept [] now apart none some = record { lists = λ q. refl; some = some }
   all_kept (x ∷ xs) now apart none some =
       let there : list_any (eq x) (x ∷ xs) ≡ true = ap (λ b. b || list_any (eq x) xs) (itself x) in
-      let one = one_list now x (kept s x) (kept_apart x) (none x there) in
-      let later = all_kept xs (with_each now x (kept s x)) apart.1
-      (λ q among. one q ∙ ap (λ b. cond b (kept s x) (plist now q)) (other q among) ∙ none q (or_right (eq q x) (list_any (eq q) xs) among))
-      (one_some now x (kept s x) (kept_apart x) (none x there) some) in
+      let one = one_list now x (kept_properties s x) (kept_apart x) (none x there) in
+      let later = all_kept xs (with_each now x (kept_properties s x)) apart.1
+      (λ q among. one q ∙ ap (λ b. cond b (kept_properties s x) (plist now q)) (other q among) ∙ none q (or_right (eq q x) (list_any (eq q) xs) among))
+      (one_some now x (kept_properties s x) (kept_apart x) (none x there) some) in
       record {
-        lists = λ q. later.lists q ∙ ap (cond (list_any (eq q) xs) (kept s q)) (one q) ∙ joined q;
+        lists = λ q. later.lists q ∙ ap (cond (list_any (eq q) xs) (kept_properties s q)) (one q) ∙ joined q;
         some = later.some;
       }
     where
@@ -128,10 +128,10 @@ module _ (s : WorldState) (sound : IsSound s) where
             | true ↦ λ e. absurd (both_ways (list_any (eq x) xs) apart.0 (ap (λ y. list_any (eq y) xs) (sym (one_symbol q x e)) ∙ among))
           ] refl
 
-      joined : (q : Symbol) → cond (list_any (eq q) xs) (kept s q) (cond (eq q x) (kept s x) (plist now q)) ≡ cond (eq q x || list_any (eq q) xs) (kept s q) (plist now q)
+      joined : (q : Symbol) → cond (list_any (eq q) xs) (kept_properties s q) (cond (eq q x) (kept_properties s x) (plist now q)) ≡ cond (eq q x || list_any (eq q) xs) (kept_properties s q) (plist now q)
       joined q =
-          elim (eq q x) as (λ b. eq q x ≡ b → cond (list_any (eq q) xs) (kept s q) (cond b (kept s x) (plist now q)) ≡ cond (b || list_any (eq q) xs) (kept s q) (plist now q)) [
-            | true ↦ λ e. ap (λ y. cond (list_any (eq q) xs) (kept s q) (kept s y)) (sym (one_symbol q x e)) ∙ either (list_any (eq q) xs) (kept s q)
+          elim (eq q x) as (λ b. eq q x ≡ b → cond (list_any (eq q) xs) (kept_properties s q) (cond b (kept_properties s x) (plist now q)) ≡ cond (b || list_any (eq q) xs) (kept_properties s q) (plist now q)) [
+            | true ↦ λ e. ap (λ y. cond (list_any (eq q) xs) (kept_properties s q) (kept_properties s y)) (sym (one_symbol q x e)) ∙ either (list_any (eq q) xs) (kept_properties s q)
             | false ↦ λ _. refl
           ] refl
         where
@@ -144,8 +144,8 @@ module _ (s : WorldState) (sound : IsSound s) where
   others_same : (xs : List Symbol) (now : WorldState) → kept_listed now xs ≡ with_properties now (kept_listed now xs).properties
   others_same [] now = refl
   others_same (x ∷ xs) now =
-      let one = with_each now x (kept s x) in
-      others_same xs one ∙ ap (λ w. with_properties w (kept_listed one xs).properties) (each_put now x (kept s x))
+      let one = with_each now x (kept_properties s x) in
+      others_same xs one ∙ ap (λ w. with_properties w (kept_listed one xs).properties) (each_put now x (kept_properties s x))
 
   abbrev pub kept_map : WorldState → Properties
   kept_map now = (kept_listed now (symbols_with_properties s)).properties
@@ -166,7 +166,7 @@ module _ (s : WorldState) (sound : IsSound s) where
       absent None e = refl
       absent (Some ps) e = absurd cc
 
-      among : (q : Symbol) (b : Bool) → list_any (eq q) (symbols_with_properties s) ≡ b → plist now q ≡ [] → cond b (kept s q) (plist now q) ≡ kept s q
+      among : (q : Symbol) (b : Bool) → list_any (eq q) (symbols_with_properties s) ≡ b → plist now q ≡ [] → cond b (kept_properties s q) (plist now q) ≡ kept_properties s q
       among q true is none = refl
       among q false is none =
           none ∙ sym (ap (λ ps. filter (λ p. is_form s.packages (property_form s.packages q p)) ps) (absent (finite.get s.properties q) (contains_key-keys s.properties q ∙ is)))
@@ -218,8 +218,8 @@ module _ (s : WorldState) (sound : IsSound s) where
         let there = subst (λ u. IsPlist u ps) (sym same) one.1 in
         let listed = list_made x ps now more (subst packages.IsSound (sym same) sound.packages) (subst (λ u. IsSymbol u x) (sym same) one.0) there.indicators there.values as_exported
         (subst (λ cs. Made now cs) text made) in
-        let put = each_put now x (kept s x) in
-        all_made xs (with_each now x (kept s x)) rest (ap (λ (w : WorldState). w.packages) put ∙ same) (All-tail (MayBe s sound) x xs all)
+        let put = each_put now x (kept_properties s x) in
+        all_made xs (with_each now x (kept_properties s x)) rest (ap (λ (w : WorldState). w.packages) put ∙ same) (All-tail (MayBe s sound) x xs all)
         (subst ReadsAsExported (sym put) (record { readtable = as_exported.readtable; base = as_exported.base; current = as_exported.current }))
         (subst (λ u. Made (with_each now x (filter (λ p. is_form u (property_form u x p)) ps)) more) same listed)
 

@@ -17,7 +17,7 @@ use Rattle.readtable_core.specs.Tables.{Table, entry_at, standard}
 use Rattle.package_table.specs.Table.{Name, keyword}
 use Rattle.user_macros.specs.Registry.{is_covered}
 use Rattle.plist_state.specs.declared.error.ReadtableError.TheVariants.{NoReadtable}
-use Rattle.plist_state.specs.Changes.{changed, dispatched, in_state, with_case, with_dispatch, with_dispatching, with_macro}
+use Rattle.plist_state.specs.Changes.{changed_readtable, dispatched, in_state, with_case, with_dispatch, with_dispatching, with_macro}
 use Rattle.plist_state.specs.State.{WorldState, standard_name}
 use Rattle.lisp_operators.specs.Evaluation.{Evaluation, also, and_then, gives, of_kind, writes}
 use Rattle.lisp_operators.specs.Kinds.{case_named}
@@ -81,7 +81,7 @@ module _ (names : List Name) (s : WorldState) (n : Name) where
     unfolding value_over
     like_set c d x y r z are =
         ap (λ e. and_then e set_syntax) are
-        ∙ (λ i. also false (after s t_object (in_state s (option_map_or (λ z. changed s.readtables n (λ t. Ok (with_entry t c (entry_at z d)))) (w.standard i) (Err NoReadtable)))))
+        ∙ (λ i. also false (after s t_object (in_state s (option_map_or (λ z. changed_readtable s.readtables n (λ t. Ok (with_entry t c (entry_at z d)))) (w.standard i) (Err NoReadtable)))))
         ∙ ap (λ said. also false (after s t_object said)) (changed_to s n table (with_entry table c (entry_at standard d)) (λ t. Ok (with_entry t c (entry_at standard d))) w refl)
 
     -- ---- a macro character

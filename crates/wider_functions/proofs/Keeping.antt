@@ -34,7 +34,7 @@ use Rattle.form_eval.proofs.Accepted.{accepted_with_more}
 use Rattle.world_text.specs.Snapshot.{table_named}
 use Rattle.snapshot_text.specs.Covered.{are_covered}
 use Rattle.session_words.specs.declared.mode.Mode.{Mode}
-use Rattle.prevalence_store.specs.meaning.Acceptance.{Acceptance, Rules, acceptance_of, accepted_by, accepts_by, after_by, base_in, between, form_limits, mode_of, package_in, read_by, rules_in_force, setting_by, table_in, transacted_by}
+use Rattle.prevalence_store.specs.meaning.Acceptance.{Acceptance, Rules, acceptance_of, accepted_reading, accepts_by, after_by, base_in, between, form_limits, mode_of, package_in, read_by, rules_in_force, setting_by, table_in, transacted_by}
 use Rattle.prevalence_store.specs.meaning.Forgetting.{forget_names, forgetting, is_forgetting}
 use Rattle.prevalence_store.specs.meaning.BeforeOperators.{rules_before_forgetting, rules_before_operators}
 use Rattle.prevalence_store.specs.meaning.Files.{IsWorldBy, MeansWorldBy}
@@ -81,9 +81,9 @@ module _ (was now : Rules) (fewer more : Functions) (knows : KnowsMore was now f
     whole_keeps own x given false gives = absurd (cc)
 
     by_reading : (mode : Mode) (text : List ℕ) (given : Acceptance) (before : Reading) → read_by was fewer w mode text ≡ before
-        → accepted_by was fewer w text before ≡ Ok given → accepts_by now more w mode text ≡ Ok given
+        → accepted_reading was fewer w text before ≡ Ok given → accepts_by now more w mode text ≡ Ok given
     by_reading mode text given (form x start «end» next) is gives =
-        ap (accepted_by now more w text) (knows.reads w mode text x start «end» next is)
+        ap (accepted_reading now more w text) (knows.reads w mode text x start «end» next is)
         ∙ whole_keeps (between start «end» text) x given (next == length text) gives
     by_reading mode text given empty is gives = absurd (cc)
     by_reading mode text given (refused number at) is gives = absurd (cc)

@@ -25,7 +25,7 @@ use Rattle.lisp_reading.specs.declared.way.Way.TheVariants.{Nothing, Next, List 
 use Rattle.lisp_reading.specs.Calls.{InvokedCall, caller}
 use Rattle.lisp_reading.specs.Plans.{Plan, gives, refuses, takes, scans, then_plan, next_byte, character, loop_in, loop, Fault, Read, within, limited, scanned, run}
 use Rattle.lisp_reading.specs.Setting.{Setting, setting_of, macro_call, user_way, way_in, function_of}
-use Rattle.lisp_reading.specs.Reading.{text_to, line_after, block_after, number_after, Piece, item, dot, closed, is_whitespace, without_space, piece_of, or_closed, next_item_turn, next_item, Items, items_step, items_turn, items_after, undotted, after_tail, after_dot, list_end, one_piece, answered, completed, opened, gathered, gathered_by, called, sub_called, sub_there, dispatched, macro_called, stands_alone, alone, token_found, attempt_by, inner, attempt, Outcome, form, outcome, reads_in, reads}
+use Rattle.lisp_reading.specs.Reading.{text_to, line_after, block_after, number_after, Piece, item, dot, closed, is_whitespace, without_space, piece_of, or_closed, next_item_turn, next_item, Items, items_step, items_turn, items_after, undotted, after_tail, after_dot, list_end, one_piece, plan_after_answer, completed, opened, gathered, gathered_by, called, sub_called, sub_there, dispatched, macro_called, stands_alone, alone, token_found, attempt_by, inner, attempt, Outcome, form, outcome, reads_in, reads}
 use Rattle.lisp_reading.proofs.Steps.{and_then, run_then}
 use Rattle.wider_functions.specs.Among.{AreAmong}
 
@@ -303,7 +303,7 @@ module _ (limits : Limits) (table : Table) (base : ℕ) (packages : Packages) (c
         let call = of_user name c sub number in
         let way : way_in many call ≡ way_in few call = ap (option_map (user_way (caller call))) (same_way name is) in
         subst (λ (w : Option Way). Widens (called few depth may call) (gathered_by many depth may2 call w)) (sym way)
-        (way_widens call (λ token spaced m. equal_widens _ _ (ap (answered packages limits.nesting depth token spaced) (same_answer name (macro_call call m) is))) (way_in few call))
+        (way_widens call (λ token spaced m. equal_widens _ _ (ap (plan_after_answer packages limits.nesting depth token spaced) (same_answer name (macro_call call m) is))) (way_in few call))
     user_widens name c sub number false is =
         let call = of_user name c sub number in
         let none : way_in few call ≡ None = ap (λ (b : Bool). option_map (user_way (caller call)) (cond b (fewer.way name) None)) is in

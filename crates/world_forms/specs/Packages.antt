@@ -30,8 +30,8 @@ change_line operator home name p =
 abbrev pub import_line : Name → Name × Name → List ℕ
 import_line p r = change_line (codes "IMPORT") r.1 r.0 p
 
-abbrev pub export_line : Name → Name → List ℕ
-export_line p n = change_line (codes "EXPORT") p n p
+abbrev pub export_form_line : Name → Name → List ℕ
+export_form_line p n = change_line (codes "EXPORT") p n p
 
 -- the form that makes p use a package, but for the use that is there from the first
 unfoldable pub use_line : Name → Name → List ℕ
@@ -48,7 +48,7 @@ module _ (t : Table) where
   unfoldable pub shown_lines : Name → List ℕ
   shown_lines p =
       if bytes_eq p common_lisp || bytes_eq p keyword then []
-      else flat_map (import_line p) (imports t p) ++ flat_map (export_line p) (external_names t p)
+      else flat_map (import_line p) (imports t p) ++ flat_map (export_form_line p) (external_names t p)
 
   -- the packages that it uses
   unfoldable pub use_lines : Name → List ℕ

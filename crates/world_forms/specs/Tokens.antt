@@ -17,13 +17,13 @@ abbrev pub is_plain_after : ℕ → Bool
 is_plain_after c = is_ascii_uppercase c || is_ascii_digit c || c == byte "-"
 
 -- a name that every Lisp reads as it stands: a capital letter, and then capital letters, digits and hyphens
-abbrev pub is_plain : Name → Bool
-is_plain [] = false
-is_plain (c ∷ cs) = is_ascii_uppercase c && list_all is_plain_after cs
+abbrev pub is_portable_name : Name → Bool
+is_portable_name [] = false
+is_portable_name (c ∷ cs) = is_ascii_uppercase c && list_all is_plain_after cs
 
 -- a name as a part of a token: as it stands, or between bars
 abbrev pub name_text : Name → List ℕ
-name_text name = if is_plain name then name else codes "|" ++ escaped is_escaped_in_bars name ++ codes "|"
+name_text name = if is_portable_name name then name else codes "|" ++ escaped is_escaped_in_bars name ++ codes "|"
 
 -- what comes before the name of a symbol
 abbrev pub prefix_text : Name → List ℕ

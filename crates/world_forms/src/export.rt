@@ -1,7 +1,7 @@
 //! All forms of a world.
 ghost use Rattle.std.specs.Prelude.{◌≡◌, [], decimal, option_map, IfOk, OnOk};
 ghost use Rattle.std.specs.Option.{option_map_or};
-ghost use Rattle.canon_printer.specs.Written.{Writes};
+ghost use Rattle.canon_printer.specs.Written.{AddsText};
 ghost use Rattle.world_forms.specs.Forms.{package_form, base_form, readtable_form, reading_forms, current_form, forms, last_newline, newline_in};
 ghost use Rattle.world_forms.specs.Properties.{left_out_lines};
 
@@ -78,7 +78,7 @@ fn data_forms(alloc: Global, world: &World) -> Result<Export, AllocError>
 /// be read under them.
 #[tactic(auto, unfolding(crate::specs::Forms::current_form))]
 fn push_current(forms: &mut Vec<u8>, world: &World, content: Content) -> Result<(), AllocError>
-    ensures { OnOk result (Writes forms.old forms.new (current_form world.now.0 content)) }
+    ensures { OnOk result (AddsText forms.old forms.new (current_form world.now.0 content)) }
 {
     forms.extend_from_slice(b"(PROGN ")?;
     push_package(forms, world)?;
@@ -90,7 +90,7 @@ fn push_current(forms: &mut Vec<u8>, world: &World, content: Content) -> Result<
 /// read as a form.
 #[tactic(auto, unfolding(crate::specs::Forms::last_newline))]
 fn push_last_newline(forms: &mut Vec<u8>, world: &World, content: Content) -> Result<(), AllocError>
-    ensures { OnOk result (Writes forms.old forms.new (last_newline world.now.0 content)) }
+    ensures { OnOk result (AddsText forms.old forms.new (last_newline world.now.0 content)) }
 {
     match content {
         Content::World => push_newline_in(forms, world.readtable(world.current_readtable())),
@@ -103,7 +103,7 @@ fn push_last_newline(forms: &mut Vec<u8>, world: &World, content: Content) -> Re
 
 /// Adds a newline, if this readtable discards it.
 fn push_newline_in(forms: &mut Vec<u8>, readtable: Option<&Readtable>) -> Result<(), AllocError>
-    ensures { OnOk result (Writes forms.old forms.new
+    ensures { OnOk result (AddsText forms.old forms.new
         (option_map_or newline_in (option_map (λ table. table.now) readtable.entry) [])) }
 {
     match readtable {
@@ -118,7 +118,7 @@ fn push_newline_in(forms: &mut Vec<u8>, readtable: Option<&Readtable>) -> Result
 /// What makes the package of a world current.
 #[tactic(auto, unfolding(crate::specs::Forms::package_form))]
 fn push_package(forms: &mut Vec<u8>, world: &World) -> Result<(), AllocError>
-    ensures { OnOk result (Writes forms.old forms.new (package_form world.now.0)) }
+    ensures { OnOk result (AddsText forms.old forms.new (package_form world.now.0)) }
 {
     forms.extend_from_slice(b"(IN-PACKAGE ")?;
     push_text(forms, world.current_package())?;
@@ -128,7 +128,7 @@ fn push_package(forms: &mut Vec<u8>, world: &World) -> Result<(), AllocError>
 /// What makes its read base and its readtable current, if the readtables are exported.
 #[tactic(auto, unfolding(crate::specs::Forms::reading_forms))]
 fn push_reading(forms: &mut Vec<u8>, world: &World, content: Content) -> Result<(), AllocError>
-    ensures { OnOk result (Writes forms.old forms.new (reading_forms world.now.0 content)) }
+    ensures { OnOk result (AddsText forms.old forms.new (reading_forms world.now.0 content)) }
 {
     match content {
         Content::World => {
@@ -143,7 +143,7 @@ fn push_reading(forms: &mut Vec<u8>, world: &World, content: Content) -> Result<
 
 /// What makes its read base current.
 fn push_base(forms: &mut Vec<u8>, world: &World) -> Result<(), AllocError>
-    ensures { OnOk result (Writes forms.old forms.new (base_form world.now.0)) }
+    ensures { OnOk result (AddsText forms.old forms.new (base_form world.now.0)) }
 {
     forms.extend_from_slice(b"(SETF *READ-BASE* ")?;
     push_decimal(forms, world.read_base())?;
@@ -153,7 +153,7 @@ fn push_base(forms: &mut Vec<u8>, world: &World) -> Result<(), AllocError>
 
 /// What makes its readtable current.
 fn push_readtable(forms: &mut Vec<u8>, world: &World) -> Result<(), AllocError>
-    ensures { OnOk result (Writes forms.old forms.new (readtable_form world.now.0)) }
+    ensures { OnOk result (AddsText forms.old forms.new (readtable_form world.now.0)) }
 {
     forms.extend_from_slice(b"(IN-READTABLE ")?;
     push_value(forms, b"", b"", KEYWORD, world.current_readtable())?;
@@ -163,7 +163,7 @@ fn push_readtable(forms: &mut Vec<u8>, world: &World) -> Result<(), AllocError>
 
 /// Adds a number.
 fn push_decimal(forms: &mut Vec<u8>, number: u8) -> Result<(), AllocError>
-    ensures { OnOk result (Writes forms.old forms.new (decimal number)) }
+    ensures { OnOk result (AddsText forms.old forms.new (decimal number)) }
 {
     let digits = number.to_string(*forms.allocator())?;
     forms.extend_from_slice(digits.as_bytes())

@@ -1,11 +1,11 @@
 //! The forms that make the packages.
 ghost use Rattle.std.specs.Prelude.{◌≡◌, ◌++◌, IfOk, OnOk};
 ghost use Rattle.std.specs.List.{flat_map};
-ghost use Rattle.canon_printer.specs.Written.{Writes};
+ghost use Rattle.canon_printer.specs.Written.{AddsText};
 ghost use Rattle.package_table.specs.Table.{initial as initial_packages};
 ghost use Rattle.package_table.specs.Readers.{names_of};
 ghost use Rattle.world_forms.specs.Tokens.{line, call_text};
-ghost use Rattle.world_forms.specs.Packages.{is_first, package_line, own_line, change_line, import_line, export_line, use_line};
+ghost use Rattle.world_forms.specs.Packages.{is_first, package_line, own_line, change_line, import_line, export_form_line, use_line};
 ghost use Rattle.world_forms.specs.Packages.{own_lines, shown_lines, use_lines, package_lines};
 
 use crate::texts::{push_call, push_text, push_value};
@@ -34,7 +34,7 @@ fn is_first(name: &[u8]) -> bool
 
 /// A form of an operator and texts.
 fn push_form(text: &mut Vec<u8>, operator: &[u8], texts: &[&[u8]]) -> Result<(), AllocError>
-    ensures { OnOk result (Writes text.old text.new
+    ensures { OnOk result (AddsText text.old text.new
         (line (call_text operator.now (names_of texts.now)))) }
 {
     push_call(text, operator, texts)?;
@@ -51,7 +51,7 @@ fn push_change(
     name: &[u8],
     owner: &[u8],
 ) -> Result<(), AllocError>
-    ensures { OnOk result (Writes text.old text.new
+    ensures { OnOk result (AddsText text.old text.new
         (change_line operator.now home.now name.now owner.now)) }
 {
     text.push(b'(')?;
@@ -66,7 +66,7 @@ fn push_change(
 /// A package, if it is not there from the first.
 #[tactic(auto, unfolding(crate::specs::Packages::package_line))]
 fn push_package(text: &mut Vec<u8>, owner: &[u8]) -> Result<(), AllocError>
-    ensures { OnOk result (Writes text.old text.new (package_line owner.now)) }
+    ensures { OnOk result (AddsText text.old text.new (package_line owner.now)) }
 {
     if is_first(owner) {
         return Ok(());
@@ -83,7 +83,7 @@ fn push_own_name(
     name: &[u8],
 ) -> Result<(), AllocError>
     requires { first.now.0 ≡ initial_packages }
-    ensures { OnOk result (Writes text.old text.new (own_line owner.now name.now)) }
+    ensures { OnOk result (AddsText text.old text.new (own_line owner.now name.now)) }
 {
     if first.is_present(owner, name) {
         return Ok(());
@@ -98,7 +98,7 @@ fn push_own_names(
     names: &[&[u8]],
 ) -> Result<(), AllocError>
     requires { first.now.0 ≡ initial_packages }
-    ensures { OnOk result (Writes text.old text.new
+    ensures { OnOk result (AddsText text.old text.new
         (flat_map (own_line owner.now) (names_of names.now))) }
 {
     for name in names {
@@ -117,7 +117,7 @@ fn push_own(
     owner: &[u8],
 ) -> Result<(), AllocError>
     requires { first.now.0 ≡ initial_packages }
-    ensures { OnOk result (Writes text.old text.new (own_lines packages.now.0 owner.now)) }
+    ensures { OnOk result (AddsText text.old text.new (own_lines packages.now.0 owner.now)) }
 {
     let names = listed(packages.own_names(alloc, owner))?;
     push_own_names(text, first, owner, names.as_slice())
@@ -128,7 +128,7 @@ fn push_imports(
     owner: &[u8],
     imports: &[(Bytes, Bytes)],
 ) -> Result<(), AllocError>
-    ensures { OnOk result (Writes text.old text.new
+    ensures { OnOk result (AddsText text.old text.new
         (flat_map (import_line owner.now) imports.now)) }
 {
     for import in imports {
@@ -139,8 +139,8 @@ fn push_imports(
 }
 
 fn push_exports(text: &mut Vec<u8>, owner: &[u8], names: &[&[u8]]) -> Result<(), AllocError>
-    ensures { OnOk result (Writes text.old text.new
-        (flat_map (export_line owner.now) (names_of names.now))) }
+    ensures { OnOk result (AddsText text.old text.new
+        (flat_map (export_form_line owner.now) (names_of names.now))) }
 {
     for name in names {
         push_change(text, b"EXPORT", owner, name, owner)?;
@@ -156,7 +156,7 @@ fn push_shown(
     packages: &Packages,
     owner: &[u8],
 ) -> Result<(), AllocError>
-    ensures { OnOk result (Writes text.old text.new (shown_lines packages.now.0 owner.now)) }
+    ensures { OnOk result (AddsText text.old text.new (shown_lines packages.now.0 owner.now)) }
 {
     if owner == COMMON_LISP || owner == KEYWORD {
         return Ok(());
@@ -170,7 +170,7 @@ fn push_shown(
 /// A package that a package uses, but for the use that is there from the first.
 #[tactic(auto, unfolding(crate::specs::Packages::use_line))]
 fn push_use(text: &mut Vec<u8>, owner: &[u8], used: &[u8]) -> Result<(), AllocError>
-    ensures { OnOk result (Writes text.old text.new (use_line owner.now used.now)) }
+    ensures { OnOk result (AddsText text.old text.new (use_line owner.now used.now)) }
 {
     if owner == COMMON_LISP_USER && used == COMMON_LISP {
         return Ok(());
@@ -179,7 +179,7 @@ fn push_use(text: &mut Vec<u8>, owner: &[u8], used: &[u8]) -> Result<(), AllocEr
 }
 
 fn push_used_names(text: &mut Vec<u8>, owner: &[u8], names: &[Bytes]) -> Result<(), AllocError>
-    ensures { OnOk result (Writes text.old text.new (flat_map (use_line owner.now) names.now)) }
+    ensures { OnOk result (AddsText text.old text.new (flat_map (use_line owner.now) names.now)) }
 {
     for name in names {
         push_use(text, owner, name.as_slice())?;
@@ -195,14 +195,14 @@ fn push_uses(
     packages: &Packages,
     owner: &[u8],
 ) -> Result<(), AllocError>
-    ensures { OnOk result (Writes text.old text.new (use_lines packages.now.0 owner.now)) }
+    ensures { OnOk result (AddsText text.old text.new (use_lines packages.now.0 owner.now)) }
 {
     let names = listed(packages.uses(alloc, owner))?;
     push_used_names(text, owner, names.as_slice())
 }
 
 fn push_each_package(text: &mut Vec<u8>, owners: &[&[u8]]) -> Result<(), AllocError>
-    ensures { OnOk result (Writes text.old text.new (flat_map package_line (names_of owners.now))) }
+    ensures { OnOk result (AddsText text.old text.new (flat_map package_line (names_of owners.now))) }
 {
     for owner in owners {
         push_package(text, owner)?;
@@ -216,7 +216,7 @@ fn push_each_own(
     packages: &Packages,
     owners: &[&[u8]],
 ) -> Result<(), AllocError>
-    ensures { OnOk result (Writes text.old text.new
+    ensures { OnOk result (AddsText text.old text.new
         (flat_map (own_lines packages.now.0) (names_of owners.now))) }
 {
     let first = Packages::new(alloc)?;
@@ -232,7 +232,7 @@ fn push_each_shown(
     packages: &Packages,
     owners: &[&[u8]],
 ) -> Result<(), AllocError>
-    ensures { OnOk result (Writes text.old text.new
+    ensures { OnOk result (AddsText text.old text.new
         (flat_map (shown_lines packages.now.0) (names_of owners.now))) }
 {
     for owner in owners {
@@ -247,7 +247,7 @@ fn push_each_use(
     packages: &Packages,
     owners: &[&[u8]],
 ) -> Result<(), AllocError>
-    ensures { OnOk result (Writes text.old text.new
+    ensures { OnOk result (AddsText text.old text.new
         (flat_map (use_lines packages.now.0) (names_of owners.now))) }
 {
     for owner in owners {
@@ -263,7 +263,7 @@ pub(crate) fn push_packages(
     text: &mut Vec<u8>,
     packages: &Packages,
 ) -> Result<(), AllocError>
-    ensures { OnOk result (Writes text.old text.new (package_lines packages.now.0)) }
+    ensures { OnOk result (AddsText text.old text.new (package_lines packages.now.0)) }
 {
     let owners = packages.package_names(alloc)?;
     push_each_package(text, owners.as_slice())?;

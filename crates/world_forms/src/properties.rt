@@ -7,7 +7,7 @@ ghost use Rattle.lisp_reading.specs.Reading.{Outcome, reads};
 ghost use Rattle.form_reader.specs.Reader.{IsOutcome};
 ghost use Rattle.plist_state.specs.Readers.{borrowed_symbol, borrowed_symbols};
 ghost use Rattle.plist_state.specs.Shown.{property_of};
-ghost use Rattle.canon_printer.specs.Written.{Writes};
+ghost use Rattle.canon_printer.specs.Written.{AddsText};
 ghost use Rattle.world_forms.specs.Tokens.{line, symbol_text, quoted_text, told_text};
 ghost use Rattle.world_forms.specs.Properties.{form_setting, ends_at, property_form, property_line, left_out_line, plist_lines, plist_left_out, property_lines, left_out_lines};
 
@@ -23,7 +23,7 @@ use user_macros::{Macros, NoFunctions};
 
 /// Adds what evaluates to a symbol: its token after a quote.
 fn push_quoted(text: &mut Vec<u8>, home: &[u8], name: &[u8]) -> Result<(), AllocError>
-    ensures { OnOk result (Writes text.old text.new (quoted_text home.now name.now)) }
+    ensures { OnOk result (AddsText text.old text.new (quoted_text home.now name.now)) }
 {
     push_value(text, b"'", b"", home, name)
 }
@@ -129,7 +129,7 @@ fn push_names(
     name: &[u8],
     property: &Property<'_>,
 ) -> Result<(), AllocError>
-    ensures { OnOk result (Writes left_out.old left_out.new (line (told_text (symbol_text home.now name.now
+    ensures { OnOk result (AddsText left_out.old left_out.new (line (told_text (symbol_text home.now name.now
         ++ codes " " ++ symbol_text property.now.home.now property.now.name.now)))) }
 {
     let names = names_of(*left_out.allocator(), home, name, property)?;
@@ -151,9 +151,9 @@ fn push_property(
 ) -> Result<(), AllocError>
     requires proper { is_proper property.now.value.now ≡ true }
     requires readtable { readtable.now ≡ standard }
-    ensures text { OnOk result (Writes text.old text.new
+    ensures text { OnOk result (AddsText text.old text.new
         (property_line packages.now.0 (borrowed_symbol symbol.now) (property_of property.now))) }
-    ensures left_out { OnOk result (Writes left_out.old left_out.new
+    ensures left_out { OnOk result (AddsText left_out.old left_out.new
         (left_out_line packages.now.0 (borrowed_symbol symbol.now) (property_of property.now))) }
 {
     let (home, name) = symbol;
@@ -178,9 +178,9 @@ fn push_listed(
     properties: &PropertyList<'_>,
 ) -> Result<(), AllocError>
     requires { readtable.now ≡ standard }
-    ensures text { OnOk result (Writes text.old text.new
+    ensures text { OnOk result (AddsText text.old text.new
         (flat_map (property_line packages.now.0 (borrowed_symbol symbol.now)) properties.now)) }
-    ensures left_out { OnOk result (Writes left_out.old left_out.new
+    ensures left_out { OnOk result (AddsText left_out.old left_out.new
         (flat_map (left_out_line packages.now.0 (borrowed_symbol symbol.now)) properties.now)) }
 {
     for index in 0..properties.len() {
@@ -203,9 +203,9 @@ fn push_plist(
     symbol: &(&[u8], &[u8]),
 ) -> Result<(), AllocError>
     requires { readtable.now ≡ standard }
-    ensures text { OnOk result (Writes text.old text.new
+    ensures text { OnOk result (AddsText text.old text.new
         (plist_lines world.now.0 (borrowed_symbol symbol.now))) }
-    ensures left_out { OnOk result (Writes left_out.old left_out.new
+    ensures left_out { OnOk result (AddsText left_out.old left_out.new
         (plist_left_out world.now.0 (borrowed_symbol symbol.now))) }
 {
     let (home, name) = symbol;
@@ -230,9 +230,9 @@ fn push_plists(
     symbols: &[(&[u8], &[u8])],
 ) -> Result<(), AllocError>
     requires { readtable.now ≡ standard }
-    ensures text { OnOk result (Writes text.old text.new
+    ensures text { OnOk result (AddsText text.old text.new
         (flat_map (plist_lines world.now.0) (borrowed_symbols symbols.now))) }
-    ensures left_out { OnOk result (Writes left_out.old left_out.new
+    ensures left_out { OnOk result (AddsText left_out.old left_out.new
         (flat_map (plist_left_out world.now.0) (borrowed_symbols symbols.now))) }
 {
     for symbol in symbols {
@@ -249,8 +249,8 @@ pub(crate) fn push_properties(
     left_out: &mut Vec<u8>,
     world: &World,
 ) -> Result<(), AllocError>
-    ensures text { OnOk result (Writes text.old text.new (property_lines world.now.0)) }
-    ensures left_out { OnOk result (Writes left_out.old left_out.new (left_out_lines world.now.0)) }
+    ensures text { OnOk result (AddsText text.old text.new (property_lines world.now.0)) }
+    ensures left_out { OnOk result (AddsText left_out.old left_out.new (left_out_lines world.now.0)) }
 {
     let readtable = Readtable::standard(alloc)?;
     let symbols = world.owners(alloc)?;

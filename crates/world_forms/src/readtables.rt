@@ -3,7 +3,7 @@ ghost use Rattle.std.specs.Prelude.{◌≡◌, ◌<◌, ◌≤◌, ◌++◌, cod
 ghost use Rattle.std.specs.List.{flat_map, range_with_len};
 ghost use Rattle.readtable_core.specs.Cases.{case_name};
 ghost use Rattle.readtable_core.specs.Tables.{entry_at, standard as standard_table};
-ghost use Rattle.canon_printer.specs.Written.{Writes};
+ghost use Rattle.canon_printer.specs.Written.{AddsText};
 ghost use Rattle.world_forms.specs.Tokens.{character_argument};
 ghost use Rattle.world_forms.specs.Readtables.{character_of_type, kind_argument, table_argument, table_end, like_line, syntax_line, macro_line, sub_line, dispatch_lines};
 ghost use Rattle.world_forms.specs.Readtables.{entry_lines, changed_lines, set_case_line, case_line, table_lines, named_lines, readtable_lines};
@@ -38,14 +38,14 @@ struct Forms<'a> {
 impl Forms<'_> {
     fn push_character(&self, text: &mut Vec<u8>, c: u8) -> Result<(), AllocError>
         requires { c < 128 }
-        ensures { OnOk result (Writes text.old text.new (character_argument c)) }
+        ensures { OnOk result (AddsText text.old text.new (character_argument c)) }
     {
         push_character(self.alloc, text, self.packages, c)
     }
 
     /// The readtable as an argument.
     fn push_table_name(&self, text: &mut Vec<u8>) -> Result<(), AllocError>
-        ensures { OnOk result (Writes text.old text.new (table_argument self.now.name.now)) }
+        ensures { OnOk result (AddsText text.old text.new (table_argument self.now.name.now)) }
     {
         text.push(b' ')?;
         push_value(text, b"", b"", KEYWORD, self.name)
@@ -53,7 +53,7 @@ impl Forms<'_> {
 
     /// The same, and the end of the form.
     fn push_end(&self, text: &mut Vec<u8>) -> Result<(), AllocError>
-        ensures { OnOk result (Writes text.old text.new (table_end self.now.name.now)) }
+        ensures { OnOk result (AddsText text.old text.new (table_end self.now.name.now)) }
     {
         self.push_table_name(text)?;
         text.extend_from_slice(b")\n")
@@ -63,7 +63,7 @@ impl Forms<'_> {
     fn push_like(&self, text: &mut Vec<u8>, c: u8, there: u8) -> Result<(), AllocError>
         requires character { c < 128 }
         requires there { there < 128 }
-        ensures { OnOk result (Writes text.old text.new (like_line self.now.name.now c there)) }
+        ensures { OnOk result (AddsText text.old text.new (like_line self.now.name.now c there)) }
     {
         text.extend_from_slice(b"(SET-SYNTAX-FROM-CHAR")?;
         self.push_character(text, c)?;
@@ -78,7 +78,7 @@ impl Forms<'_> {
     fn push_syntax(&self, text: &mut Vec<u8>, c: u8, syntax: Syntax) -> Result<(), AllocError>
         requires standard { self.now.standard.now ≡ standard_table }
         requires character { c < 128 }
-        ensures { OnOk result (Writes text.old text.new (syntax_line self.now.name.now c syntax)) }
+        ensures { OnOk result (AddsText text.old text.new (syntax_line self.now.name.now c syntax)) }
     {
         match character_of_type(self.standard, syntax) {
             Some(there) => self.push_like(text, c, there),
@@ -96,7 +96,7 @@ impl Forms<'_> {
         syntax: Syntax,
     ) -> Result<(), AllocError>
         requires { c < 128 }
-        ensures { OnOk result (Writes text.old text.new
+        ensures { OnOk result (AddsText text.old text.new
             (macro_line self.now.name.now c function syntax)) }
     {
         text.extend_from_slice(b"(SET-MACRO-CHARACTER")?;
@@ -117,7 +117,7 @@ impl Forms<'_> {
     ) -> Result<(), AllocError>
         requires character { c < 128 }
         requires sub_character { sub < 128 }
-        ensures { OnOk result (Writes text.old text.new
+        ensures { OnOk result (AddsText text.old text.new
             (sub_line self.now.name.now c sub function)) }
     {
         let Some(function) = function else {
@@ -139,7 +139,7 @@ impl Forms<'_> {
     ) -> Result<(), AllocError>
         requires character { c < 128 }
         requires sub_character { sub < 128 }
-        ensures { OnOk result (Writes text.old text.new
+        ensures { OnOk result (AddsText text.old text.new
             (sub_line self.now.name.now c sub (get_or entry.now.dispatch sub None))) }
     {
         self.push_sub(text, c, sub, function_at(entry, sub))
@@ -155,7 +155,7 @@ impl Forms<'_> {
     ) -> Result<(), AllocError>
         requires character { c < 128 }
         requires count { count ≤ 128 }
-        ensures { OnOk result (Writes text.old text.new
+        ensures { OnOk result (AddsText text.old text.new
             (flat_map (λ sub. sub_line self.now.name.now c sub (get_or entry.now.dispatch sub None))
             (range_with_len 0 count))) }
     {
@@ -173,7 +173,7 @@ impl Forms<'_> {
         entry: &CharacterSlot,
     ) -> Result<(), AllocError>
         requires { c < 128 }
-        ensures { OnOk result (Writes text.old text.new
+        ensures { OnOk result (AddsText text.old text.new
             (dispatch_lines self.now.name.now c entry.now)) }
     {
         text.extend_from_slice(b"(MAKE-DISPATCH-MACRO-CHARACTER")?;
@@ -187,7 +187,7 @@ impl Forms<'_> {
     fn push_entry(&self, text: &mut Vec<u8>, c: u8, entry: &CharacterSlot) -> Result<(), AllocError>
         requires standard { self.now.standard.now ≡ standard_table }
         requires character { c < 128 }
-        ensures { OnOk result (Writes text.old text.new
+        ensures { OnOk result (AddsText text.old text.new
             (entry_lines self.now.name.now c entry.now)) }
     {
         match entry.function() {
@@ -202,7 +202,7 @@ impl Forms<'_> {
     fn push_changed(&self, text: &mut Vec<u8>, table: &Readtable, c: u8) -> Result<(), AllocError>
         requires standard { self.now.standard.now ≡ standard_table }
         requires character { c < 128 }
-        ensures { OnOk result (Writes text.old text.new
+        ensures { OnOk result (AddsText text.old text.new
             (changed_lines self.now.name.now table.now c)) }
     {
         if table.same_entry(self.standard, c) {
@@ -220,7 +220,7 @@ impl Forms<'_> {
     ) -> Result<(), AllocError>
         requires standard { self.now.standard.now ≡ standard_table }
         requires count { count ≤ 128 }
-        ensures { OnOk result (Writes text.old text.new
+        ensures { OnOk result (AddsText text.old text.new
             (flat_map (changed_lines self.now.name.now table.now) (range_with_len 0 count))) }
     {
         for c in 0..count {
@@ -231,7 +231,7 @@ impl Forms<'_> {
 
     /// The case of this name.
     fn push_set_case(&self, text: &mut Vec<u8>, case: &[u8]) -> Result<(), AllocError>
-        ensures { OnOk result (Writes text.old text.new (set_case_line self.now.name.now case.now)) }
+        ensures { OnOk result (AddsText text.old text.new (set_case_line self.now.name.now case.now)) }
     {
         text.extend_from_slice(b"(SETF (READTABLE-CASE")?;
         self.push_table_name(text)?;
@@ -244,7 +244,7 @@ impl Forms<'_> {
     /// The case, if it is another than in the standard readtable.
     #[tactic(auto, unfolding(crate::specs::Readtables::case_line))]
     fn push_case(&self, text: &mut Vec<u8>, letters: Case) -> Result<(), AllocError>
-        ensures { OnOk result (Writes text.old text.new (case_line self.now.name.now letters)) }
+        ensures { OnOk result (AddsText text.old text.new (case_line self.now.name.now letters)) }
     {
         match letters {
             Case::Upcase => Ok(()),
@@ -257,7 +257,7 @@ impl Forms<'_> {
     /// All of it.
     fn push_table(&self, text: &mut Vec<u8>, table: &Readtable) -> Result<(), AllocError>
         requires { self.now.standard.now ≡ standard_table }
-        ensures { OnOk result (Writes text.old text.new
+        ensures { OnOk result (AddsText text.old text.new
             (table_lines self.now.name.now table.now)) }
     {
         text.extend_from_slice(b"(COPY-READTABLE :STANDARD")?;
@@ -270,7 +270,7 @@ impl Forms<'_> {
 
 /// Whether a macro character ends tokens, as an argument.
 fn push_kind(text: &mut Vec<u8>, syntax: Syntax) -> Result<(), AllocError>
-    ensures { OnOk result (Writes text.old text.new (kind_argument syntax)) }
+    ensures { OnOk result (AddsText text.old text.new (kind_argument syntax)) }
 {
     match syntax {
         Syntax::NonTerminatingMacro => text.extend_from_slice(b" T"),
@@ -310,7 +310,7 @@ fn push_named(
     name: &[u8],
 ) -> Result<(), AllocError>
     requires { standard.now ≡ standard_table }
-    ensures { OnOk result (Writes text.old text.new (named_lines world.now.0 name.now)) }
+    ensures { OnOk result (AddsText text.old text.new (named_lines world.now.0 name.now)) }
 {
     if name == STANDARD {
         return Ok(());
@@ -335,7 +335,7 @@ fn push_each(
     names: &[Bytes],
 ) -> Result<(), AllocError>
     requires { standard.now ≡ standard_table }
-    ensures { OnOk result (Writes text.old text.new
+    ensures { OnOk result (AddsText text.old text.new
         (flat_map (named_lines world.now.0) names.now)) }
 {
     for name in names {
@@ -351,7 +351,7 @@ pub(crate) fn push_readtables(
     text: &mut Vec<u8>,
     world: &World,
 ) -> Result<(), AllocError>
-    ensures { OnOk result (Writes text.old text.new (readtable_lines world.now.0)) }
+    ensures { OnOk result (AddsText text.old text.new (readtable_lines world.now.0)) }
 {
     let standard = Readtable::standard(alloc)?;
     let names = world.readtable_names(alloc)?;

@@ -2,9 +2,9 @@
 ghost use Rattle.std.specs.Prelude.{◌≡◌, ◌<◌, [], ◌∷◌, ◌++◌, map, if◌then◌else◌, codes, OnOk};
 ghost use Rattle.std.specs.List.{list_all, flat_map};
 ghost use Rattle.canon_printer.specs.Names.{escaped, is_escaped_in_bars, is_invalid};
-ghost use Rattle.canon_printer.specs.Written.{Writes, printed_text};
+ghost use Rattle.canon_printer.specs.Written.{AddsText, printed_text};
 ghost use Rattle.package_table.specs.Readers.{names_of};
-ghost use Rattle.world_forms.specs.Tokens.{is_plain, is_plain_after, name_text, prefix_text, symbol_text, prefix_length, is_too_long};
+ghost use Rattle.world_forms.specs.Tokens.{is_portable_name, is_plain_after, name_text, prefix_text, symbol_text, prefix_length, is_too_long};
 ghost use Rattle.world_forms.specs.Tokens.{text_argument, call_text, value_text, quoted_text, character_argument, keyword_argument};
 ghost use Rattle.world_forms.specs.Tokens.{hex_digit, told_character, told_text};
 
@@ -17,7 +17,7 @@ use std::alloc::{AllocError, Global};
 
 /// Adds a byte, after a backslash if it would not stand for itself.
 fn push_byte(text: &mut Vec<u8>, byte: u8, is_escaped: bool) -> Result<(), AllocError>
-    ensures { OnOk result (Writes text.old text.new
+    ensures { OnOk result (AddsText text.old text.new
         (if is_escaped then codes "\\" ++ byte ∷ [] else byte ∷ [])) }
 {
     if is_escaped {
@@ -29,7 +29,7 @@ fn push_byte(text: &mut Vec<u8>, byte: u8, is_escaped: bool) -> Result<(), Alloc
 
 /// Adds a text.
 pub(crate) fn push_text(text: &mut Vec<u8>, bytes: &[u8]) -> Result<(), AllocError>
-    ensures { OnOk result (Writes text.old text.new (printed_text bytes.now)) }
+    ensures { OnOk result (AddsText text.old text.new (printed_text bytes.now)) }
 {
     text.push(b'"')?;
     for byte in bytes {
@@ -55,7 +55,7 @@ fn is_escaped_in_bars(c: u8) -> bool
 
 /// Adds a name between bars.
 fn push_barred(text: &mut Vec<u8>, name: &[u8]) -> Result<(), AllocError>
-    ensures { OnOk result (Writes text.old text.new
+    ensures { OnOk result (AddsText text.old text.new
         (codes "|" ++ escaped is_escaped_in_bars name.now ++ codes "|")) }
 {
     text.push(b'|')?;
@@ -80,7 +80,7 @@ fn are_plain_after(name: &[u8]) -> bool
 
 /// Whether a name is read as it stands: a capital letter, and then capital letters, digits and hyphens.
 fn is_plain(name: &[u8]) -> bool
-    ensures { result ≡ is_plain name.now }
+    ensures { result ≡ is_portable_name name.now }
 {
     match name {
         [] => false,
@@ -90,7 +90,7 @@ fn is_plain(name: &[u8]) -> bool
 
 /// Adds a name as a part of a token.
 fn push_name(text: &mut Vec<u8>, name: &[u8]) -> Result<(), AllocError>
-    ensures { OnOk result (Writes text.old text.new (name_text name.now)) }
+    ensures { OnOk result (AddsText text.old text.new (name_text name.now)) }
 {
     if is_plain(name) {
         text.extend_from_slice(name)
@@ -101,7 +101,7 @@ fn push_name(text: &mut Vec<u8>, name: &[u8]) -> Result<(), AllocError>
 
 /// Adds what comes before the name of a symbol.
 fn push_prefix(text: &mut Vec<u8>, home: &[u8]) -> Result<(), AllocError>
-    ensures { OnOk result (Writes text.old text.new (prefix_text home.now)) }
+    ensures { OnOk result (AddsText text.old text.new (prefix_text home.now)) }
 {
     if home == KEYWORD {
         return text.extend_from_slice(b":");
@@ -116,7 +116,7 @@ fn push_prefix(text: &mut Vec<u8>, home: &[u8]) -> Result<(), AllocError>
 /// Adds the token of a symbol: the name alone if its home is COMMON-LISP-USER, and else after its home.
 #[tactic(auto, unfolding(crate::specs::Tokens::symbol_text))]
 pub(crate) fn push_symbol(text: &mut Vec<u8>, home: &[u8], name: &[u8]) -> Result<(), AllocError>
-    ensures { OnOk result (Writes text.old text.new (symbol_text home.now name.now)) }
+    ensures { OnOk result (AddsText text.old text.new (symbol_text home.now name.now)) }
 {
     push_prefix(text, home)?;
     push_name(text, name)
@@ -153,7 +153,7 @@ pub(crate) fn push_value(
     home: &[u8],
     name: &[u8],
 ) -> Result<(), AllocError>
-    ensures { OnOk result (Writes text.old text.new
+    ensures { OnOk result (AddsText text.old text.new
         (value_text before.now after.now home.now name.now)) }
 {
     if is_too_long(home, name) {
@@ -166,7 +166,7 @@ pub(crate) fn push_value(
 
 /// Adds texts as arguments.
 fn push_arguments(text: &mut Vec<u8>, texts: &[&[u8]]) -> Result<(), AllocError>
-    ensures { OnOk result (Writes text.old text.new (flat_map text_argument (names_of texts.now))) }
+    ensures { OnOk result (AddsText text.old text.new (flat_map text_argument (names_of texts.now))) }
 {
     for argument in texts {
         text.push(b' ')?;
@@ -182,7 +182,7 @@ pub(crate) fn push_call(
     operator: &[u8],
     texts: &[&[u8]],
 ) -> Result<(), AllocError>
-    ensures { OnOk result (Writes text.old text.new (call_text operator.now (names_of texts.now))) }
+    ensures { OnOk result (AddsText text.old text.new (call_text operator.now (names_of texts.now))) }
 {
     text.push(b'(')?;
     text.extend_from_slice(operator)?;
@@ -193,7 +193,7 @@ pub(crate) fn push_call(
 
 /// Adds a keyword as an argument.
 pub(crate) fn push_keyword(text: &mut Vec<u8>, name: &[u8]) -> Result<(), AllocError>
-    ensures { OnOk result (Writes text.old text.new (keyword_argument name.now)) }
+    ensures { OnOk result (AddsText text.old text.new (keyword_argument name.now)) }
 {
     text.push(b' ')?;
     push_symbol(text, KEYWORD, name)
@@ -207,7 +207,7 @@ pub(crate) fn push_character(
     character: u8,
 ) -> Result<(), AllocError>
     requires { character < 128 }
-    ensures { OnOk result (Writes text.old text.new (character_argument character)) }
+    ensures { OnOk result (AddsText text.old text.new (character_argument character)) }
 {
     packages.soundness();
     let printed = print(alloc, &Datum::Char(character), packages, COMMON_LISP_USER)?;
@@ -225,7 +225,7 @@ fn hex_digit(n: u8) -> u8
 
 /// Adds a character for a terminal: one that a terminal would obey by its number.
 fn push_told_character(text: &mut Vec<u8>, c: u8) -> Result<(), AllocError>
-    ensures { OnOk result (Writes text.old text.new (told_character c)) }
+    ensures { OnOk result (AddsText text.old text.new (told_character c)) }
 {
     if c < 32 || c == 127 {
         let escape = [b'\\', b'x', hex_digit(c / 16), hex_digit(c % 16)];
@@ -237,7 +237,7 @@ fn push_told_character(text: &mut Vec<u8>, c: u8) -> Result<(), AllocError>
 
 /// Adds a text for a terminal.
 pub(crate) fn push_told(text: &mut Vec<u8>, bytes: &[u8]) -> Result<(), AllocError>
-    ensures { OnOk result (Writes text.old text.new (told_text bytes.now)) }
+    ensures { OnOk result (AddsText text.old text.new (told_text bytes.now)) }
 {
     for byte in bytes {
         push_told_character(text, *byte)?;

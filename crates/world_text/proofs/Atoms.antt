@@ -17,9 +17,9 @@ use Rattle.token_scan.specs.declared.mark.Mark.{Mark}
 use Rattle.token_scan.specs.declared.mark.Mark.TheVariants.{Plain, Bar}
 use Rattle.token_meaning.specs.declared.token.TokenName.TheVariants.{Unqualified, Keyword, External, Internal}
 use Rattle.token_meaning.specs.Numerals.{is_empty}
-use Rattle.token_meaning.specs.Numbers.{is_point, number_of}
+use Rattle.token_meaning.specs.Numbers.{is_point, number_in_base}
 use Rattle.token_meaning.specs.Folding.{in_upper_case}
-use Rattle.token_meaning.specs.Meanings.{Meaning, number, name, is_plain as is_plain_mark, name_of, meaning_of}
+use Rattle.token_meaning.specs.Meanings.{Meaning, number, name, is_unescaped as is_plain_mark, name_of, meaning_of}
 use Rattle.package_table.specs.Table.{Name, Table, IsSound, IsPresent, keyword}
 use Rattle.package_table.specs.Lookup.{is_symbol, is_external}
 use Rattle.package_table.specs.Resolving.{found_at, resolution, external_resolution, internal_resolution}
@@ -29,7 +29,7 @@ use Rattle.canon_printer.specs.Printed.{is_accessible, printed}
 use Rattle.canon_printer.proofs.Resolved.{accessible_resolved, home_there, external_resolved, internal_resolved}
 use Rattle.lisp_reading.specs.declared.told.Told.{Told}
 use Rattle.lisp_reading.specs.declared.told.Told.TheVariants.{Object as told_object}
-use Rattle.lisp_reading.specs.Naming.{symbol_at, symbol_in, told_of}
+use Rattle.lisp_reading.specs.Naming.{symbol_at, symbol_in, told_meaning}
 use Rattle.world_text.proofs.Marked.{plain_marks, name_marks, quoted_marks, printed_marks}
 use Rattle.world_text.proofs.Characters.{in_number, is_kept, digit_kept, in_number_below}
 use Rattle.world_text.proofs.Spelling.{IsAscii, barred_spelled, begins_token, Spelled, spelled_both, plain_spelled, name_spelled, kept_starts, starts_both, name_starts}
@@ -51,7 +51,7 @@ barred_text own ascii = record { spelled = barred_spelled own ascii; starts = re
 module _ (t : Table) (current : Name) where
   -- what these marks mean, in capital letters
   abbrev pub meant : List Mark → Result Told ℕ
-  meant marks = told_of t current (meaning_of 10 (in_upper_case marks))
+  meant marks = told_meaning t current (meaning_of 10 (in_upper_case marks))
 
   -- the text spells the marks, of which there are some, and they mean the object
   pub record ReadsAs (text : List ℕ) (marks : List Mark) (x : Object) : Type 0 where
@@ -80,18 +80,18 @@ module _ (t : Table) (current : Name) where
   all_plain [] = refl
   all_plain (c ∷ cs) = all_plain cs
 
-  number_meaning : (text : List ℕ) (x : Object) → list_all is_point text ≡ false → number_of 10 text ≡ Some (Ok x) → meaning_of 10 (plain_marks text) ≡ Ok (number x)
+  number_meaning : (text : List ℕ) (x : Object) → list_all is_point text ≡ false → number_in_base 10 text ≡ Some (Ok x) → meaning_of 10 (plain_marks text) ≡ Ok (number x)
   number_meaning text x no_point given = rw (all_plain text, plain_characters text, no_point, given) refl
 
-  number_reads : (text : List ℕ) (x : Object) → list_all in_number text ≡ true → not (is_empty text) ≡ true → number_of 10 text ≡ Some (Ok x) → ReadsAs text (plain_marks text) x
+  number_reads : (text : List ℕ) (x : Object) → list_all in_number text ≡ true → not (is_empty text) ≡ true → number_in_base 10 text ≡ Some (Ok x) → ReadsAs text (plain_marks text) x
   number_reads text x e some given =
       let kept = numbers_kept text e in
       record {
         spelled = plain_spelled text (in_number_ascii text e) kept;
         starts = number_starts text kept some;
         some = marked_some text some;
-        means = ap (λ (ms : List Mark). told_of t current (meaning_of 10 ms)) (plain_folded text kept)
-            ∙ ap (told_of t current) (number_meaning text x (some_no_point text e some) given);
+        means = ap (λ (ms : List Mark). told_meaning t current (meaning_of 10 ms)) (plain_folded text kept)
+            ∙ ap (told_meaning t current) (number_meaning text x (some_no_point text e some) given);
       }
 
   pub integer_reads : (n : ℤ) → FitsSigned w128 n → ReadsAs (signed_decimal n) (plain_marks (signed_decimal n)) (integer n)
@@ -104,10 +104,10 @@ module _ (t : Table) (current : Name) where
 
   -- marks that keep their case and begin a name mean what their package markers say
   name_meant : (marks : List Mark) (meaning : Meaning) (x : Object) → in_upper_case marks ≡ marks → BeginsName marks → name_of marks ≡ Ok meaning
-      → told_of t current (Ok meaning) ≡ Ok (told_object x) → meant marks ≡ Ok (told_object x)
+      → told_meaning t current (Ok meaning) ≡ Ok (told_object x) → meant marks ≡ Ok (told_object x)
   name_meant marks meaning x kept begins is found =
-      ap (λ (ms : List Mark). told_of t current (meaning_of 10 ms)) kept
-      ∙ ap (told_of t current) (means_name marks begins ∙ is) ∙ found
+      ap (λ (ms : List Mark). told_meaning t current (meaning_of 10 ms)) kept
+      ∙ ap (told_meaning t current) (means_name marks begins ∙ is) ∙ found
 
   fold_both : (xs ys : List Mark) → in_upper_case xs ≡ xs → in_upper_case ys ≡ ys → in_upper_case (xs ++ ys) ≡ xs ++ ys
   fold_both xs ys e f = map-append _ xs ys ∙ (λ i. e i ++ f i)
@@ -142,7 +142,7 @@ module _ (t : Table) (current : Name) where
     -- after the name of a package
     module _ (prefix : Name) (front_text : List ℕ) (front : List Mark) (first : IsNameText prefix front_text front) where
       front_marks : (home : Name) (colons : List Mark) (meaning : Meaning) → in_upper_case colons ≡ colons → name_of (front ++ (colons ++ own_marks)) ≡ Ok meaning
-          → told_of t current (Ok meaning) ≡ Ok (told_object (symbol home own)) → meant ((front ++ colons) ++ own_marks) ≡ Ok (told_object (symbol home own))
+          → told_meaning t current (Ok meaning) ≡ Ok (told_object (symbol home own)) → meant ((front ++ colons) ++ own_marks) ≡ Ok (told_object (symbol home own))
       front_marks home colons meaning kept is found =
           ap meant (append_assoc front colons own_marks)
           ∙ name_meant (front ++ (colons ++ own_marks)) meaning (symbol home own)

@@ -6,7 +6,7 @@ use Rattle.std.proofs.lemmas.Grind.{common_steps}
 use Rattle.readtable_core.specs.declared.characters.Syntax.{Syntax}
 use Rattle.readtable_core.specs.declared.characters.Syntax.TheVariants.{Constituent}
 use Rattle.readtable_core.specs.Characters.{standard_syntax, has_invalid_trait, upper_case}
-use Rattle.token_scan.specs.Spelling.{is_plain, ends_tokens}
+use Rattle.token_scan.specs.Spelling.{is_plain_syntax, ends_tokens}
 use Rattle.token_meaning.specs.Numerals.{is_digit_in}
 use Rattle.token_meaning.specs.Numbers.{is_point, is_slash}
 use Rattle.token_meaning.proofs.NumberFronts.{begins_number}
@@ -16,7 +16,7 @@ abbrev pub is_constituent : Syntax → Bool
 is_constituent Constituent = true
 is_constituent _ = false
 
-pub constituent_plain : (s : Syntax) → is_constituent s ≡ true → is_plain s ≡ true
+pub constituent_plain : (s : Syntax) → is_constituent s ≡ true → is_plain_syntax s ≡ true
 constituent_plain Constituent e = refl
 constituent_plain _ e = absurd cc
 
@@ -53,8 +53,8 @@ digit_kept = by_table in_number is_kept refl
 pub no_number_begins : (c : ℕ) → c < 128 → begins_plain c ≡ true → not (begins_number c) ≡ true
 no_number_begins = by_table begins_plain (λ c. not (begins_number c)) refl
 
-pub kept_in_bars : (c : ℕ) → c < 128 → not (is_escaped_in_bars c) ≡ true → (is_plain (standard_syntax c) || ends_tokens (standard_syntax c)) ≡ true
-kept_in_bars = by_table (λ c. not (is_escaped_in_bars c)) (λ c. is_plain (standard_syntax c) || ends_tokens (standard_syntax c)) refl
+pub kept_in_bars : (c : ℕ) → c < 128 → not (is_escaped_in_bars c) ≡ true → (is_plain_syntax (standard_syntax c) || ends_tokens (standard_syntax c)) ≡ true
+kept_in_bars = by_table (λ c. not (is_escaped_in_bars c)) (λ c. is_plain_syntax (standard_syntax c) || ends_tokens (standard_syntax c)) refl
 
 -- a digit, a minus sign and a slash are below 128, and no point
 digit_below : (c : ℕ) → 128 ≤ c → is_digit_in 10 c ≡ false

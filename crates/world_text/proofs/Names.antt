@@ -9,9 +9,9 @@ use Rattle.token_scan.specs.declared.mark.Mark.TheVariants.{Plain, Quoted, Bar}
 use Rattle.token_meaning.specs.declared.token.TokenName.TheVariants.{Unqualified, Keyword, External, Internal}
 use Rattle.token_scan.specs.Marks.{characters}
 use Rattle.token_meaning.specs.Numerals.{is_digit_in, is_sign, is_empty}
-use Rattle.token_meaning.specs.Numbers.{is_point, number_of}
+use Rattle.token_meaning.specs.Numbers.{is_point, number_in_base}
 use Rattle.token_meaning.specs.Folding.{in_upper_case}
-use Rattle.token_meaning.specs.Meanings.{name, is_plain as is_plain_mark, is_package_marker, pattern, name_of, dots_of, number_or_name, meaning_of}
+use Rattle.token_meaning.specs.Meanings.{name, is_unescaped as is_plain_mark, is_package_marker, pattern, name_of, dots_of, number_or_name, meaning_of}
 use Rattle.token_meaning.specs.Results.{is_one_part}
 use Rattle.token_meaning.proofs.NumberFronts.{begins_number, no_number}
 use Rattle.token_meaning.proofs.Parts.{cut_with, cut_without}
@@ -41,9 +41,9 @@ by_mark (Plain c) ms e =
     let fails : begins_number c ≡ false = not-true _ e in
     let later = (or_parts (is_digit_in 10 c) _ fails).1 in
     let no_point : is_point c ≡ false = (or_parts (is_sign c) (is_point c) later).1 in
-    let none : number_of 10 (c ∷ characters ms) ≡ None = no_number (c ∷ characters ms) fails in
+    let none : number_in_base 10 (c ∷ characters ms) ≡ None = no_number (c ∷ characters ms) fails in
     elim (list_all is_plain_mark ms)
-    as (λ b. (if b then (if is_point c && list_all is_point (characters ms) then dots_of (c ∷ characters ms) else number_or_name (number_of 10 (c ∷ characters ms)) (Plain c ∷ ms)) else name_of (Plain c ∷ ms)) ≡ name_of (Plain c ∷ ms)) [
+    as (λ b. (if b then (if is_point c && list_all is_point (characters ms) then dots_of (c ∷ characters ms) else number_or_name (number_in_base 10 (c ∷ characters ms)) (Plain c ∷ ms)) else name_of (Plain c ∷ ms)) ≡ name_of (Plain c ∷ ms)) [
       | true ↦ rw (no_point, none) refl
       | false ↦ refl
     ]

@@ -17,8 +17,8 @@ use Rattle.lisp_object.specs.Object.{Object, integer, rational}
 use Rattle.lisp_object.specs.Lowest.{IsLowest}
 use Rattle.lisp_object.specs.Quotient.{quotient}
 use Rattle.lisp_object.proofs.Quotients.{lowest_stays}
-use Rattle.token_meaning.specs.Numerals.{is_digit_in, is_numeral, are_digits, is_empty, value, signed, is_in_range}
-use Rattle.token_meaning.specs.Numbers.{is_point, ratio_of, number_of}
+use Rattle.token_meaning.specs.Numerals.{is_digit_in, is_numeral, are_digits, is_empty, value, signed, is_magnitude_in_range}
+use Rattle.token_meaning.specs.Numbers.{is_point, ratio_of, number_in_base}
 use Rattle.token_meaning.specs.Grammar.{Sign, absent, minus, IsDigits, IsRatio}
 use Rattle.token_meaning.proofs.Spelled.{digits_given, ratio_given}
 use Rattle.canon_printer.specs.Written.{printed_ratio}
@@ -70,7 +70,7 @@ pub signed_size : (n : ℤ) → signed (below_zero n) (size n) ≡ n
 signed_size (pos n) = refl
 signed_size (negsuc n) = refl
 
-pub in_range : (n : ℤ) → FitsSigned w128 n → is_in_range (below_zero n) (size n) ≡ true
+pub in_range : (n : ℤ) → FitsSigned w128 n → is_magnitude_in_range (below_zero n) (size n) ≡ true
 in_range (pos n) fits = let below : n < 2 ^ 127 = fits.sfits in lt-ltb n (2 ^ 127) below
 in_range (negsuc n) fits = let below : n < 2 ^ 127 = fits.sfits in le-leb (suc n) (2 ^ 127) (omega (arith, below))
 
@@ -86,7 +86,7 @@ is_digits (negsuc n) fits =
     let small = size_below (negsuc n) fits in
     record { sign = minus; digits = decimal (suc n); numeral = decimal_numeral (suc n) small; parts = refl; below_zero = refl; worth = decimal_value (suc n) small }
 
-pub integer_given : (n : ℤ) → FitsSigned w128 n → number_of 10 (signed_decimal n) ≡ Some (Ok (integer n))
+pub integer_given : (n : ℤ) → FitsSigned w128 n → number_in_base 10 (signed_decimal n) ≡ Some (Ok (integer n))
 integer_given n fits =
     digits_given 10 (signed_decimal n) (below_zero n) (size n) (lit≤ tt) (is_digits n fits)
     ∙ (rw (in_range n fits, signed_size n) refl)
@@ -127,10 +127,10 @@ when false x y e = absurd cc
 
 ratio_kept : (n : ℤ) (d : ℕ) → FitsSigned w128 n → d < 2 ^ 128 → IsLowest n d → ratio_of (below_zero n) (size n) d ≡ Ok (rational n d)
 ratio_kept n d fits small is =
-    when (d == 0 || (is_in_range (below_zero n) (size n) && nat_lt d (2 ^ 128))) _ _ (or_right (d == 0) _ (and_from _ _ (in_range n fits) (lt-ltb d (2 ^ 128) small)))
+    when (d == 0 || (is_magnitude_in_range (below_zero n) (size n) && nat_lt d (2 ^ 128))) _ _ (or_right (d == 0) _ (and_from _ _ (in_range n fits) (lt-ltb d (2 ^ 128) small)))
     ∙ ap (λ (o : Option Object). ok_or o ZeroDenominator) (ap (λ (m : ℤ). quotient m d) (signed_size n) ∙ lowest_stays n d is)
 
-pub ratio_is_given : (n : ℤ) (d : ℕ) → FitsSigned w128 n → d < 2 ^ 128 → IsLowest n d → number_of 10 (printed_ratio n d) ≡ Some (Ok (rational n d))
+pub ratio_is_given : (n : ℤ) (d : ℕ) → FitsSigned w128 n → d < 2 ^ 128 → IsLowest n d → number_in_base 10 (printed_ratio n d) ≡ Some (Ok (rational n d))
 ratio_is_given n d fits small is =
     ratio_given 10 (printed_ratio n d) (below_zero n) (size n) d (lit≤ tt) (is_ratio n d fits small)
     ∙ ap (λ (r : Result Object MeaningRefusal). Some r) (ratio_kept n d fits small is)

@@ -5,7 +5,7 @@ ghost use Rattle.package_table.specs.Table.{IsPackage};
 ghost use Rattle.lisp_reading.specs.Setting.{setting_of};
 ghost use Rattle.lisp_reading.specs.Reading.{is_whitespace};
 ghost use Rattle.form_reader.specs.declared.reader.Advance.TheVariants.{More as AdvanceMore, Refused as AdvanceRefused};
-ghost use Rattle.form_reader.specs.Reader.{limits_of, fed, begun, HasNoMemory, HasRefused, IsBetween, LeavesBetween, IsAfter, HasBegun, StepsBegun, IsSoundStep, Feeds, Advances, is_more};
+ghost use Rattle.form_reader.specs.Reader.{limits_of, fed, begun, HasNoMemory, HasRefused, IsBetween, LeavesBetween, IsAfter, HasBegun, StepsBegun, IsSoundStep, FeedsReader, Advances, is_more};
 
 use crate::reader::{Advance, FormReader};
 use package_table::Packages;
@@ -51,7 +51,7 @@ impl FormReader {
         ensures feeds { (before : List ℕ) → IsAfter
             (setting_of (limits_of self.old) readtable.now base packages.now.0 current.now
             (R.functions macros.now))
-            self.old before → IfOk result (λ got. Feeds
+            self.old before → IfOk result (λ got. FeedsReader
             (setting_of (limits_of self.old) readtable.now base packages.now.0 current.now
             (R.functions macros.now))
             self.new before bytes.now got.0 got.1) }

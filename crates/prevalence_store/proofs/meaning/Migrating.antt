@@ -17,7 +17,7 @@ use Rattle.plist_state.specs.State.{WorldState}
 use Rattle.world_text.specs.Snapshot.{snapshot_in}
 use Rattle.world_text.proofs.Versions.{text_with, third_by}
 use Rattle.session_words.specs.declared.mode.Mode.{Mode}
-use Rattle.prevalence_store.specs.meaning.Acceptance.{Acceptance, accepted_by, acceptance_of, accepts, after, between, mode_of, read_by, read_in, rules_in_force, setting_by, transacted}
+use Rattle.prevalence_store.specs.meaning.Acceptance.{Acceptance, accepted_reading, acceptance_of, accepts, after, between, mode_of, read_by, read_in, rules_in_force, setting_by, transacted}
 use Rattle.prevalence_store.specs.meaning.Files.{ContentsMean, IsWorldOf, MeansWorld}
 use Rattle.prevalence_store.specs.meaning.Version1.{ContentsMean1, IsWorldOf1, MeansWorld1, accepts1, after1, rules1}
 use Rattle.prevalence_store.proofs.meaning.Replaying.{stepped}
@@ -52,9 +52,9 @@ module _ (functions : Functions) where
     wider mode text x start «end» next is = form_widens (setting_by rules1 functions w mode) text form_limit x start «end» next (omega arith) is
 
     read_stays : (mode : Mode) (text : List ℕ) (given : Acceptance) (was : Reading) → read_by rules1 functions w mode text ≡ was
-        → accepted_by rules1 functions w text was ≡ Ok given → Stays (accepts functions w mode text) given
+        → accepted_reading rules1 functions w text was ≡ Ok given → Stays (accepts functions w mode text) given
     read_stays mode text given (form x start «end» next) is gives =
-        subst (λ (r : Reading). Stays (accepted_by rules_in_force functions w text r) given) (sym (wider mode text x start «end» next is))
+        subst (λ (r : Reading). Stays (accepted_reading rules_in_force functions w text r) given) (sym (wider mode text x start «end» next is))
         (whole_stays text (between start «end» text) x given (next == length text) gives)
     read_stays mode text given empty is gives = absurd (cc)
     read_stays mode text given (refused number at) is gives = absurd (cc)

@@ -14,7 +14,7 @@ use Rattle.std.proofs.lemmas.Slice.Eq.{bytes_eq-Decides}
 use Rattle.lisp_object.specs.Object.{Object, integer, rational, character, text, symbol, uninterned, pair, vector, nil}
 use Rattle.lisp_object.specs.declared.refusal.TheConstants.{UNKNOWN_OPERATOR}
 use Rattle.package_table.specs.declared.error.PackageError.{PackageError}
-use Rattle.package_table.specs.Errors.{number_of}
+use Rattle.package_table.specs.Errors.{package_error_number}
 use Rattle.package_table.specs.Symbols.{symbols}
 use Rattle.package_table.specs.Table.{Name, Table}
 use Rattle.plist_state.specs.Changes.{with_packages}
@@ -148,7 +148,7 @@ module _ (based : Bool) (table : OperatorTable) (none : table forget_names ≡ N
 
   after_symbols : (s : WorldState) (r : Result (Table × Bool) PackageError) (d : Done Object) → accepted_over based table s r form ≡ Ok d → ⊥
   after_symbols s (Ok p) d is = let no : ◌≡◌ {A = Evaluation Object} (Err UNKNOWN_OPERATOR) (Ok d) = sym (ap (also p.1) (value_unknown (with_packages s p.0))) ∙ is in absurd (cc)
-  after_symbols s (Err e) d is = let no : ◌≡◌ {A = Evaluation Object} (Err (number_of e)) (Ok d) = is in absurd (cc)
+  after_symbols s (Err e) d is = let no : ◌≡◌ {A = Evaluation Object} (Err (package_error_number e)) (Ok d) = is in absurd (cc)
 
   pub no_operator : (s : WorldState) (x : Object) (d : Done Object) → accept_over based table s x ≡ Ok d → is_forgetting x ≡ false
   no_operator s x d is = by_test (is_forgetting x) refl

@@ -20,7 +20,7 @@ use Rattle.session_words.specs.declared.mode.Mode.{Mode}
 use Rattle.prevalence_store.specs.meaning.Acceptance.{read_in, setting_in}
 use Rattle.user_macros.specs.Functions.{Functions}
 
-fits : (t : Packages) (x : Object) → reader.Fits t x → evaluator.Fits t x
+fits : (t : Packages) (x : Object) → reader.FitsPackages t x → evaluator.FitsTable t x
 fits t (symbol home name) is = is
 fits t (uninterned name) is = is
 fits t _ is = tt
@@ -28,7 +28,7 @@ fits t _ is = tt
 -- what fits the packages may be evaluated
 pub is_form : (t : Packages) (x : Object) → IsSound x → IsFitting t x → IsForm t x
 is_form t x sound fitting =
-    record { object = sound; depth = fitting.depth; symbols = atoms_weaker (reader.Fits t) (evaluator.Fits t) (fits t) x fitting.symbols }
+    record { object = sound; depth = fitting.depth; symbols = atoms_weaker (reader.FitsPackages t) (evaluator.FitsTable t) (fits t) x fitting.symbols }
 
 -- a form that was read in a sound world fits its packages
 pub fits_in : (functions : Functions) (w : WorldState) (mode : Mode) (text : List ℕ) (x : Object) (start «end» next : ℕ) → world.IsSound w

@@ -13,7 +13,7 @@ use Rattle.prevalence_store.specs.declared.outcome.Outcome.TheVariants.{Accepted
 use Rattle.session_words.specs.declared.mode.Mode.{Mode}
 use Rattle.prevalence_store.specs.meaning.Acceptance.{Acceptance, accepts, after, logged, records_of}
 use Rattle.prevalence_store.specs.calls.Execute.{Executes, IsProperOutcome, IsValueIn, SurvivesAs}
-use Rattle.prevalence_store.specs.calls.ExecuteAll.{FailsTogether, IsTogether, LogsAll, in_turn}
+use Rattle.prevalence_store.specs.calls.ExecuteAll.{FailsTogether, IsTogether, LogsAll, texts_in_turn}
 use Rattle.prevalence_store.specs.calls.Store.{StoreView}
 use Rattle.prevalence_store.specs.steps.Batch.{FailsBatch, StoresBatch, TakesBatch}
 use Rattle.prevalence_store.specs.steps.Failure.{failure_number}
@@ -151,28 +151,28 @@ module _ (functions : Functions) (mode : Mode) (w : WorldState) (text : List ℕ
 
 module _ (functions : Functions) (mode : Mode) (w : WorldState) (texts : List (Bor (List ℕ))) where
   -- their records make the world that they left, and fit the log
-  pub texts_again : (v : WorldState) (records : List LogRecord) (outcomes : List Outcome) → AreTurns (in_turn functions w mode texts) outcomes v records → after functions w records ≡ Some v
+  pub texts_again : (v : WorldState) (records : List LogRecord) (outcomes : List Outcome) → AreTurns (texts_in_turn functions w mode texts) outcomes v records → after functions w records ≡ Some v
   texts_again v records outcomes turns = ap (after functions w) turns.entries ∙ (all_replayed functions mode w texts).again ∙ ap (λ s. Some s) (sym turns.left)
 
-  pub texts_fit : (v : WorldState) (records : List LogRecord) (outcomes : List Outcome) → AreTurns (in_turn functions w mode texts) outcomes v records → AllByRecursion IsLogRecord records
+  pub texts_fit : (v : WorldState) (records : List LogRecord) (outcomes : List Outcome) → AreTurns (texts_in_turn functions w mode texts) outcomes v records → AllByRecursion IsLogRecord records
   texts_fit v records outcomes turns = subst (λ (es : List LogRecord). AllByRecursion IsLogRecord es) (sym turns.entries) (all_replayed functions mode w texts).fit
 
   module _ {D R : Type 0} (state : D → State) (old new : StoreView D R) where
     -- what was made of them
     abbrev MakesTexts : List Outcome → WorldState → List LogRecord → Type 0
-    MakesTexts outcomes left records = AreTurns (in_turn functions w mode texts) outcomes left records × All IsProperOutcome outcomes
+    MakesTexts outcomes left records = AreTurns (texts_in_turn functions w mode texts) outcomes left records × All IsProperOutcome outcomes
 
     pub texts_executed : (outcomes : List Outcome) → IsMade functions state old new w (λ left records. MakesTexts outcomes left records) → IsTogether functions state old new w mode texts outcomes
     texts_executed outcomes made =
         let turns = made.makes.0 in
-        let stores : StoresBatch functions state old new w (in_turn functions w mode texts).left (in_turn functions w mode texts).entries =
-        subst (λ (v : WorldState). StoresBatch functions state old new w v (in_turn functions w mode texts).entries) turns.left
+        let stores : StoresBatch functions state old new w (texts_in_turn functions w mode texts).left (texts_in_turn functions w mode texts).entries =
+        subst (λ (v : WorldState). StoresBatch functions state old new w v (texts_in_turn functions w mode texts).entries) turns.left
         (subst (λ (es : List LogRecord). StoresBatch functions state old new w made.left es) turns.entries made.stores) in
         record { told = turns.told; logs = stores.logs; survives = stores.survives; all_or_none = stores.all_or_none }
 
     pub texts_failed : {V : Type 0} (items : V → List Outcome) → HasFailedIn functions state old new w (λ left records. (made : V) × MakesTexts (items made) left records) → FailsTogether functions state old new w mode texts
     texts_failed items stopped =
         let turns = stopped.makes.1.0 in
-        let fails : FailsBatch functions state old new w stopped.left (in_turn functions w mode texts).entries =
+        let fails : FailsBatch functions state old new w stopped.left (texts_in_turn functions w mode texts).entries =
         subst (λ (es : List LogRecord). FailsBatch functions state old new w stopped.left es) turns.entries stopped.fails in
         record { some = fails.some; fits = fails.fits; failed = fails.failed; survives = fails.survives; all_or_none = fails.all_or_none }

@@ -100,19 +100,19 @@ acceptance_of text (Ok done) = Ok (record { value = done.value; world = done.sta
 acceptance_of text (Err number) = Err number
 
 -- by what was read: a text without an object is refused, and one with more after it
-abbrev pub accepted_by : Rules → Functions → WorldState → List ℕ → Reading → Result Acceptance ℕ
-accepted_by by functions world text (form object start end next) =
+abbrev pub accepted_reading : Rules → Functions → WorldState → List ℕ → Reading → Result Acceptance ℕ
+accepted_reading by functions world text (form object start end next) =
     if next == length text then acceptance_of (between start end text) (transacted_by by functions.names world object)
     else Err TEXT_LEFT_OVER
-accepted_by by functions world text empty = Err END_OF_FILE
-accepted_by by functions world text (refused number at) = Err number
+accepted_reading by functions world text empty = Err END_OF_FILE
+accepted_reading by functions world text (refused number at) = Err number
 
 abbrev pub accepted_of : Functions → WorldState → List ℕ → Reading → Result Acceptance ℕ
-accepted_of functions world text read = accepted_by rules_in_force functions world text read
+accepted_of functions world text read = accepted_reading rules_in_force functions world text read
 
 -- What a text gives in a world: it is read whole, and its form is carried out as one transaction.
 abbrev pub accepts_by : Rules → Functions → WorldState → Mode → List ℕ → Result Acceptance ℕ
-accepts_by by functions world mode text = accepted_by by functions world text (read_by by functions world mode text)
+accepts_by by functions world mode text = accepted_reading by functions world text (read_by by functions world mode text)
 
 abbrev pub accepts : Functions → WorldState → Mode → List ℕ → Result Acceptance ℕ
 accepts functions world mode text = accepts_by rules_in_force functions world mode text

@@ -16,10 +16,10 @@ use Rattle.prevalence_store.specs.meaning.Acceptance.{accepts, read_in}
 use Rattle.user_macros.specs.Functions.{Functions}
 
 -- if it is a form, each symbol of it is one of the packages
-abbrev pub AreThere : Table → ReadOutcome → Type 0
-AreThere packages (Form datum start «end» next) = are_there packages (object_of datum) ≡ true
-AreThere packages Empty = Unit {0}
-AreThere packages (Refused code at) = Unit {0}
+abbrev pub SymbolsAreThere : Table → ReadOutcome → Type 0
+SymbolsAreThere packages (Form datum start «end» next) = are_there packages (object_of datum) ≡ true
+SymbolsAreThere packages Empty = Unit {0}
+SymbolsAreThere packages (Refused code at) = Unit {0}
 
 -- The text is this form, which may be evaluated in this world; its own text goes from one offset to the other.
 pub record IsWholeForm (functions : Functions) (world : WorldState) (mode : Mode) (text : List ℕ) (read : ReadForm) (start stop : ℕ) : Type 0 where

@@ -26,7 +26,7 @@ use Rattle.session_words.specs.declared.wanted.Wanted.{Wanted}
 use Rattle.sessions.specs.declared.ending.Ending.{Ending}
 use Rattle.sessions.specs.declared.ending.Ending.TheVariants.{End, Reader, Store}
 use Rattle.prevalence_store.specs.meaning.Acceptance.{between, read_in, records_of, transacted}
-use Rattle.sessions.specs.Answers.{Progress, begun, refusal_line, value_line}
+use Rattle.sessions.specs.Answers.{Progress, first_progress, refusal_line, value_line}
 use Rattle.sessions.specs.Pace.{Fill, LogsWithRoom, Pace, Paces, fill_of, longer_by}
 use Rattle.sessions.specs.Serve.{Advances, IsOver, IsUnaccepted, Serves, ServesInPace}
 use Rattle.prevalence_store.specs.calls.Store.{StoreView}
@@ -138,10 +138,10 @@ module _ (functions : Functions) {D R : Type 0} (state : D → State) (old new :
   -- what is in the half in use of a form in which the session has ended: nothing, or its record if it left one
   abbrev pub EndsTry : (text : List ℕ) (held written : Option (List ℕ)) (number : ℕ) → StopsInForm text held written number → Type 0
   EndsTry text held written number stops =
-      ((number ≡ NO_MEMORY) × (stops.serves.far ≡ begun world text) × (fill_of new ≡ fill_of old))
+      ((number ≡ NO_MEMORY) × (stops.serves.far ≡ first_progress world text) × (fill_of new ≡ fill_of old))
       ⊎ (((stops.serves.forms ≡ 1) × (number ≡ OUTPUT)
       × ((wrote : Bool) × LeavesRecord (LogsAtOnce old.limit (fill_of old) (fill_of new)) stops.serves.far.taken (fill_of old) (fill_of new) wrote))
-      ⊎ ((number ≡ DEVICE) × (stops.serves.forms ≡ stops.serves.lines + 1) × (stops.serves.answered ≡ begun world text) × (fill_of new ≡ fill_of old)))
+      ⊎ ((number ≡ DEVICE) × (stops.serves.forms ≡ stops.serves.lines + 1) × (stops.serves.answered ≡ first_progress world text) × (fill_of new ≡ fill_of old)))
 
   -- The form that the text begins with was answered; or it has no room, and nothing was done; or the session has ended in it,
   -- with this number.

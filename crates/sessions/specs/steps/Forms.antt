@@ -42,15 +42,15 @@ of_unlogged unlogged.DeviceFault = DeviceFault
 of_unlogged unlogged.OutOfMemory = OutOfMemory
 
 -- what was evaluated to this has written something
-abbrev pub HasWritten : Evaluation Object → Type 0
-HasWritten given = (done : Done Object) × (given ≡ Ok done) × (done.wrote ≡ true)
+abbrev pub EvaluationHasWritten : Evaluation Object → Type 0
+EvaluationHasWritten given = (done : Done Object) × (given ≡ Ok done) × (done.wrote ≡ true)
 
 -- Each failure with its cause, of a form whose evaluation gave this, in a half of this size and limit, by a record with a
 -- text of this length: evaluation refused it; or the form wrote, and the record does not fit; or it does, and the device failed.
 abbrev pub IsCause : Evaluation Object → (size limit length : ℕ) → Failure → Type 0
 IsCause given size limit length (Refused number) = given ≡ Err number
-IsCause given size limit length Full = HasWritten given × (limit < size + (6 + length))
-IsCause given size limit length DeviceFault = HasWritten given × (size + (6 + length) ≤ limit)
+IsCause given size limit length Full = EvaluationHasWritten given × (limit < size + (6 + length))
+IsCause given size limit length DeviceFault = EvaluationHasWritten given × (size + (6 + length) ≤ limit)
 IsCause given size limit length OutOfMemory = Unit {0}
 
 -- ---- the record that it has, and whether that is acknowledged

@@ -14,7 +14,7 @@ use Rattle.prevalence_store.specs.declared.failure.Unlogged.{Unlogged}
 use Rattle.prevalence_store.specs.declared.failure.Unlogged.TheVariants.{Full, DeviceFault, OutOfMemory}
 use Rattle.session_words.specs.declared.mode.Mode.{Mode}
 use Rattle.session_words.specs.declared.wanted.Wanted.{Wanted}
-use Rattle.sessions.specs.declared.gather.Gathered.{Gathered}
+use Rattle.sessions.specs.declared.gather.GatheredForms.{GatheredForms}
 use Rattle.sessions.specs.declared.gather.GroupLimit.{GroupLimit}
 use Rattle.sessions.specs.declared.input.Pending.{Pending}
 use Rattle.sessions.specs.declared.group.Grouped.{Grouped}
@@ -44,7 +44,7 @@ abbrev pub record_size : (logged : Bool) → List ℕ → ℕ
 record_size logged own = if logged then 6 + length own else 0
 
 -- no form is there yet
-pub record HoldsNone (gathered : Gathered) : Type 0 where
+pub record HoldsNone (gathered : GatheredForms) : Type 0 where
   pub lines : gathered.lines.items ≡ []
   pub records : gathered.records ≡ 0
   pub record_bytes : gathered.record_bytes ≡ 0
@@ -53,7 +53,7 @@ pub record HoldsNone (gathered : Gathered) : Type 0 where
 
 -- There are some, of which no more wrote than the limit says, and their records take no more bytes. The first takes so many bytes of the
 -- input, and the others are among so many.
-pub record IsCounted (next many : ℕ) (limit : GroupLimit) (gathered : Gathered) : Type 0 where
+pub record IsCounted (next many : ℕ) (limit : GroupLimit) (gathered : GatheredForms) : Type 0 where
   pub some : 0 < gathered.forms
   pub forms : gathered.forms ≤ gathered.bytes
   pub first : next ≤ gathered.bytes
@@ -73,7 +73,7 @@ pub record MayBeTaken (functions : Functions) (turn : WholeForms) (world : World
 
 module _ (functions : Functions) (wanted : Wanted) where
   -- A form of so many bytes was evaluated, and what comes of it was added, its record to the batch.
-  pub record IsAdded (object : Object) (own : List ℕ) (bytes : ℕ) (before after : WorldState) (had has : Batch) (old new : Gathered) : Type 0 where
+  pub record IsAdded (object : Object) (own : List ℕ) (bytes : ℕ) (before after : WorldState) (had has : Batch) (old new : GatheredForms) : Type 0 where
     pub given : Evaluation Object
     pub valued : transacted functions.names before object ≡ given
     pub left : after ≡ (evaluated before wanted.mode own [] given).world
@@ -86,7 +86,7 @@ module _ (functions : Functions) (wanted : Wanted) where
     pub record_bytes : new.record_bytes ≡ old.record_bytes + room_of (evaluated before wanted.mode own [] given).taken
 
   -- the form that these bytes begin with was added, which takes so many of them
-  pub record IsNext (piece : List ℕ) (before after : WorldState) (had has : Batch) (old new : Gathered) (count : ℕ) : Type 0 where
+  pub record IsNext (piece : List ℕ) (before after : WorldState) (had has : Batch) (old new : GatheredForms) (count : ℕ) : Type 0 where
     pub object : Object
     pub own : List ℕ
     pub begins : BeginsWhole functions before wanted.mode piece object own count
@@ -94,7 +94,7 @@ module _ (functions : Functions) (wanted : Wanted) where
 
   -- The first forms of a text were evaluated, each in the world that the ones before it left, and the same ones of any text that goes
   -- on. Their records make the world that is left, and each fits the log.
-  pub record IsGathered (first : WorldState) (text : List ℕ) (now : WorldState) (records : List LogRecord) (gathered : Gathered) : Type 0 where
+  pub record IsGathered (first : WorldState) (text : List ℕ) (now : WorldState) (records : List LogRecord) (gathered : GatheredForms) : Type 0 where
     pub far : Progress
     pub stays : (more : List ℕ) → after_forms functions gathered.forms first wanted.mode (text ++ more) ≡ Some (record far { rest = far.rest ++ more })
     pub rest : far.rest ≡ drop gathered.bytes text
@@ -112,15 +112,15 @@ module _ (functions : Functions) (wanted : Wanted) where
 
   module _ {D R : Type 0} (state : D → State) (old new : StoreView D R) (world : WorldState) (text : List ℕ) where
     -- the forms of a group were logged together, and the store has the world that they left
-    abbrev pub TakesForms : Gathered → Type 0
+    abbrev pub TakesForms : GatheredForms → Type 0
     TakesForms gathered = IsMade functions state old new world (λ left records. IsGathered world text left records gathered)
 
     -- the device failed as they were logged
     abbrev pub FailsForms : Type 0
-    FailsForms = HasFailedIn functions state old new world (λ left records. (gathered : Gathered) × (0 < gathered.forms) × IsGathered world text left records gathered)
+    FailsForms = HasFailedIn functions state old new world (λ left records. (gathered : GatheredForms) × (0 < gathered.forms) × IsGathered world text left records gathered)
 
     -- the forms of a group were taken, or none was, or the device failed
-    abbrev pub TakesGroup : Result (Option Gathered) Unlogged → Type 0
+    abbrev pub TakesGroup : Result (Option GatheredForms) Unlogged → Type 0
     TakesGroup (Ok (Some gathered)) = TakesForms gathered
     TakesGroup (Ok None) = new ≡ old
     TakesGroup (Err Full) = new ≡ old
@@ -138,7 +138,7 @@ module _ (functions : Functions) (wanted : Wanted) where
   AnswersGroup state course later old new world text rest held written grouped.Left = (new ≡ old) × (written ≡ held) × (later ≡ course)
 
 -- What was made of whole forms: those that were gathered, of each text that the turn may be over; or none, and nothing was added.
-pub record AreTaken (functions : Functions) (turn : WholeForms) (world left : WorldState) (records : List LogRecord) (made : Option Gathered) : Type 0 where
+pub record AreTaken (functions : Functions) (turn : WholeForms) (world left : WorldState) (records : List LogRecord) (made : Option GatheredForms) : Type 0 where
   pub gathers : (text : List ℕ) → BeginsWhole functions world turn.wanted.mode text (object_of turn.first.now.read.datum) turn.first.now.own.items turn.first.now.next
       → drop turn.first.now.next text ≡ turn.rest.now → IfSome made (IsGathered functions turn.wanted world text left records)
   pub counts : IfSome made (IsCounted turn.first.now.next (length turn.rest.now) turn.limit)

@@ -85,10 +85,10 @@ AreAllThere world (Form it left) = it.read.known ≡ true → are_there world.pa
 AreAllThere world (Refused number start at) = Unit {0}
 
 -- the places are among so many bytes
-abbrev pub IsWithin : ℕ → Fed → Type 0
-IsWithin many Nothing = Unit {0}
-IsWithin many (Form it left) = (it.start < it.next) × (it.next ≤ many)
-IsWithin many (Refused number start at) = (start ≤ many) × (at ≤ many)
+abbrev pub PlacesAreWithin : ℕ → Fed → Type 0
+PlacesAreWithin many Nothing = Unit {0}
+PlacesAreWithin many (Form it left) = (it.start < it.next) × (it.next ≤ many)
+PlacesAreWithin many (Refused number start at) = (start ≤ many) × (at ≤ many)
 
 -- Of a piece some bytes were fed: the first of them that decides something is the last that was; if none does, all were. Before and
 -- after it so many bytes are pending.
@@ -97,5 +97,5 @@ pub record FeedsPart (piece : List ℕ) (before after : ℕ) (part : FedPiece) :
   pub within : part.count ≤ length piece
   pub all : part.fed ≡ Nothing → part.count ≡ length piece
   pub sound : IsSoundFed part.fed
-  pub places : IsWithin (before + part.count) part.fed
+  pub places : PlacesAreWithin (before + part.count) part.fed
   pub pending : after ≤ before + part.count

@@ -3,7 +3,7 @@ use Rattle.package_table.specs.Changes.{after_import, import_changes, Gives}
 use Rattle.plist_state.specs.State.{Worlds}
 use Rattle.plist_state.specs.Changes.{with_packages}
 use Rattle.plist_state.specs.Sound.{IsSymbol}
-use Rattle.lisp_operators.specs.Members.{symbol_in}
+use Rattle.lisp_operators.specs.Members.{symbol_of_member}
 use Rattle.lisp_operators.proofs.PackageSteps.{goes_on, stops, is_over}
 use Rattle.lisp_operators.proofs.changes.import_all.Goals as goal
 
@@ -11,7 +11,7 @@ pub import-requires : goal.import-requires
 import-requires c =
     let x = c.symbol-item.result in
     subst (λ y. IsSymbol c.loop-symbol.world.0.packages y) (sym c.symbol_in.ensures)
-    (subst (λ d. IsSymbol c.loop-symbol.world.0.packages (symbol_in d)) (sym c.symbol-item.is) (c.loop-symbol.invariant.there c.loop-symbol.symbol-index x c.loop-symbol-test.true))
+    (subst (λ d. IsSymbol c.loop-symbol.world.0.packages (symbol_of_member d)) (sym c.symbol-item.is) (c.loop-symbol.invariant.there c.loop-symbol.symbol-index x c.loop-symbol-test.true))
 
 pub loop-symbol-preserved : goal.loop-symbol-preserved
 loop-symbol-preserved c =
@@ -19,7 +19,7 @@ loop-symbol-preserved c =
     let u = c.loop-symbol.world.0.packages in
     let v = c.import.new.self.0.packages in
     record {
-      so_far = goes_on (λ t y. after_import t owner y.0 y.1) (λ t y. import_changes t owner y.1) symbol_in c.args.world.now.0.packages u v c.loop-symbol.wrote c.in-Ok.changed c.args.symbols.now c.loop-symbol.symbol-index c.symbol-item.result c.loop-symbol-test.true c.symbol-item.is c.loop-symbol.invariant.so_far
+      so_far = goes_on (λ t y. after_import t owner y.0 y.1) (λ t y. import_changes t owner y.1) symbol_of_member c.args.world.now.0.packages u v c.loop-symbol.wrote c.in-Ok.changed c.args.symbols.now c.loop-symbol.symbol-index c.symbol-item.result c.loop-symbol-test.true c.symbol-item.is c.loop-symbol.invariant.so_far
           (subst (λ y. after_import u owner y.0 y.1 ≡ Ok v) c.symbol_in.ensures c.in-Ok.ensures.gives) (subst (λ y. c.in-Ok.changed ≡ import_changes u owner y.1) c.symbol_in.ensures c.in-Ok.ensures.changed)
           ∙ ap (λ b. Ok (v, b)) (sym c.either-wrote.ensures);
       rest = c.in-Ok.ensures.rest ∙ ap (λ (k : Worlds). (with_packages k.0 v, k.1)) c.loop-symbol.invariant.rest;
@@ -31,10 +31,10 @@ returns-in-Err-clause-gives c =
     let owner = c.args.owner.now in
     let u = c.loop-symbol.world.0.packages in
     let v = c.import.new.self.0.packages in
-    stops (λ t y. after_import t owner y.0 y.1) (λ t y. import_changes t owner y.1) symbol_in {B = Bool} (λ _. v) c.in-Err.error c.args.world.now.0.packages u v c.loop-symbol.wrote c.args.symbols.now c.loop-symbol.symbol-index c.symbol-item.result c.loop-symbol-test.true c.symbol-item.is c.loop-symbol.invariant.so_far
+    stops (λ t y. after_import t owner y.0 y.1) (λ t y. import_changes t owner y.1) symbol_of_member {B = Bool} (λ _. v) c.in-Err.error c.args.world.now.0.packages u v c.loop-symbol.wrote c.args.symbols.now c.loop-symbol.symbol-index c.symbol-item.result c.loop-symbol-test.true c.symbol-item.is c.loop-symbol.invariant.so_far
     (subst (λ y. Gives {A = Bool} (λ _. v) (Err c.in-Err.error) (after_import u owner y.0 y.1)) c.symbol_in.ensures c.in-Err.ensures.gives)
 
 pub returns-clause-gives : goal.returns-clause-gives
 returns-clause-gives c =
     let owner = c.args.owner.now in
-    is_over (λ t y. after_import t owner y.0 y.1) (λ t y. import_changes t owner y.1) symbol_in c.args.world.now.0.packages c.loop-symbol.world.0.packages c.loop-symbol.wrote c.args.symbols.now c.loop-symbol.symbol-index (omega arith) c.loop-symbol.invariant.so_far
+    is_over (λ t y. after_import t owner y.0 y.1) (λ t y. import_changes t owner y.1) symbol_of_member c.args.world.now.0.packages c.loop-symbol.world.0.packages c.loop-symbol.wrote c.args.symbols.now c.loop-symbol.symbol-index (omega arith) c.loop-symbol.invariant.so_far

@@ -4,7 +4,7 @@ use Rattle.package_table.specs.Table.{package_named, is_locked}
 use Rattle.plist_state.specs.State.{Worlds}
 use Rattle.plist_state.specs.Sound.{IsSymbol}
 use Rattle.lisp_operators.specs.Kinds.{a_name, given_or}
-use Rattle.lisp_operators.specs.Members.{symbol_in}
+use Rattle.lisp_operators.specs.Members.{symbol_of_member}
 use Rattle.lisp_operators.specs.Packages.{import, after_imports}
 use Rattle.lisp_operators.proofs.MemberLists.{all_of_map}
 use Rattle.lisp_operators.proofs.ListSteps.{import_is, told}
@@ -15,7 +15,7 @@ pub import_all-made-requires-clause-there : goal.import_all-made-requires-clause
 import_all-made-requires-clause-there c =
     let u = c.args.world.now.0.packages in
     let ms = c.in_ok-imported-2.imported.now in
-    all_of_map (IsSymbol u) symbol_in ms (symbols_kind u (object_of c.in_ok-imported.imported.now) (map symbol_in ms) (sym c.in_ok-imported-2.ensures.value) (c.in_ok-imported.ensures.arguments u c.requires).0.value)
+    all_of_map (IsSymbol u) symbol_of_member ms (symbols_kind u (object_of c.in_ok-imported.imported.now) (map symbol_of_member ms) (sym c.in_ok-imported-2.ensures.value) (c.in_ok-imported.ensures.arguments u c.requires).0.value)
 
 pub returns-clause-gives : goal.returns-clause-gives
 returns-clause-gives c =
@@ -25,7 +25,7 @@ returns-clause-gives c =
     let x = object_of c.in_ok-imported.imported.now in
     let q = c.in_ok-name_or.field-0.now in
     let p = c.as_slice.result.now in
-    let ys = map symbol_in c.in_ok-imported-2.imported.now in
+    let ys = map symbol_of_member c.in_ok-imported-2.imported.now in
     let given : given_or a_name s.current_package rest ≡ Some q = sym (subst (λ k. Some q ≡ given_or a_name k rest) c.current_package.ensures c.in_ok-name_or.ensures) in
     let named : package_named s.packages q ≡ Some p = sym (ap Some c.as_slice.ensures.value ∙ c.in_ok-package.ensures.unlocked.0) in
     let free = ap is_locked c.as_slice.ensures.value ∙ c.in_ok-package.ensures.unlocked.1 in

@@ -1,6 +1,6 @@
 use Rattle.std.proofs.Common.{◌∙◌, ap, sym}
-use Rattle.message_command.specs.Session.{status_of}
+use Rattle.message_command.specs.Session.{session_status}
 use Rattle.message_command.proofs.command.end_after.Goals as goal
 
 pub returns-in-End : goal.returns-in-End
-returns-in-End g c = c.end_with.ensures.status ∙ sym (ap status_of c.in-End.is)
+returns-in-End g c = c.end_with.ensures.status ∙ sym (ap session_status c.in-End.is)

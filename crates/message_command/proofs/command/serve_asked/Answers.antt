@@ -1,5 +1,5 @@
 use Rattle.std.proofs.Common.{◌∙◌, inl, inr, refl, subst, sym}
-use Rattle.message_command.specs.Session.{status_of}
+use Rattle.message_command.specs.Session.{session_status}
 use Rattle.message_session.specs.declared.ended.Ended.{Ended}
 use Rattle.message_session.specs.declared.ended.Ended.TheVariants.{End, NoFrame, Fault}
 use Rattle.store_commands.specs.Folders.{OpensStore}
@@ -26,7 +26,7 @@ returns-in-Err-clause-opened g c = (
 )
 
 -- each end of a session is one of words that were taken
-taken_after : (ended : Ended) → TakesWords (status_of ended)
+taken_after : (ended : Ended) → TakesWords (session_status ended)
 taken_after End = tt
 taken_after (NoFrame place) = tt
 taken_after (Fault number) = tt

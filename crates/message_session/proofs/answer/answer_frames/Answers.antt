@@ -1,6 +1,6 @@
 use Rattle.std.proofs.Common.{◌+◌, List, map, take, drop, length, refl, sym, ap, subst, ◌∙◌, arith, length-drop}
 use Rattle.message_frames.specs.Frames.{sent}
-use Rattle.message_frames.specs.declared.frame.Frame.{Frame}
+use Rattle.message_frames.specs.declared.frame.MessageFrame.{MessageFrame}
 use Rattle.message_laws.proofs.Tidy.{sound_tidy}
 use Rattle.message_session.specs.Answers.{answered_bytes}
 use Rattle.message_session.specs.Sessions.{AreFramesAnswered}
@@ -31,7 +31,7 @@ fronts-preserved g c =
     let count = c.in-Ok.count in
     let now = g.O.AnswerRecipient.account c.answer_front.new.output in
     let taken = take count (map sent (drop done frames)) in
-    let is = ap (λ (fs : List Frame). take count (map sent fs)) (behind frames done) in
+    let is = ap (λ (fs : List MessageFrame). take count (map sent fs)) (behind frames done) in
     let more = subst (AnswersMore (g.O.AnswerRecipient.account c.fronts.output) now) is c.in-Ok.ensures.more in
     record {
       within = omega (arith, c.in-Ok.ensures.most, ap length (behind frames done), length-drop done frames, c.fronts.invariant.within);
@@ -86,4 +86,4 @@ returns-clause-more g c =
 
 pub answer_front-requires-clause-next : goal.answer_front-requires-clause-next
 answer_front-requires-clause-next g c =
-    subst (λ (fs : List Frame). ComeNext (g.O.AnswerRecipient.account c.fronts.output) (map sent fs)) (sym (behind c.args.frames.now c.fronts.done)) c.fronts.invariant.next
+    subst (λ (fs : List MessageFrame). ComeNext (g.O.AnswerRecipient.account c.fronts.output) (map sent fs)) (sym (behind c.args.frames.now c.fronts.done)) c.fronts.invariant.next

@@ -1,7 +1,7 @@
 use Rattle.std.proofs.Common.{◌≡◌, Err, map, subst, ℕ, List, Result, take}
 use Rattle.std.specs.Prelude.{IfOk}
 use Rattle.message_frames.specs.Frames.{sent}
-use Rattle.message_frames.specs.declared.frame.Frame.{Frame}
+use Rattle.message_frames.specs.declared.frame.MessageFrame.{MessageFrame}
 use Rattle.message_session.specs.Standing.{AnswersMore, RestsOrStops}
 use Rattle.message_session.specs.Steps.{TakesWithRoom}
 use Rattle.message_session.specs.declared.ended.Ended.{Ended}
@@ -11,7 +11,7 @@ use Rattle.message_session.proofs.answer.answer_front.Given.{Over}
 use Rattle.message_session.proofs.answer.answer_front.Goals as goal
 
 -- what was answered since, where nothing was written before
-moved : (g : Over) (first between last : g.row.O.Denot) (frames : List Frame) (result : Result ℕ Ended) → between ≡ first
+moved : (g : Over) (first between last : g.row.O.Denot) (frames : List MessageFrame) (result : Result ℕ Ended) → between ≡ first
     → IfOk result (λ count. AnswersMore (g.O.AnswerRecipient.account between) (g.O.AnswerRecipient.account last) (take count (map sent frames)))
     → IfOk result (λ count. AnswersMore (g.O.AnswerRecipient.account first) (g.O.AnswerRecipient.account last) (take count (map sent frames)))
 moved g first between last frames result same more =

@@ -1,6 +1,6 @@
 use Rattle.std.proofs.Common.{◌≡◌, ℕ, ◌+◌, List, ◌++◌, map, take, drop, refl, sym, ap, subst, ◌∙◌, arith}
 use Rattle.message_frames.specs.Frames.{sent}
-use Rattle.message_frames.specs.declared.frame.Frame.{Frame}
+use Rattle.message_frames.specs.declared.frame.MessageFrame.{MessageFrame}
 use Rattle.message_laws.proofs.Tidy.{sound_tidy}
 use Rattle.message_session.specs.Answers.{answered_bytes}
 use Rattle.message_session.specs.Sessions.{AreFramesAnswered}
@@ -15,15 +15,15 @@ use Rattle.message_session.proofs.Stops.{one_stopped}
 use Rattle.message_session.proofs.answer.answer_in_turn.Goals as goal
 
 -- one frame more
-one_more : (frames : List Frame) (i : ℕ) → map sent (take (i + 1) frames) ≡ map sent (take i frames) ++ at_place i frames
+one_more : (frames : List MessageFrame) (i : ℕ) → map sent (take (i + 1) frames) ≡ map sent (take i frames) ++ at_place i frames
 one_more frames i = front_more frames i 1 ∙ ap (λ l. map sent (take i frames) ++ l) (sym (as_first frames i))
 
 -- those that are left
-others : (frames : List Frame) (i : ℕ) → at_place i frames ++ map sent (drop (i + 1) frames) ≡ map sent (drop i frames)
+others : (frames : List MessageFrame) (i : ℕ) → at_place i frames ++ map sent (drop (i + 1) frames) ≡ map sent (drop i frames)
 others frames i = ap (λ l. l ++ map sent (drop (i + 1) frames)) (as_first frames i) ∙ rest_more frames i 1
 
 -- all of them
-all_of : (frames : List Frame) (i : ℕ) → (map sent (take i frames) ++ at_place i frames) ++ map sent (drop (i + 1) frames) ≡ map sent frames
+all_of : (frames : List MessageFrame) (i : ℕ) → (map sent (take i frames) ++ at_place i frames) ++ map sent (drop (i + 1) frames) ≡ map sent frames
 all_of frames i = ap (λ l. l ++ map sent (drop (i + 1) frames)) (sym (one_more frames i)) ∙ whole frames (i + 1)
 
 pub frames-init : goal.frames-init

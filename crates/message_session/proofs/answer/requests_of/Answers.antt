@@ -1,17 +1,17 @@
 use Rattle.std.proofs.Common.{◌≡◌, ℕ, ◌+◌, ◌<◌, List, [], ◌∷◌, ◌++◌, Option, length, get_or, map, take, sym, ap, ◌∙◌, arith}
 use Rattle.std.proofs.lemmas.List.{length-map, map-append, take_all, take_more}
 use Rattle.message_frames.specs.Frames.{sent}
-use Rattle.message_frames.specs.declared.frame.Frame.{Frame}
+use Rattle.message_frames.specs.declared.frame.MessageFrame.{MessageFrame}
 use Rattle.message_session.specs.Answers.{message_number, parts_of_frame, parts_of_request}
 use Rattle.message_session.proofs.Requests.{as_many}
 use Rattle.messages.specs.declared.request.Request.{Request}
 use Rattle.message_session.proofs.answer.requests_of.Goals as goal
 
-abbrev asked_by_first : List Frame → ℕ → List (Option ℕ × List ℕ)
+abbrev asked_by_first : List MessageFrame → ℕ → List (Option ℕ × List ℕ)
 asked_by_first frames n = map parts_of_frame (map sent (take n frames))
 
 -- one request more
-one_more : (frames : List Frame) (n : ℕ) (default : Frame) (requests later : List Request) (number : Option ℕ) → n < length frames
+one_more : (frames : List MessageFrame) (n : ℕ) (default : MessageFrame) (requests later : List Request) (number : Option ℕ) → n < length frames
     → later ≡ requests ++ record { number = number; text = (get_or frames n default).text } ∷ [] → number ≡ message_number (get_or frames n default).kind
     → map parts_of_request requests ≡ asked_by_first frames n → map parts_of_request later ≡ asked_by_first frames (n + 1)
 one_more frames n default requests later number within is same pairs =

@@ -2,7 +2,7 @@ use Rattle.std.proofs.Common.{◌≡◌, ℕ, List, Some, Result, Err, map, take
 use Rattle.std.specs.Prelude.{IfOk}
 use Rattle.lisp_object.specs.declared.refusal.TheConstants.{LOG_FULL}
 use Rattle.message_frames.specs.Frames.{sent}
-use Rattle.message_frames.specs.declared.frame.Frame.{Frame}
+use Rattle.message_frames.specs.declared.frame.MessageFrame.{MessageFrame}
 use Rattle.message_laws.proofs.Tidy.{sound_tidy}
 use Rattle.message_session.specs.Standing.{AnswersMore, Rests, RestsOrStops}
 use Rattle.message_session.specs.Steps.{RefusesFirst, TakesFrames}
@@ -96,7 +96,7 @@ returns-clause-takes g c = λ w known.
     c.take_frames-2.result (full_anew functions g.D.Disk.state c.take_frames.new.store c.renew_for_room.new.store w frames renewed) (c.take_frames-2.ensures.takes w renewed.renews.left))
 
 -- where nothing was written before
-moved : (g : Over) (first between last : g.row.O.Denot) (frames : List Frame) (result : Result ℕ Stop) → between ≡ first
+moved : (g : Over) (first between last : g.row.O.Denot) (frames : List MessageFrame) (result : Result ℕ Stop) → between ≡ first
     → IfOk result (λ count. AnswersMore (g.O.AnswerRecipient.account between) (g.O.AnswerRecipient.account last) (take count (map sent frames)))
     → IfOk result (λ count. AnswersMore (g.O.AnswerRecipient.account first) (g.O.AnswerRecipient.account last) (take count (map sent frames)))
 moved g first between last frames result same more =

@@ -1,6 +1,6 @@
 use Rattle.std.proofs.Common.{◌+◌, [], length, rules, refl, sym, ap, subst, ◌∙◌, arith, length-append, length-drop, length-take}
 use Rattle.std.proofs.lemmas.Grind.{common_steps}
-use Rattle.message_frames.specs.Frames.{IsBegun}
+use Rattle.message_frames.specs.Frames.{IsBegunFrame}
 use Rattle.message_laws.proofs.Tidy.{sound_tidy}
 use Rattle.message_session.specs.Sessions.{text_limit}
 use Rattle.message_session.specs.Standing.{IsReadIn}
@@ -18,7 +18,7 @@ pieces-init g c = record {
   count = omega arith;
   answered = λ w known.
       subst (λ rest. HasCome g.R.Meaning.Meaning.functions c.args.course.last w g.D.Disk.state (g.I.Read.remaining c.args.input.now) (g.I.Read.remaining c.args.input.now)
-      (g.O.AnswerRecipient.contents c.args.output.now) (g.O.AnswerRecipient.contents c.args.output.now) c.args.store.now c.args.course.last rest 0 × IsBegun text_limit rest) (sym c.new.ensures)
+      (g.O.AnswerRecipient.contents c.args.output.now) (g.O.AnswerRecipient.contents c.args.output.now) c.args.store.now c.args.course.last rest 0 × IsBegunFrame text_limit rest) (sym c.new.ensures)
       (come_first g.R.Meaning.Meaning.functions c.args.course.last w g.D.Disk.state (sound_tidy w (c.its_world_is_sound.ensures w known)) (g.I.Read.remaining c.args.input.now) (g.O.AnswerRecipient.contents c.args.output.now) c.args.store.now known, begun_none);
   rests = c.requires.rests;
   read = subst (IsReadIn (g.O.AnswerRecipient.account c.args.output.now) (g.I.Read.remaining c.args.input.now)) (sym c.new.ensures) c.requires.read;

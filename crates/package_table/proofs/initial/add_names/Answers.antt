@@ -1,7 +1,7 @@
 use Rattle.std.proofs.Common.{◌≡◌, ◌∙◌, ◌+◌, ◌<◌, List, [], length, get_or, refl, sym, ap, subst, Bor, arith}
 use Rattle.std.proofs.lemmas.List.{get_or-map, length-map, length_push}
 use Rattle.package_sets.specs.Kept.{Kept, name_at}
-use Rattle.package_sets.specs.Changes.{symbol_named, with_symbol, number_in}
+use Rattle.package_sets.specs.Changes.{symbol_named, with_symbol, number_among}
 use Rattle.package_table.specs.Table.{Name}
 use Rattle.package_table.specs.Readers.{names_of}
 use Rattle.package_table.specs.Meaning.{numbered_of}
@@ -30,7 +30,7 @@ loop-name-preserved c =
     let less : c.loop-name.name-index < length (names_of names) = (let size = length-map names (λ (n : Bor Name). n.now) in omega (arith, size, c.loop-name-test.true)) in
     let ok = c.in_ok-intern.ensures.ok in
     let many = c.loop-name.invariant.5 in
-    let more = length_push c.loop-name.sets.symbols (c.args.owner, number_in c.loop-name.sets.names (get_or names c.loop-name.name-index none).now) in
+    let more = length_push c.loop-name.sets.symbols (c.args.owner, number_among c.loop-name.sets.names (get_or names c.loop-name.name-index none).now) in
     let count : length c.intern.new.self.symbols ≡ length c.args.sets.now.symbols + (c.loop-name.name-index + 1) = ap (λ (k : Kept). length k.symbols) ok ∙ more ∙ (let total : length c.loop-name.sets.symbols + 1 ≡ length c.args.sets.now.symbols + (c.loop-name.name-index + 1) = omega (arith, many) in total) in (
       ap (λ (k : Kept). (numbered_of k).0) (ok ∙ ap (with_symbol c.loop-name.sets c.args.owner) (sym name)) ∙ next_table c.args.sets.now c.loop-name.sets c.goodness.ensures c.args.owner c.requires.owner c.requires.locked c.loop-name.invariant.1 (names_of names) c.requires.distinct c.loop-name.name-index less c.loop-name.invariant.0,
       ap (λ (k : Kept). k.packages) ok ∙ c.loop-name.invariant.1,

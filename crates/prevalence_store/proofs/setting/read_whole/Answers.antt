@@ -4,7 +4,7 @@ use Rattle.form_reader.specs.Reader.{IsOutcome}
 use Rattle.form_reader.specs.declared.reader.ReadOutcome.{ReadOutcome}
 use Rattle.lisp_reading.specs.Reading.{form, empty, refused}
 use Rattle.prevalence_store.specs.meaning.Acceptance.{read_in}
-use Rattle.prevalence_store.specs.steps.Setting.{AreThere}
+use Rattle.prevalence_store.specs.steps.Setting.{SymbolsAreThere}
 use Rattle.prevalence_store.proofs.calls.Executing.{accepts_by, form_places, form_read, leaves_over}
 use Rattle.prevalence_store.proofs.steps.Fitting.{fits_in, is_form}
 use Rattle.prevalence_store.proofs.setting.read_whole.Goals as goal
@@ -45,6 +45,6 @@ returns-else-next-text g c =
         proper = told.1;
         form = is_form w.packages (object_of f.datum) told.2
             (fits_in functions w c.args.mode c.args.text.now (object_of f.datum) f.start f.end f.next c.soundness.ensures.present told.0);
-        all_there = λ known. subst (AreThere w.packages) f.is (c.in_ok-outcome.ensures.all_there known);
+        all_there = λ known. subst (SymbolsAreThere w.packages) f.is (c.in_ok-outcome.ensures.all_there known);
       };
     }

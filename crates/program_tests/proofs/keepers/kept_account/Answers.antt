@@ -1,5 +1,5 @@
 use Rattle.std.proofs.Common.{◌≡◌, Some, IsSome, refl, sym, ap, subst, ◌∙◌}
-use Rattle.program_tests.specs.Keepers.{began_with, first_of}
+use Rattle.program_tests.specs.Keepers.{began_with, first_account_of}
 use Rattle.program_tests.proofs.Keeping.{at_each_moment, keeps_first, session_calls}
 use Rattle.program_tests.proofs.keepers.kept_account.Goals as goal
 
@@ -12,10 +12,10 @@ returns-in-Some g c = λ world known honest.
     let store = c.serve_wanted-ended.new.store in
     let keeper = c.serve_wanted-ended.new.writer in
     let still = c.serve_wanted-ended.ensures.first in
-    let same : first_of keeper ≡ first_of c.new-keeper.result = cc in
+    let same : first_account_of keeper ≡ first_account_of c.new-keeper.result = cc in
     at_each_moment functions state start store input world known
     (session_calls functions g.row.M.Denot state (began_with start input) store keeper
     (λ handings handed since. c.sessions.ensures.ended functions (began_with start input) handings store handed since honest
     (keeps_first functions state start world known (c.keeps_its_world.ensures world known honest)))
-    (same ∙ ap first_of c.new-keeper.ensures) c.in-Some.ensures.1 c.is_kept.ensures
+    (same ∙ ap first_account_of c.new-keeper.ensures) c.in-Some.ensures.1 c.is_kept.ensures
     (c.serve_wanted-ended.ensures.under_way (subst (λ o. IsSome o) (sym known) refl)))

@@ -2,7 +2,7 @@ use Rattle.std.proofs.Common.{◌+◌, [], take, subst, arith}
 use Rattle.form_reader.specs.Reader.{fed}
 use Rattle.lisp_object.specs.Datum.{object_of}
 use Rattle.sessions.specs.declared.input.Fed.{Fed}
-use Rattle.sessions.specs.steps.Input.{AreAllThere, Feeds, IsSoundFed, IsWithin}
+use Rattle.sessions.specs.steps.Input.{AreAllThere, Feeds, IsSoundFed, PlacesAreWithin}
 use Rattle.sessions.proofs.Gathering.{may_add, piece_begins}
 use Rattle.sessions.proofs.gather.whole_form.Goals as goal
 
@@ -40,5 +40,5 @@ pub returns-in-Form-clause-within : goal.returns-in-Form-clause-within
 returns-in-Form-clause-within g c =
     let n = c.in-Ok.part.count in
     let f = c.in-Form in
-    let places = subst (IsWithin (fed c.new-pending.result.reader + n)) f.is c.in-Ok.ensures.part.places in
+    let places = subst (PlacesAreWithin (fed c.new-pending.result.reader + n)) f.is c.in-Ok.ensures.part.places in
     rw f.is (omega (arith, places.0), omega (arith, places.1, c.new-pending.ensures.count, c.in-Ok.ensures.part.within))

@@ -3,7 +3,7 @@ use Rattle.form_reader.specs.Reader.{fed}
 use Rattle.lisp_object.specs.Datum.{object_of}
 use Rattle.sessions.specs.declared.input.Fed.{Fed}
 use Rattle.sessions.specs.steps.Course.{course_of}
-use Rattle.sessions.specs.steps.Input.{AreAllThere, Finishes, IsSoundFed, IsWithin}
+use Rattle.sessions.specs.steps.Input.{AreAllThere, Finishes, IsSoundFed, PlacesAreWithin}
 use Rattle.sessions.specs.steps.Serve.{EndsAt}
 use Rattle.sessions.proofs.EndedAt.{done_at_end, fault_at_end, memory_at_end, read_at_end}
 use Rattle.sessions.proofs.Pieces.{ended_form, last_begins, last_start}
@@ -22,10 +22,10 @@ returns-in-Nothing-clause-ends g c = λ w known bytes p.
     (sym (subst (λ (f : Fed). Finishes functions w c.args.wanted.mode bytes f) c.in-Nothing.is (c.in-Ok.ensures.finishes w known bytes p)))
 
 pub place-place-requires-clause-start : goal.place-place-requires-clause-start
-place-place-requires-clause-start g c = let within = subst (λ (given : Fed). IsWithin (fed c.args.pending.reader) given) c.in-Refused.is c.in-Ok.ensures.within in omega (arith, within.0, c.requires.count)
+place-place-requires-clause-start g c = let within = subst (λ (given : Fed). PlacesAreWithin (fed c.args.pending.reader) given) c.in-Refused.is c.in-Ok.ensures.within in omega (arith, within.0, c.requires.count)
 
 pub place-place-requires-clause-at : goal.place-place-requires-clause-at
-place-place-requires-clause-at g c = let within = subst (λ (given : Fed). IsWithin (fed c.args.pending.reader) given) c.in-Refused.is c.in-Ok.ensures.within in omega (arith, within.1, c.requires.count)
+place-place-requires-clause-at g c = let within = subst (λ (given : Fed). PlacesAreWithin (fed c.args.pending.reader) given) c.in-Refused.is c.in-Ok.ensures.within in omega (arith, within.1, c.requires.count)
 
 pub returns-in-Refused-clause-ends : goal.returns-in-Refused-clause-ends
 returns-in-Refused-clause-ends g c = λ w known bytes p.
@@ -50,7 +50,7 @@ answer_fault-requires-clause-stands g c = λ w known.
 pub answer_read-requires : goal.answer_read-requires
 answer_read-requires g c =
     let f = c.in-Form in
-    let within = subst (λ (given : Fed). IsWithin (fed c.args.pending.reader) given) f.is c.in-Ok.ensures.within in record {
+    let within = subst (λ (given : Fed). PlacesAreWithin (fed c.args.pending.reader) given) f.is c.in-Ok.ensures.within in record {
       form = record {
         is_open = c.requires.pending.is_open;
         begins = λ w known.
@@ -81,7 +81,7 @@ returns-clause-ends g c = λ w known bytes p.
     let functions = g.R.Meaning.Meaning.functions in
     let f = c.in-Form in
     let last = subst (λ (fed : Fed). Finishes functions w c.args.wanted.mode bytes fed) f.is (c.in-Ok.ensures.finishes w known bytes p) in
-    let within = subst (λ (given : Fed). IsWithin (fed c.args.pending.reader) given) f.is c.in-Ok.ensures.within in
+    let within = subst (λ (given : Fed). PlacesAreWithin (fed c.args.pending.reader) given) f.is c.in-Ok.ensures.within in
     read_at_end functions g.D.Disk.state c.args.wanted (course_of c.args.course.now) (course_of c.answer_read.new.course) c.args.store.now c.answer_read.new.store w bytes
     (g.W.Recipient.contents c.args.writer.now) (g.W.Recipient.contents c.answer_read.new.writer) f.form.start f.form.next c.in-Err-answer_read.ended
     (c.in-Err-answer_read.ensures.answers w known bytes _

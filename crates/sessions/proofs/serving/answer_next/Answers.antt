@@ -5,7 +5,7 @@ use Rattle.form_reader.specs.Reader.{fed}
 use Rattle.lisp_object.specs.Datum.{object_of}
 use Rattle.sessions.specs.declared.input.Fed.{Fed}
 use Rattle.sessions.specs.steps.Course.{course_of}
-use Rattle.sessions.specs.steps.Input.{AreAllThere, Feeds, IsSoundFed, IsWithin}
+use Rattle.sessions.specs.steps.Input.{AreAllThere, Feeds, IsSoundFed, PlacesAreWithin}
 use Rattle.sessions.specs.declared.group.Grouped.{Grouped}
 use Rattle.prevalence_store.specs.calls.Store.{StoreView}
 use Rattle.prevalence_store.specs.meaning.Acceptance.{read_in}
@@ -56,10 +56,10 @@ returns-in-Refused-clause-answers g c = λ w known bytes p.
     refuses.0 c.answer_fault.ensures.same f.start c.place-place.result place.0 place.1 (place.2 ∙ ap (λ k. course.bytes + k) (sym refuses.1)) (refuses.2, refuses.3) c.answer_fault.result c.answer_fault.ensures.answers))
 
 pub place-place-requires-clause-start : goal.place-place-requires-clause-start
-place-place-requires-clause-start g c = let within = subst (λ (given : Fed). IsWithin (fed c.args.pending.now.reader + c.in-Ok.part.count) given) c.in-Refused.is c.in-Ok.ensures.part.places in omega (arith, within.0, c.requires.count, c.in-Ok.ensures.part.within)
+place-place-requires-clause-start g c = let within = subst (λ (given : Fed). PlacesAreWithin (fed c.args.pending.now.reader + c.in-Ok.part.count) given) c.in-Refused.is c.in-Ok.ensures.part.places in omega (arith, within.0, c.requires.count, c.in-Ok.ensures.part.within)
 
 pub place-place-requires-clause-at : goal.place-place-requires-clause-at
-place-place-requires-clause-at g c = let within = subst (λ (given : Fed). IsWithin (fed c.args.pending.now.reader + c.in-Ok.part.count) given) c.in-Refused.is c.in-Ok.ensures.part.places in omega (arith, within.1, c.requires.count, c.in-Ok.ensures.part.within)
+place-place-requires-clause-at g c = let within = subst (λ (given : Fed). PlacesAreWithin (fed c.args.pending.now.reader + c.in-Ok.part.count) given) c.in-Refused.is c.in-Ok.ensures.part.places in omega (arith, within.1, c.requires.count, c.in-Ok.ensures.part.within)
 
 -- ---- a form that was read, and those that stand whole after it
 
@@ -149,7 +149,7 @@ pub answer_read-requires : goal.answer_read-requires
 answer_read-requires g c =
     let f = c.in-Form in
     let left = c.answer_group.ensures.left c.in-Left.is in
-    let within = subst (λ (given : Fed). IsWithin (fed c.args.pending.now.reader + c.in-Ok.part.count) given) f.is c.in-Ok.ensures.part.places in record {
+    let within = subst (λ (given : Fed). PlacesAreWithin (fed c.args.pending.now.reader + c.in-Ok.part.count) given) f.is c.in-Ok.ensures.part.places in record {
       form = subst (λ (o : Option WorldState). IsFormOf g.R.Meaning.Meaning.functions o c.args.wanted.mode f.form.read f.form.own.items) (ap (λ (s : StoreView g.row.D.Denot g.row.R.Denot). s.world) (sym left.0)) (record {
         is_open = c.requires.pending.is_open;
         begins = λ w known.
@@ -199,7 +199,7 @@ returns-clause-answers g c = λ w known bytes p.
     let left = c.answer_group.ensures.left c.in-Left.is in
     let f = c.in-Form in
     let has = subst (λ (fed : Fed). Feeds functions w c.args.wanted.mode c.feed.new.pending text fed) f.is (c.in-Ok.ensures.feeds w known bytes p) in
-    let within = subst (λ (given : Fed). IsWithin (fed c.args.pending.now.reader + c.in-Ok.part.count) given) f.is c.in-Ok.ensures.part.places in
+    let within = subst (λ (given : Fed). PlacesAreWithin (fed c.args.pending.now.reader + c.in-Ok.part.count) given) f.is c.in-Ok.ensures.part.places in
     let still = ap (λ (s : StoreView g.row.D.Denot g.row.R.Denot). s.world) left.0 ∙ known in
     ended_within functions g.D.Disk.state c.args.wanted course later c.args.store.now c.answer_read.new.store w c.args.wanted.mode held written c.feed.new.pending bytes piece n c.in-Err-answer_read.ended
     (λ more. read_ended functions g.D.Disk.state c.args.wanted course later c.args.store.now c.answer_read.new.store w (text ++ more) held written f.form.start f.form.next c.in-Err-answer_read.ended

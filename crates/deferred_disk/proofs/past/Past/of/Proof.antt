@@ -30,7 +30,7 @@ use Rattle.std.specs.contracts.vec.Vec as Vec
 use Rattle.std.specs.contracts.alloc.Global as Heap
 use Rattle.std.specs.contracts.impls.GlobalAllocator.TheImpl.{ghosts}
 use Rattle.deferred_disk.specs.contracts.past.Past as Past
-use Rattle.deferred_disk.specs.Calls.{begun}
+use Rattle.deferred_disk.specs.Calls.{first_calls}
 use Rattle.deferred_disk.specs.contracts.past.Past.of as F
 use Rattle.deferred_disk.specs.contracts.past.Past.of.Key.{name as #self}
 use Rattle.deferred_disk.proofs.past.Past.of.Statement as stated
@@ -64,7 +64,7 @@ module _ {M : Type 1} {𝓤 : Ura M} (𝓛 : Logic 𝓤) (at_mem : Memory → SP
         let vss = z.0.4 in
         let u : Val = vptr a.0.ref_ptr.0 a.0.ref_ptr.1 in
         let v : Val = vptr a.1.0.ref_ptr.0 a.1.0.ref_ptr.1 in
-        let past : (Past.the_row).Denot = record { calls = begun a.0.now.items a.1.0.now.items } in
+        let past : (Past.the_row).Denot = record { calls = first_calls a.0.now.items a.1.0.now.items } in
         qed 𝓛 ((raw toks ⊛ ‵ (owns (types_at ended.signature.params z.0.0) a vss)) ∷ raw ((held z.0.0 a).requires z.1) ∷ []) ∵
         keep ! (0 ∷ []) $ split ! $ move ! (1 ∷ []) $ fsplit ! $ fsplit ! $ feq_l ! (λ is₀. drop ! $ fsplit ! $ fsplit ! $ feq_l ! (λ is₁. drop ! $ drop ! $
         regoal ! (λ (us : List Val). prop (WpFn 𝓤 H C Λ function (us ++ (vss.1.0 ++ [])) Post)) is₀ refl $

@@ -28,8 +28,8 @@ use denote.Triple.Walked.{says, Stays, stay_dropped, walk_of, ends_at, walk_Meet
 use Rattle.deferred_disk.proofs.Walks.{none, none_made}
 use Rattle.deferred_disk.specs.contracts.past.Past as Past
 use Rattle.deferred_disk.specs.contracts.order.Order as Order
-use Rattle.deferred_disk.specs.Calls.{asked}
-use Rattle.deferred_disk.specs.Noted.{order_of}
+use Rattle.deferred_disk.specs.Calls.{with_order}
+use Rattle.deferred_disk.specs.Noted.{order_value}
 use Rattle.deferred_disk.specs.contracts.past.Past.then as F
 use Rattle.deferred_disk.specs.contracts.past.Past.then.Key.{name as #self}
 use Rattle.deferred_disk.proofs.past.Past.then.Statement as stated
@@ -63,7 +63,7 @@ module _ {M : Type 1} {𝓤 : Ura M} (𝓛 : Logic 𝓤) (at_mem : Memory → SP
         let vss = z.0.4 in
         let u : Val = vptr a.0.ref_ptr.0 a.0.ref_ptr.1 in
         let v : Val = vptr a.1.0.ref_ptr.0 a.1.0.ref_ptr.1 in
-        let past : (Past.the_row).Denot = record { calls = asked a.0.now.calls (order_of a.1.0.now) } in
+        let past : (Past.the_row).Denot = record { calls = with_order a.0.now.calls (order_value a.1.0.now) } in
         qed 𝓛 ((raw toks ⊛ ‵ (owns (types_at ended.signature.params z.0.0) a vss)) ∷ raw ((held z.0.0 a).requires z.1) ∷ []) ∵
         keep ! (0 ∷ []) $ split ! $ move ! (1 ∷ []) $ fsplit ! $ fsplit ! $ feq_l ! (λ is₀. drop ! $ fsplit ! $ fsplit ! $ feq_l ! (λ is₁. drop ! $ drop ! $
         regoal ! (λ (us : List Val). prop (WpFn 𝓤 H C Λ function (us ++ (vss.1.0 ++ [])) Post)) is₀ refl $

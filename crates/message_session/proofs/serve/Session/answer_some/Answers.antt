@@ -1,7 +1,7 @@
 use Rattle.std.proofs.Common.{◌≡◌, ℕ, ◌<◌, List, length, map, drop, sym, subst}
 use Rattle.std.specs.Borrow.{Bor}
 use Rattle.message_frames.specs.Frames.{AreFrames, sent}
-use Rattle.message_frames.specs.declared.frame.Frame.{Frame}
+use Rattle.message_frames.specs.declared.frame.MessageFrame.{MessageFrame}
 use Rattle.message_laws.proofs.Tidy.{sound_tidy}
 use Rattle.message_session.specs.Sessions.{text_limit}
 use Rattle.message_session.specs.Steps.{ComesAfter}
@@ -18,11 +18,11 @@ returns-clause-answers g c = λ w known.
       map sent c.as_slice-frames.result.now,
       record {
         parts = subst (λ rest. AreFrames text_limit (map sent c.as_slice-frames.result.now) rest held) (sym c.pass.ensures)
-            (subst (λ (fs : List Frame). AreFrames text_limit (map sent fs) (drop c.in-Ok.whole.bytes held) held) (sym c.as_slice-frames.ensures.value) whole.frames);
+            (subst (λ (fs : List MessageFrame). AreFrames text_limit (map sent fs) (drop c.in-Ok.whole.bytes held) held) (sym c.as_slice-frames.ensures.value) whole.frames);
         answered = c.in-Ok-answer_frames.ensures.answers w known;
       },
       subst (λ rest. ComesAfter (map sent c.as_slice-frames.result.now) rest c.in-Ok.whole.next) (sym c.pass.ensures)
-          (subst (λ (fs : List Frame). ComesAfter (map sent fs) (drop c.in-Ok.whole.bytes held) c.in-Ok.whole.next) (sym c.as_slice-frames.ensures.value)
+          (subst (λ (fs : List MessageFrame). ComesAfter (map sent fs) (drop c.in-Ok.whole.bytes held) c.in-Ok.whole.next) (sym c.as_slice-frames.ensures.value)
           (comes_after c.most-most.result c.in-Ok.whole.frames.items (drop c.in-Ok.whole.bytes held) c.in-Ok.whole.next c.most-most.ensures whole.follows)),
     )
 
@@ -45,8 +45,8 @@ returns-in_default-clause-answers g c = λ w known.
     breaks_in_none g.R.Meaning.Meaning.functions c.args.self.now.course.last w (sound_tidy w (c.its_world_is_sound.ensures w known)) g.D.Disk.state c.args.store.now (g.O.AnswerRecipient.contents c.args.output.now) c.args.self.now.held known
 
 -- the frames that stand whole
-parts_of : (bytes : List ℕ) (items : List Frame) (frames : Bor (List Frame)) (rest : List ℕ) → frames.now ≡ items → AreFrames text_limit (map sent items) rest bytes → AreFrames text_limit (map sent frames.now) rest bytes
-parts_of bytes items frames rest same parts = subst (λ (fs : List Frame). AreFrames text_limit (map sent fs) rest bytes) (sym same) parts
+parts_of : (bytes : List ℕ) (items : List MessageFrame) (frames : Bor (List MessageFrame)) (rest : List ℕ) → frames.now ≡ items → AreFrames text_limit (map sent items) rest bytes → AreFrames text_limit (map sent frames.now) rest bytes
+parts_of bytes items frames rest same parts = subst (λ (fs : List MessageFrame). AreFrames text_limit (map sent fs) rest bytes) (sym same) parts
 
 pub returns-in-Err-clause-answers : goal.returns-in-Err-clause-answers
 returns-in-Err-clause-answers g c = λ w known.

@@ -1,7 +1,7 @@
 use Rattle.std.proofs.Common.{◌≡◌, [], ◌∷◌, length, length-append, refl, sym, ap, subst, ◌∙◌, arith}
 use Rattle.plist_state.specs.State.{Worlds}
 use Rattle.prevalence_store.specs.declared.failure.Unadded.{Unadded}
-use Rattle.messages.specs.Answers.{Round, answered, begun}
+use Rattle.messages.specs.Answers.{Round, answered, first_round}
 use Rattle.messages.specs.Calls.{RefusesOwn}
 use Rattle.messages.specs.Fronts.{first_of}
 use Rattle.messages.specs.Rounds.{IfRefused, IsMade, round_in}
@@ -29,7 +29,7 @@ returns-in-Err-Refused-clause-made g c =
     let w = c.args.world.now in
     let marked : IsMarked w c.answer_up_to.new.world.1 = c.answer_up_to.ensures.marks w ([], ap (λ (s : Worlds). s.1) c.in_ok-begun.ensures.marked) in
     let back : c.back_to.new.self ≡ w = c.back_to.ensures.whole w marked.0 marked.1 (sym c.mark_count-mark.ensures) in
-    let first : round_in c.new-round.result c.begin.new.world.0 ≡ begun turn.last w.0 = c.new-round.ensures ∙ ap (λ (s : Worlds). begun turn.last s.0) c.in_ok-begun.ensures.marked in
+    let first : round_in c.new-round.result c.begin.new.world.0 ≡ first_round turn.last w.0 = c.new-round.ensures ∙ ap (λ (s : Worlds). first_round turn.last s.0) c.in_ok-begun.ensures.marked in
     let e = c.in-Err-Refused in (
       subst (λ (r : Round). RefusesOwn functions r (first_of functions turn.most r turn.requests.now) e.number) first
           (subst (λ (cause : Unadded). IfRefused cause (RefusesOwn functions (round_in c.new-round.result c.begin.new.world.0) (first_of functions turn.most (round_in c.new-round.result c.begin.new.world.0) turn.requests.now))) e.field-0-is e.ensures.refused),
@@ -67,7 +67,7 @@ returns-then-not-wrote-clause-made g c =
     let v = c.answer_up_to.new.world.0 in
     let marked : IsMarked w c.answer_up_to.new.world.1 = c.answer_up_to.ensures.marks w ([], ap (λ (s : Worlds). s.1) c.in_ok-begun.ensures.marked) in
     let back : c.back_to-then-not-wrote.new.self ≡ w = c.back_to-then-not-wrote.ensures.whole w marked.0 marked.1 (sym c.mark_count-mark.ensures) in
-    let first : round_in c.new-round.result c.begin.new.world.0 ≡ begun turn.last w.0 = c.new-round.ensures ∙ ap (λ (s : Worlds). begun turn.last s.0) c.in_ok-begun.ensures.marked in
+    let first : round_in c.new-round.result c.begin.new.world.0 ≡ first_round turn.last w.0 = c.new-round.ensures ∙ ap (λ (s : Worlds). first_round turn.last s.0) c.in_ok-begun.ensures.marked in
     let turned : round_in held v ≡ round_of functions turn w.0 = c.in-Ok.ensures.answered ∙ ap (λ (r : Round). answered functions r (first_of functions turn.most r turn.requests.now)) first in
     let made = c.in-Ok.ensures.made w.0 (subst (IsMade functions w.0) (sym first) (record { again = refl; fit = tt })) in
     replied_silent functions turn w.0 held v turned made c.into_parts-replies.result.0 c.into_parts-replies.ensures.answers c.into_parts-replies.ensures.last c.args.batch.now
@@ -89,7 +89,7 @@ returns-clause-made g c =
     let w = c.args.world.now in
     let held = c.answer_up_to.new.self in
     let v = c.answer_up_to.new.world.0 in
-    let first : round_in c.new-round.result c.begin.new.world.0 ≡ begun turn.last w.0 = c.new-round.ensures ∙ ap (λ (s : Worlds). begun turn.last s.0) c.in_ok-begun.ensures.marked in
+    let first : round_in c.new-round.result c.begin.new.world.0 ≡ first_round turn.last w.0 = c.new-round.ensures ∙ ap (λ (s : Worlds). first_round turn.last s.0) c.in_ok-begun.ensures.marked in
     let turned : round_in held v ≡ round_of functions turn w.0 = c.in-Ok.ensures.answered ∙ ap (λ (r : Round). answered functions r (first_of functions turn.most r turn.requests.now)) first in
     let made = c.in-Ok.ensures.made w.0 (subst (IsMade functions w.0) (sym first) (record { again = refl; fit = tt })) in
     replied_written functions turn w.0 held v turned made c.into_parts-replies.result.0 c.into_parts-replies.ensures.answers c.into_parts-replies.ensures.last c.into_parts-replies.result.1 c.if-not-wrote.false c.into_parts-replies.ensures.batch

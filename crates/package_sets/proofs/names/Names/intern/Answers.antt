@@ -4,7 +4,7 @@ use Rattle.std.specs.List.{list_any}
 use Rattle.package_sets.specs.declared.name.KeptName.{KeptName}
 use Rattle.std.proofs.lemmas.List.{map-append}
 use Rattle.package_sets.specs.Kept.{Name}
-use Rattle.package_sets.specs.Changes.{with_name, number_in}
+use Rattle.package_sets.specs.Changes.{with_name, number_among}
 use Rattle.package_sets.proofs.Places.{any-map, position_or_len-map}
 use Rattle.package_sets.proofs.names.Names.intern.Goals as goal
 
@@ -26,4 +26,4 @@ returns-clause-ok c =
 pub returns-clause-number : goal.returns-clause-number
 returns-clause-number c =
     c.in-Ok.ensures.index ∙ sym (position_or_len-map (λ k. k.bytes) (bytes_eq c.in_ok-bytes.bytes) c.self.inside.set.keys)
-    ∙ (λ i. number_in (c.self.view_is i) (c.in_ok-bytes.ensures i))
+    ∙ (λ i. number_among (c.self.view_is i) (c.in_ok-bytes.ensures i))

@@ -1,6 +1,6 @@
 use Rattle.std.proofs.Common.{All, sym, ap, subst, ◌∙◌}
 use Rattle.package_table.specs.Numbers.{numbered}
-use Rattle.plist_state.specs.Lists.{NumberedPlist, IsNumber, named}
+use Rattle.plist_state.specs.Lists.{NumberedPlist, IsNumber, named_plist}
 use Rattle.plist_state.specs.Shown.{items_in}
 use Rattle.plist_state.proofs.InState.{row_seen, none_seen}
 use Rattle.plist_state.proofs.Viewed.{are_numbers}
@@ -14,7 +14,7 @@ new-requires-clause-indicators c =
 
 pub returns-in-Some : goal.returns-in-Some
 returns-in-Some c =
-    c.new.ensures ∙ ap (named (numbered c.self.inside.packages)) c.row.ensures.list
+    c.new.ensures ∙ ap (named_plist (numbered c.self.inside.packages)) c.row.ensures.list
     ∙ row_seen c.self.inside c.args.self.now c.self.view_is (c.args.home.now, c.args.name.now) c.in-Some.number (sym c.in-Some.ensures)
 
 pub returns-in-None : goal.returns-in-None

@@ -9,7 +9,7 @@ use Rattle.plist_state.specs.Pushed.{holds_pair, pair_size, pushed, with_pushed_
 use Rattle.plist_state.specs.State.{Worlds}
 use Rattle.plist_state.specs.Shown.{NumberedRest, symbol_of, rest_of}
 use Rattle.plist_state.specs.Sound.{IsSymbol, IsValue, IsSound}
-use Rattle.plist_state.specs.Lists.{same_number, row_of, value_in, IsNumber, named, IsOwned}
+use Rattle.plist_state.specs.Lists.{same_number, row_of, value_in, IsNumber, named_plist, IsOwned}
 use Rattle.plist_state.specs.Journal.{marks_of}
 use Rattle.plist_state.specs.Marked.{state_in, earlier_states}
 use Rattle.plist_state.specs.Sizes.{AreSizes, AreOtherSizes}
@@ -61,7 +61,7 @@ invariant_of-self c =
     let indicator : IsSymbol s.0 i = subst (λ (w : Worlds). IsSymbol w.0.packages i) (sym c.self.view_is) c.requires.indicator in
     let value : IsValue s.0 (pushed v (property (state_in s r) x i)) = subst (λ (w : Worlds). IsValue w.0.packages (pushed v (property w.0 x i))) (sym c.self.view_is) c.requires.value in
     let numbers = all_with same_number (λ p. IsNumber s p.0) row j (pushed v (value_by same_number row j)) (number_is s (symbol_count s.0) c.numbering.ensures i j indicator_is) (λ p k. k) (c.self.invariant.now.owned.indicators n) in
-    let same : named s (with_pushed_by same_number row j v) ≡ with_pushed_by same_symbol (named s row) i v =
+    let same : named_plist s (with_pushed_by same_number row j v) ≡ with_pushed_by same_symbol (named_plist s row) i v =
     pushed_named s (symbol_count s.0) c.numbering.ensures i j indicator_is row (c.self.invariant.now.owned.indicators n) v in
     record {
       now = record {
@@ -98,7 +98,7 @@ invariant_of-self-2 c =
     let indicator : IsSymbol s.0 i = subst (λ (w : Worlds). IsSymbol w.0.packages i) (sym c.self.view_is) c.requires.indicator in
     let value : IsValue s.0 (pushed v (property (state_in s r) x i)) = subst (λ (w : Worlds). IsValue w.0.packages (pushed v (property w.0 x i))) (sym c.self.view_is) c.requires.value in
     let numbers = all_with same_number (λ p. IsNumber s p.0) row j (pushed v (value_by same_number row j)) (number_is s (symbol_count s.0) c.numbering.ensures i j indicator_is) (λ p k. k) (c.self.invariant.now.owned.indicators n) in
-    let same : named s (with_pushed_by same_number row j v) ≡ with_pushed_by same_symbol (named s row) i v =
+    let same : named_plist s (with_pushed_by same_number row j v) ≡ with_pushed_by same_symbol (named_plist s row) i v =
     pushed_named s (symbol_count s.0) c.numbering.ensures i j indicator_is row (c.self.invariant.now.owned.indicators n) v in
     let size_is : pair_size (Some (pushed v (value_in r.properties n j))) ≡ Some c.args.size =
     ap (λ o. pair_size (Some (pushed v o))) (property_seen a c.self.invariant c.args.self.now c.self.view_is x i (symbol_count s.0) c.numbering.ensures n j owner_is indicator_is) ∙ c.requires.size in

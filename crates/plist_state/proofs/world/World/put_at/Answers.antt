@@ -6,7 +6,7 @@ use Rattle.plist_state.specs.Properties.{with_value, with_value_by}
 use Rattle.plist_state.specs.State.{Worlds}
 use Rattle.plist_state.specs.Shown.{NumberedRest, symbol_named, rest_of}
 use Rattle.plist_state.specs.Sound.{IsSymbol, IsValue, IsSound}
-use Rattle.plist_state.specs.Lists.{same_number, row_of, IsNumber, named, IsOwned}
+use Rattle.plist_state.specs.Lists.{same_number, row_of, IsNumber, named_plist, IsOwned}
 use Rattle.plist_state.specs.Journal.{marks_of}
 use Rattle.plist_state.specs.Marked.{state_in, earlier_states}
 use Rattle.plist_state.specs.Sizes.{AreSizes}
@@ -44,7 +44,7 @@ invariant_of-self c =
     let indicator : IsSymbol s.0 i = subst (λ (w : Worlds). IsSymbol w.0.packages i) (sym c.self.view_is) c.requires.indicator in
     let value : IsValue s.0 v = subst (λ (w : Worlds). IsValue w.0.packages v) (sym c.self.view_is) c.requires.value in
     let numbers = all_with same_number (λ p. IsNumber s p.0) row j v (number_is s (symbol_count s.0) c.numbering.ensures i j c.number-indicator.ensures) (λ p k. k) (c.self.invariant.now.owned.indicators n) in
-    let same : named s (with_value_by same_number row j v) ≡ with_value (named s row) i v =
+    let same : named_plist s (with_value_by same_number row j v) ≡ with_value (named_plist s row) i v =
     with_named s (symbol_count s.0) c.numbering.ensures i j c.number-indicator.ensures row (c.self.invariant.now.owned.indicators n) v in
     record {
       now = record {

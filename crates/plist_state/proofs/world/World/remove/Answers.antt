@@ -9,7 +9,7 @@ use Rattle.plist_state.specs.Changes.{property}
 use Rattle.plist_state.specs.State.{Worlds}
 use Rattle.plist_state.specs.Shown.{NumberedRest, symbol_of, rest_of}
 use Rattle.plist_state.specs.Sound.{IsSymbol, IsSound}
-use Rattle.plist_state.specs.Lists.{same_number, row_of, IsNumber, named, IsOwned}
+use Rattle.plist_state.specs.Lists.{same_number, row_of, IsNumber, named_plist, IsOwned}
 use Rattle.plist_state.specs.Journal.{marks_of}
 use Rattle.plist_state.specs.Marked.{state_in, earlier_states}
 use Rattle.plist_state.specs.Sizes.{AreSizes}
@@ -62,7 +62,7 @@ invariant_of-self c =
     let is : number_of s i.0 i.1 ≡ Some j = (λ k. number_of s (sym c.home.ensures k) (sym c.name.ensures k)) ∙ sym c.in-Some.ensures in
     let made : NumberedRest = with_changed_row r n (λ ps. without_value_by same_number ps j) in
     let at_home : IsSymbol s.0 x = subst (λ (w : Worlds). IsSymbol w.0.packages x) (sym c.self.view_is) c.requires in
-    let same : named s (without_value_by same_number row j) ≡ without_value (named s row) i =
+    let same : named_plist s (without_value_by same_number row j) ≡ without_value (named_plist s row) i =
     without_named s (symbol_count s.0) c.numbering.ensures i j is row (c.self.invariant.now.owned.indicators n) in
     record {
       now = record {

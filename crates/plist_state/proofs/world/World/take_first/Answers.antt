@@ -9,7 +9,7 @@ use Rattle.plist_state.specs.Pushed.{holds_pair}
 use Rattle.plist_state.specs.Popped.{popped, with_popped_by}
 use Rattle.plist_state.specs.Shown.{NumberedRest, symbol_of, rest_of}
 use Rattle.plist_state.specs.Sound.{IsSymbol, IsValue, IsSound}
-use Rattle.plist_state.specs.Lists.{same_number, row_of, IsNumber, named, IsOwned}
+use Rattle.plist_state.specs.Lists.{same_number, row_of, IsNumber, named_plist, IsOwned}
 use Rattle.plist_state.specs.Journal.{marks_of}
 use Rattle.plist_state.specs.Marked.{state_in, earlier_states}
 use Rattle.plist_state.specs.Sizes.{AreSizes}
@@ -62,7 +62,7 @@ invariant_of-self c =
     let there : holds_pair (property (state_in s r) x i) ≡ true = subst (λ (w : Worlds). holds_pair (property w.0 x i) ≡ true) (sym c.self.view_is) c.requires.list in
     let value : IsValue s.0 (popped (property (state_in s r) x i)) = rest_value s.0 (property (state_in s r) x i) (λ v. sound_value (state_in s r) x i v c.self.invariant.now.sound) there in
     let numbers = all_with same_number (λ p. IsNumber s p.0) row j rest (number_is s (symbol_count s.0) c.numbering.ensures i j indicator_is) (λ p k. k) (c.self.invariant.now.owned.indicators n) in
-    let same : named s (with_popped_by same_number row j) ≡ with_popped_by same_symbol (named s row) i =
+    let same : named_plist s (with_popped_by same_number row j) ≡ with_popped_by same_symbol (named_plist s row) i =
     popped_named s (symbol_count s.0) c.numbering.ensures i j indicator_is row (c.self.invariant.now.owned.indicators n) in
     record {
       now = record {

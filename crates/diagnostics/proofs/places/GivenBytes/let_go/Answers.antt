@@ -3,7 +3,7 @@ use Rattle.std.specs.Prelude.{IfSome}
 use Rattle.diagnostics.specs.Places.{IsMoved}
 use Rattle.diagnostics.specs.declared.places.Spot.{Spot}
 use Rattle.diagnostics.proofs.PlaceLaws.{keeps_moved}
-use Rattle.diagnostics.proofs.places.Given.let_go.Goals as goal
+use Rattle.diagnostics.proofs.places.GivenBytes.let_go.Goals as goal
 
 pub returns : goal.returns
 returns c = λ bytes keeps.

@@ -2,7 +2,7 @@ use Rattle.std.proofs.Common.{◌≡◌, ◌≤◌, ◌++◌, length, take, subs
 use Rattle.std.specs.Prelude.{IfSome}
 use Rattle.diagnostics.specs.Places.{IsMoved}
 use Rattle.diagnostics.proofs.PlaceLaws.{spot_found}
-use Rattle.diagnostics.proofs.places.Given.spot_at.Goals as goal
+use Rattle.diagnostics.proofs.places.GivenBytes.spot_at.Goals as goal
 
 pub returns : goal.returns
 returns c = λ given keeps.

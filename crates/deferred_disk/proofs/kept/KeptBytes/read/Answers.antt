@@ -1,6 +1,6 @@
 use Rattle.std.proofs.Common.{arith}
 use Rattle.deferred_disk.proofs.FirstByte.{first_read}
-use Rattle.deferred_disk.proofs.kept.Kept.read.Goals as goal
+use Rattle.deferred_disk.proofs.kept.KeptBytes.read.Goals as goal
 
 pub returns-then-count-eq1-clause-bytes : goal.returns-then-count-eq1-clause-bytes
 returns-then-count-eq1-clause-bytes c = λ file kept. (
