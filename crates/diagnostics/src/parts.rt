@@ -63,13 +63,29 @@ pub(crate) fn place_of_part(form: &[u8], text: &[u8]) -> Option<usize> {
 // The name that is told in a text, and whether it is that of an operator.
 fn name_in(text: &[u8]) -> Option<(&[u8], bool)> {
     if let Some(rest) = text.strip_prefix(OPERATOR) {
-        return Some((token_in(rest), true));
+        return Some((operator_in(rest), true));
     }
     let colon = text.iter().position(|byte| *byte == b':')?;
     match text.get(colon..)? {
         [_, b' ', b'(', rest @ ..] => Some((token_in(rest), true)),
         [_, b' ', rest @ ..] => Some((token_in(rest), false)),
         _ => None,
+    }
+}
+
+/// How many bytes of a text name the part: what stands behind an operator tells how it becomes known, or which one may have been meant.
+pub(crate) fn length_of_name(text: &[u8]) -> usize {
+    match text.strip_prefix(OPERATOR) {
+        Some(rest) => OPERATOR.len().saturating_add(operator_in(rest).len()),
+        None => text.len(),
+    }
+}
+
+// The operator that a text begins with, behind which a colon may stand.
+fn operator_in(text: &[u8]) -> &[u8] {
+    match token_in(text) {
+        [name @ .., b':'] => name,
+        name => name,
     }
 }
 

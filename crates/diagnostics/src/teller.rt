@@ -1,9 +1,11 @@
 // What tells of forms that were refused.
-ghost use Rattle.std.specs.Prelude.{◌≡◌};
+ghost use Rattle.std.specs.Prelude.{◌≡◌, Err};
+ghost use Rattle.form_eval.specs.Acceptance.{accept};
 ghost use Rattle.form_eval.specs.Laws.{MayEvaluate};
+ghost use Rattle.lisp_object.specs.Datum.{object_of};
 
 use crate::fault::write_text;
-use crate::parts::place_of_part;
+use crate::parts::{length_of_name, place_of_part};
 use crate::places::{History, Places};
 use crate::refusal::{Refusal, Spots, write_refused_form};
 use arrayvec::ArrayString;
@@ -103,6 +105,8 @@ impl<T: Write> RefusalTeller<'_, T> {
         form: SessionForm<'_>,
     )
         requires form { MayEvaluate world.old.0.packages form.read.now }
+        requires refused { accept M.functions.names world.old.0 (object_of form.read.now.datum)
+            ≡ Err number }
         ensures same { world.new ≡ world.old }
     {
         if !self.is_listening() {
@@ -142,14 +146,19 @@ fn later_line(refusal: &Refusal, form: &[u8], text: &[u8]) -> Option<u64> {
     }
 }
 
-// What is told, with a line if there is one.
+// What is told, with a line behind the part if there is one.
 fn with_line(alloc: Global, text: &[u8], line: Option<u64>) -> Result<Vec<u8>, AllocError> {
-    let mut told = Vec::from_slice(alloc, text)?;
-    if let Some(line) = line {
-        let mut number = ArrayString::<48>::new();
-        // it has room for each number
-        let _ = write!(number, ", in line {line}");
-        told.extend_from_slice(number.as_bytes())?;
-    }
+    let Some(line) = line else {
+        return Vec::from_slice(alloc, text);
+    };
+    let Some((part, rest)) = text.split_at_checked(length_of_name(text)) else {
+        return Vec::from_slice(alloc, text);
+    };
+    let mut number = ArrayString::<48>::new();
+    // it has room for each number
+    let _ = write!(number, ", in line {line}");
+    let mut told = Vec::from_slice(alloc, part)?;
+    told.extend_from_slice(number.as_bytes())?;
+    told.extend_from_slice(rest)?;
     Ok(told)
 }

@@ -10,7 +10,7 @@ use crate::marks::{call_of, quotation};
 use crate::operators::{PAZTURROK, is_in_pazturrok, is_of_pazturrok, meant_by, name_of_symbol};
 use crate::part::refused_part;
 use crate::quotes::told_of;
-use crate::trial::is_refused_form;
+use crate::trial::{MOST_LEVELS, is_refused_form};
 use crate::ways::{ALONE, WITHOUT_COMMON_LISP, add_way_to_own, uses, way_on};
 use canon_printer::print;
 use form_eval::{EvaluationError, ReadForm, accept};
@@ -20,9 +20,6 @@ use package_table::standardized::COMMON_LISP;
 use plist_state::World;
 use std::alloc::{AllocError, Global};
 use user_macros::Meaning;
-
-/// A form has at most so many levels.
-const MOST_LEVELS: u64 = 100;
 
 /// What is told of a form that was refused with this number: after 31 the operator, and how it becomes known, or which one may have been
 /// meant; else the name of the number and the part of the form for which it was refused, up to 80 bytes, and after 30 the part with a quote. No

@@ -12,7 +12,7 @@ use std::alloc::{AllocError, Global};
 use user_macros::Meaning;
 
 /// A form has at most so many levels.
-const MOST_LEVELS: u64 = 100;
+pub(crate) const MOST_LEVELS: u64 = 100;
 
 /// Whether a form is at most 100 deep, and refused with this number. The world is as it was.
 pub(crate) fn is_refused_form<M: Meaning>(
