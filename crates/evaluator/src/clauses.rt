@@ -7,7 +7,7 @@ ghost use Rattle.evaluator.specs.Gathered.{arguments_in, IsClause};
 use lisp_object::Datum;
 
 /// What is in a clause of COND: a list with a test, and then forms.
-pub(crate) fn clause(form: &Datum) -> Option<&[Datum]>
+pub fn clause(form: &Datum) -> Option<&[Datum]>
     requires { IsProper form.now }
     ensures { IsClause form.now result }
 {
@@ -29,7 +29,7 @@ pub(crate) fn clause(form: &Datum) -> Option<&[Datum]>
 }
 
 /// Whether all arguments of a form are clauses of COND.
-pub(crate) fn are_clauses(items: &[Datum]) -> bool
+pub fn are_clauses(items: &[Datum]) -> bool
     requires counted { 1 ≤ length items.now }
     requires proper { AreProper items.now }
     ensures { result ≡ are_clauses (arguments_in items.now) }

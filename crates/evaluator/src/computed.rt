@@ -47,7 +47,7 @@ fn into_items(alloc: Global, list: Datum) -> Vec<Datum>
 }
 
 /// What such a function gives of the values of which this is LIST, where it takes any number of them.
-pub(crate) fn computed_of_list(
+pub fn computed_of_list(
     alloc: Global,
     function: ValueFunction,
     listed: Result<Evaluated, EvaluationError>,

@@ -78,7 +78,7 @@ fn is_standard_name(home: &[u8], own: &[u8], name: &[u8]) -> bool
 }
 
 /// The value of a symbol: itself, or that of a variable.
-pub(crate) fn symbol_value(
+pub fn symbol_value(
     alloc: Global,
     world: &World,
     form: &Datum,

@@ -2,7 +2,7 @@
 
 /// An operator that decides which of its forms are evaluated (standard 5.3), or which value is its own.
 #[derive(Clone, Copy, Debug, PartialEq, Eq)]
-pub(crate) enum Decision {
+pub enum Decision {
     And,
     Or,
     Cond,

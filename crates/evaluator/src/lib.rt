@@ -48,3 +48,10 @@ mod values;
 mod wanted;
 
 pub use calls::{apply, evaluate};
+pub use clauses::{are_clauses, clause};
+pub use computed::computed_of_list;
+pub use control::symbol_value;
+pub use decision::Decision;
+pub use operation::Operation;
+pub use perform::carry_out;
+pub use place::{PlaceForm, check_place, is_standard};

@@ -27,7 +27,7 @@ const PAZTURROK: &[u8] = b"PAZTURROK";
 /// of the values of their arguments alone, `Decides` decide which of their forms are evaluated, `LooksUp` look symbols and
 /// packages up, and `Changes` change a place. All others are at home in COMMON-LISP.
 #[derive(Clone, Copy, Debug, PartialEq, Eq)]
-pub(crate) enum Operation {
+pub enum Operation {
     Quote,
     Progn,
     If,
@@ -108,7 +108,7 @@ impl Operation {
 
     /// The operator of the symbol with this home and this name.
     #[tactic(auto, using(crate::proofs::Heads::of_lisp, crate::proofs::Heads::of_own, crate::proofs::Heads::of_none))]
-    fn of_symbol(home: &[u8], name: &[u8]) -> Option<Operation>
+    pub fn of_symbol(home: &[u8], name: &[u8]) -> Option<Operation>
         ensures { (names : List Name)
             → option_map (operator names) result ≡ operator_of names (symbol home.now name.now) }
     {
@@ -198,7 +198,7 @@ impl Operation {
     }
 
     /// Whether it takes so many arguments.
-    pub(crate) fn counts(self, number: usize) -> bool
+    pub fn counts(self, number: usize) -> bool
         ensures value { (names : List Name) → result ≡ counts (operator names self) number }
         ensures counted { result ≡ true → IsCounted self (number + 1) }
     {

@@ -58,7 +58,7 @@ pub(crate) fn perform(
 }
 
 /// What it gives of these, as nothing was evaluated before.
-pub(crate) fn carry_out(
+pub fn carry_out(
     alloc: Global,
     world: &mut World,
     names: &[FnName],

@@ -18,7 +18,7 @@ use package_table::standardized::COMMON_LISP;
 
 /// What an operator puts a value into.
 #[derive(Clone, Copy, Debug, PartialEq, Eq)]
-pub(crate) enum PlaceForm {
+pub enum PlaceForm {
     /// A property, which GET names.
     Property,
     /// The same, where GET has a default.
@@ -57,7 +57,7 @@ fn accessor(place: &Datum) -> Option<(&Datum, usize)>
 
 /// Whether it is the symbol of COMMON-LISP with this name.
 #[tactic(auto, using(crate::proofs::Places::standard_by_parts))]
-pub(crate) fn is_standard(datum: &Datum, name: &[u8]) -> bool
+pub fn is_standard(datum: &Datum, name: &[u8]) -> bool
     requires { IsProper datum.now }
     ensures { result ≡ is_standard name.now (object_of datum.now) }
 {
@@ -138,10 +138,7 @@ fn check_setf(place: &Datum) -> Result<PlaceForm, EvaluationError>
 
 /// That the place of an operator, if it takes one, is a place, and what it names. The first of the items is the operator
 /// itself.
-pub(crate) fn check_place(
-    operation: Operation,
-    items: &[Datum],
-) -> Result<PlaceForm, EvaluationError>
+pub fn check_place(operation: Operation, items: &[Datum]) -> Result<PlaceForm, EvaluationError>
     requires counted { IsCounted operation (length items.now) }
     requires proper { AreProper items.now }
     ensures refusal { IsRefusal (refusal_of_place operation (arguments_in items.now)) result }
