@@ -139,6 +139,7 @@ def options_of_script(command):
             "--html FILE": (of_name["HTML"], "by looks of the program"),
             "--values": (of_name["VALUES"], "by a look of the program"),
         },
+        "log": {"--follow": (of_name["FOLLOW"], "by looks of the program")},
         "backup": {"--at N": (of_name["AT"], "by looks of the program")},
         "check": {"--run": (of_name["RUN"], "by sessions of the program")},
     }.get(command, {})

@@ -24,7 +24,7 @@ _pazturrok() {
         verify) words='--existing --json --help' ;;
         show) words='--existing --package --indicator --like --forms --json --count --help --html --values' ;;
         info) words='--existing --files --json --help' ;;
-        log) words='--existing --from --places --json --help' ;;
+        log) words='--existing --from --places --json --help --follow' ;;
         backup) words='--existing --help --at' ;;
         check) words='--store --json --help --run' kind=-f ;;
     esac
