@@ -61,6 +61,10 @@ impl<D: Disk + Drop> Disk for OpenDisk<D> {
         self.disk.failures()
     }
 
+    fn mixes(&self) -> bool {
+        self.disk.mixes()
+    }
+
     fn len(&mut self, half: Half) -> Result<u64, DeviceFault> {
         self.disk.len(half)
     }
