@@ -4,12 +4,14 @@ usage: lines.py HISTORY PAGES PROGRAM WORD..
 
 The program gets a terminal of its own, so it does there what it does at any terminal. What it writes is handed on byte by byte. A line that it asks
 for is read with its prompt, kept in the file HISTORY, and handed over. Where a form begins, lines as `help`, `help GET` and `(help 31)` are answered
-from the file PAGES, and the store gets nothing of them; without that file they go to the program too. Where Python has no readline the program is
-started as it is.
+from the file PAGES, and the store gets nothing of them; without that file they go to the program too. Ctrl-C drops the line and the form that are
+typed, and `quit` ends. Where Python has no readline the program is started as it is.
 """
+import difflib
 import os
 import pty
 import re
+import select
 import signal
 import sys
 import termios
@@ -29,16 +31,32 @@ MOST_LINES = 1000
 RLWRAP = b" For editing lines: rlwrap before the command."
 """What the program says of a terminal, which is not so here."""
 
+FULL, CUT = 4096, re.compile(rb"A terminal hands on 4,095 bytes .*\n.*\n")
+"""What it says of a line of so many bytes, which another terminal would have cut."""
+
 HELP = """(SETF (GET 'APPLE 'PRICE) 7) sets a property, (GET 'APPLE 'PRICE) gives it, (SYMBOL-PLIST 'APPLE) gives all of a symbol.
 An answer that begins with ! is a refusal: help 31 tells of the number 31. help operators lists the operators, help GET tells of GET.
 Beside this session the command with the word help has all commands. The arrow up has the lines before, Ctrl-R finds one.
-Ctrl-D at the beginning of a line ends. Each answer is in the store by then.
+Ctrl-C drops what is typed. Ctrl-D at the beginning of a line ends, and so does quit. Each answer is in the store by then.
 """
 
-QUESTION = re.compile(r"\s*\(?\s*(?:\?|(?::?help|describe)(?:\s+'?(\S+?))?)\s*\)?\s*", re.IGNORECASE)
+QUESTION = re.compile(r"\s*\(?\s*(?:\?|(?:[:.]?help|describe)(?:\s+'?(\S+?))?)\s*\)?\s*", re.IGNORECASE)
 
-EDITED = (termios.VERASE, termios.VKILL, termios.VWERASE, termios.VREPRINT, termios.VLNEXT, termios.VEOL, termios.VEOL2)
+LEAVE = re.compile(r"\s*(?:\.?(?:quit|exit)|\(\s*(?:quit|exit)\s*\))\s*", re.IGNORECASE)
+
+DROPPED = "\udcff"
+"""A line with a byte that no form has: the program drops the form that is open, and begins anew with the next line."""
+
+LONGEST = 4000
+"""So many bytes without a blank or a parenthesis that closes are handed over at most: a terminal keeps 4,095 until it hands them on."""
+
+TOO_LONG = b"More than 4,000 bytes without a blank cannot be typed. Send the form from a file: run DIR < FILE\n"
+
+EDITED = (termios.VERASE, termios.VKILL, termios.VWERASE, termios.VREPRINT, termios.VLNEXT)
 """The characters by which a terminal edits a line itself."""
+
+ENDS = ((termios.VEOL, b" "), (termios.VEOL2, b")"))
+"""Where a terminal hands on a line that has no end yet."""
 
 
 def pages_of(path: str) -> Dict[str, str]:
@@ -85,14 +103,17 @@ class History:
 
 
 def terminal_for_lines() -> List[int]:
-    """A terminal that hands over whole lines as they are, and shows nothing; Ctrl-D ends what is typed there."""
+    """A terminal that hands over lines as they are, of any length, and shows nothing; Ctrl-D ends what is typed there."""
     master, slave = pty.openpty()
     tty.setraw(slave, termios.TCSANOW)
     mode = termios.tcgetattr(slave)
-    mode[3] |= termios.ICANON
+    mode[3] |= termios.ICANON | termios.IEXTEN
     for character in EDITED:
         mode[6][character] = b"\0"
+    for character, byte in ENDS:
+        mode[6][character] = byte
     termios.tcsetattr(slave, termios.TCSANOW, mode)
+    os.set_blocking(master, False)
     return [master, slave]
 
 
@@ -100,6 +121,8 @@ def started(words: List[str], slave: int) -> int:
     """The process of the program, with this terminal."""
     process = os.fork()
     if process == 0:
+        # a signal of the keyboard is for what edits the lines, and not for the program
+        os.setsid()
         signal.signal(signal.SIGINT, signal.SIG_DFL)
         signal.signal(signal.SIGPIPE, signal.SIG_DFL)
         for stream in (0, 1, 2):
@@ -119,7 +142,8 @@ class Session:
     def __init__(self, master: int, history: History, pages: Dict[str, str]) -> None:
         self.master, self.history, self.pages = master, history, pages
         self.unsent: List[str] = []
-        self.is_greeted = False
+        self.unwritten = b""
+        self.is_greeted = self.is_dropping = self.is_full = False
 
     def serve(self) -> None:
         """Goes on until the program has ended."""
@@ -128,21 +152,33 @@ class Session:
             whole, mark, held = (held + data).rpartition(b"\n")
             self.write(whole + mark)
             if held in (PROMPT, INNER_PROMPT):
+                self.is_dropping = False
                 self.hand_over(held)
                 held = b""
         self.write(held)
 
     def read(self) -> bytes:
-        """What the program writes next; nothing once it has ended."""
-        try:
-            return os.read(self.master, 65536)
-        except OSError:
-            return b""
+        """What the program writes next; nothing once it has ended. Meanwhile it gets what is left of a line."""
+        while True:
+            readable, writable, _ = select.select([self.master], [self.master] if self.unwritten else [], [])
+            try:
+                if writable:
+                    self.unwritten = self.unwritten[os.write(self.master, self.unwritten[:LONGEST]) :]
+                if readable:
+                    return os.read(self.master, 65536)
+            except BlockingIOError:
+                pass
+            except OSError:
+                return b""
 
     def write(self, text: bytes) -> None:
+        if self.is_dropping:
+            return
         if text and not self.is_greeted:
             self.is_greeted = True
             text = text.replace(RLWRAP, b"")
+        if self.is_full:
+            text = CUT.sub(b"", text)
         while text:
             text = text[os.write(1, text) :]
 
@@ -153,17 +189,31 @@ class Session:
             while line is not None and self.is_answered(prompt, line):
                 line = self.typed(prompt)
             if line is None:
-                os.write(self.master, b"\x04")
+                self.unwritten = b"\x04"
                 return
+            self.is_dropping = line == DROPPED
             self.unsent = line.split("\n")
-        os.write(self.master, self.unsent.pop(0).encode(sys.stdin.encoding, "surrogateescape") + b"\n")
+        self.unwritten = bytes_of(self.unsent.pop(0)) + b"\n"
+        self.is_full = len(self.unwritten) == FULL
 
     def typed(self, prompt: bytes) -> Optional[str]:
-        """A line as it is typed; None after Ctrl-D."""
-        try:
-            line = input(prompt.decode("ascii"))
-        except EOFError:
-            self.write(b"\n")
+        """A line as it is typed; None after Ctrl-D and where a form would begin after `quit`. After Ctrl-C it is DROPPED if a form is open."""
+        while True:
+            try:
+                line = input(prompt.decode("ascii"))
+                if max(map(len, re.split(rb"[ )\n]", bytes_of(line)))) <= LONGEST:
+                    break
+                self.write(TOO_LONG)
+            except EOFError:
+                self.write(b"\n")
+                return None
+            except KeyboardInterrupt:
+                if prompt == PROMPT and not readline.get_line_buffer():
+                    raise
+                self.write(b"\n")
+                if prompt == INNER_PROMPT:
+                    return DROPPED
+        if prompt == PROMPT and LEAVE.fullmatch(line):
             return None
         for part in line.split("\n"):
             self.history.add(part)
@@ -175,9 +225,15 @@ class Session:
         if not asked or prompt != PROMPT or not self.pages:
             return False
         word = (asked[1] or "").upper().rpartition("::")[2]
-        none = f"there is no operator and no number {asked[1]}; help operators lists the operators\n"
+        meant = "".join(f"; did you mean {near}?" for near in difflib.get_close_matches(word, self.pages, 1, 0.75))
+        none = f"there is no operator and no number {asked[1]}{meant or ';'} help operators lists the operators\n"
         self.write((self.pages.get(word, none) if word else HELP).encode("utf-8"))
         return True
+
+
+def bytes_of(line: str) -> bytes:
+    """A line as it was typed."""
+    return line.encode(sys.stdin.encoding, "surrogateescape")
 
 
 def ended(process: int) -> int:

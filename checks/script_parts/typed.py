@@ -82,11 +82,32 @@ def check_session(script, store, history):
     check("Ctrl-C ends it", again.end(CONTROL_C), -signal.SIGINT)
 
 
+def check_dropped(script, store, history):
+    """Ctrl-C drops the line and the form that are typed, and a word as `quit` ends."""
+    one = Typed(script, store, history)
+    one.until(b"> ")
+    one.type(b'(SETF (GET \'A \'B) "a text\n', b"\r\n. ")
+    one.type(b"that goes on\n", b"\r\n. ")
+    told = one.type(b"and more" + CONTROL_C)
+    check("a form that is dropped", (b"!" in told, b"dropped" in told), (False, False))
+    check("what is in the store", b"\r\n8\r\n> " in one.type(b"(GET 'A 'B)\n"), True)
+    one.type(b"(LIST 1", b"(LIST 1")
+    time.sleep(1)
+    check("a line that is dropped", one.type(CONTROL_C), b"\r\n> ")
+    check("after it", b"\r\n(3)\r\n> " in one.type(b"(LIST 3)\n"), True)
+    check("its end", one.end(b"quit\n"), 0)
+    for word in (b"(exit)\n", b".quit\n"):
+        other = Typed(script, store, history)
+        other.until(b"> ")
+        check(f"the end by {word}", other.end(word), 0)
+
+
 def check_help(script, store, history):
     """Lines that ask for help are answered, and the store has nothing of them."""
     one = Typed(script, store, history)
     one.until(b"> ")
     for line, says in ((b"help GET", b"(GET s i [x])"), (b"(help 31)", b"31 UNKNOWN-OPERATOR"), (b"(describe 'get)", b"(GET s i [x])"), (b"help pazturrok::car", b"(CAR l)"),
+                       (b"help unknown-operator", b"31 UNKNOWN-OPERATOR"), (b".help", b"help operators lists the operators"), (b"help seft", b"did you mean SETF?"),
                        (b"help operators", b"In each store:"), (b"help", b"help operators lists the operators"), (b"?", b"help operators lists the operators"),
                        (b"help frob", b"there is no operator and no number frob")):
         told = one.type(line + b"\n")
@@ -101,6 +122,11 @@ def check_others(script, store, history):
     one = Typed(script, store, history)
     one.until(b"> ")
     check("a paste", b"(1 2)\r\n" in one.type(b"\x1b[200~(LIST 1\n2)\n(LIST 3)\x1b[201~\n", b"(3)\r\n> "), True)
+    words = b"long " * 2_400
+    check("a long line", one.type(b'(LIST "' + words + b'" 7)\n').endswith(b'(\"' + words + b'\" 7)\r\n> '), True)
+    full = b"full " * 817
+    check("as long as a terminal takes", b"hands on" in one.type(b'(LIST "' + full + b'" )\n', b'full ")\r\n> '), False)
+    check("one without a blank", b"Send the form from a file" in one.type(b'"' + b"x" * 5000 + b'"\n'), True)
     check("a character", b"! 2 INVALID-CHARACTER" in one.type('"Z\xfcrich"\n'.encode()), True)
     check("its end", one.end(), 0)
     for name, words, environment in (("without a file", (), {"PAZTURROK_HISTORY": ""}), ("a terminal that knows no cursor", (), {"TERM": "dumb"}), ("quiet", ("--quiet",), {})):
@@ -120,4 +146,5 @@ def check_all(script, room):
     store, history = os.path.join(room, "typed"), os.path.join(room, "lines that were typed")
     check_session(script, store, history)
     check_help(script, store, history)
+    check_dropped(script, store, history)
     check_others(script, store, history)
