@@ -137,6 +137,7 @@ def options_of_script(command):
         },
         "show": {
             "--html FILE": (of_name["HTML"], "by looks of the program"),
+            "--force": (of_name["FORCE"], "by looks of the program"),
             "--values": (of_name["VALUES"], "by a look of the program"),
         },
         "log": {"--follow": (of_name["FOLLOW"], "by looks of the program")},

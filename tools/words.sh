@@ -12,7 +12,7 @@ own_options() {
     case $1 in
         run) echo --operators --wait ;;
         check) echo --run ;;
-        show) echo --html --values ;;
+        show) echo --html --force --values ;;
         log) echo --follow ;;
         backup) echo --at ;;
     esac
@@ -83,7 +83,7 @@ look_at_option_words() {
         case $command,$word in
             *,--) return 0 ;;
             *,--help | *,--help=*) continue ;;
-            run,--o* | run,--w* | check,--r* | show,--h* | show,--v* | log,--fo* | backup,--a*) ;;
+            run,--o* | run,--w* | check,--r* | show,--h* | show,--forc* | show,--v* | log,--fo* | backup,--a*) ;;
             *) continue ;;
         esac
         word=${word%%=*}

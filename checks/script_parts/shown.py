@@ -50,6 +50,13 @@ def of_a_store(script: str, room: str) -> None:
     with open(other, "wb") as file:
         file.write(b"a text")
     is_refused("a file that is no page", script, "show", store, "--html", other, says="is no page")
+    with open(other, "wb") as file:
+        file.write(b"<!DOCTYPE html>\n<title>A page of somebody</title>\n")
+    is_refused("a page of somebody else", script, "show", store, "--html", other, says="is no page of this command: name another file, or give --force")
+    check("one that may be replaced", (called(script, "show", store, "--html", other, "--force")[0], b"(A B 2)" in parts_of(other)["world"]), (0, True))
+    status, out, err = called(script, "show", store, "--html", "/dev/full")
+    check("no room", (status, out, b"pazturrok: /dev/full cannot be written, and no page was made\n" in err), (3, b"", True))
+    check("what is left", [name for name in os.listdir(room) if name.startswith(("a page.html.", "no page."))], [])
 
 
 def check_all(script: str, room: str) -> None:
@@ -59,6 +66,7 @@ def check_all(script: str, room: str) -> None:
     status, out, _ = called(script, "show", none, "--html", none + ".html")
     check("no store", (status, out, os.path.exists(none), os.path.exists(none + ".html")), (3, b"", False, False))
     is_refused("no place", script, "show", none, "--html", os.path.join(none, "page.html"), says="is not there")
+    is_refused("a folder in the place of a page", script, "show", none, "--html", room, says="is a folder: name a file")
     is_refused("no folder", script, "show", "--html", none, says="a folder is missing")
     is_refused("no file", script, "show", none, "--html", says="a file is missing")
     is_refused("two folders", script, "show", none, none, "--html", none, says="takes one folder")
