@@ -113,7 +113,7 @@ install_program() {
         make_folder "$prefix/$place"
     done
     manual >"$room/manual"
-    write_pages >"$room/pages"
+    ask_pages all >"$room/pages"
     (cd "$top/docs" && awk -v asked=manual -f "$top/tools/pages.awk" use/operators.md use/refusals.md run/operating.md) >"$room/forms"
     # one that is installed has no words of a clone
     sed 's/ compile build install release / /' "$top/completions/pazturrok.bash" >"$room/completions"

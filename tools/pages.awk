@@ -2,8 +2,8 @@
 #
 # usage: awk -v asked=GET -f pages.awk docs/use/operators.md docs/use/refusals.md docs/run/operating.md
 #
-# `asked` is the name of an operator or of a variable in upper case, a number, `OPERATORS`, `manual`, or `all`: of each operator, variable and number,
-# and of the list, a line with @ and its name, and then what is told of it. The status is 1 if the pages have none such.
+# `asked` is the name of an operator or of a variable in upper case, the number or the name of a refusal, `OPERATORS`, `manual`, or `all`: of each
+# operator, variable and refusal, and of the list, a line with @ and its name, and then what is told of it. The status is 1 if the pages have none such.
 
 # The kinds of tables, by their first lines.
 BEGIN {
@@ -29,7 +29,7 @@ function page_of(target,    at) {
     return "docs/" (sub(/^\.\.\//, "", target) ? target : this_folder "/" target)
 }
 
-# A link as text: a page by where it is, words with the page that has them, and code as it stands.
+# A link as text: a page by where it is, words and headings with the page that has them, and code as it stands.
 function link_text(link,    text, target) {
     text = target = link
     sub(/\]\(.*/, "", text)
@@ -38,6 +38,8 @@ function link_text(link,    text, target) {
     target = page_of(substr(target, 1, length(target) - 1))
     if (text ~ /\.md$/)
         return target
+    if (text ~ /^[a-z]/ && text !~ /`/)
+        return text " (" target ")"
     return text ~ /`/ ? text : "\"" text "\" in " target
 }
 
@@ -58,6 +60,12 @@ function without_links(cell) {
         cell = substr(cell, 1, RSTART - 1) substr(cell, RSTART + 1, index(substr(cell, RSTART), "](") - 2) substr(cell, RSTART + RLENGTH)
     gsub(/`/, "", cell)
     gsub(/^ +| +$/, "", cell)
+    return cell
+}
+
+# What a form gives, without the sections of the standard that the page has in brackets.
+function value_of(cell) {
+    gsub(/ \([0-9]+(\.[0-9]+)+\)/, "", cell)
     return cell
 }
 
@@ -203,14 +211,14 @@ kind == "group" {
 
 kind == "operator" {
     forms[++form_count] = cells[2]
-    values[form_count] = cells[3]
+    values[form_count] = value_of(cells[3])
     writes[form_count] = cells[4]
     refusals[form_count] = cells[5]
 }
 
 kind == "function of the world" {
     forms[++form_count] = cells[2]
-    values[form_count] = cells[3]
+    values[form_count] = value_of(cells[3])
     writes[form_count] = cells[4]
     refusals[form_count] = cells[5]
     is_function[form_count] = 1
@@ -218,7 +226,7 @@ kind == "function of the world" {
 
 kind == "function" {
     forms[++form_count] = cells[2]
-    values[form_count] = cells[3]
+    values[form_count] = value_of(cells[3])
     writes[form_count] = "no"
     refusals[form_count] = cells[4]
     is_function[form_count] = 1
@@ -409,6 +417,8 @@ function tell_all(    at) {
     for (at = 1; at <= number_count; at++) {
         print "@ " numbers[at]
         tell_refusal(at)
+        print "@ " names[at]
+        tell_refusal(at)
     }
     for (at = 1; at <= form_count; at++)
         tell_names(forms[at])
@@ -425,7 +435,7 @@ END {
     if (asked == "OPERATORS")
         exit !tell_groups()
     for (at = 1; at <= number_count; at++)
-        if (asked == numbers[at] "") {
+        if (asked == numbers[at] "" || asked == names[at]) {
             tell_refusal(at)
             exit 0
         }

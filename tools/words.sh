@@ -92,3 +92,10 @@ look_at_option_words() {
         [ -z "$found" ] || [ "$found" = "$word" ] || refuse "$command knows no $word; did you mean $found?"
     done
 }
+
+# Refuses what is neither an operator nor a command.
+refuse_operator() {
+    # shellcheck disable=SC2046 # a word each
+    found=$(nearest "$1" $(ask_pages all | sed -n 's/^@ \([^0-9]\)/\1/p'))
+    refuse "there is no operator and no command '$1'; ${found:+did you mean $found? }docs/use/operators.md has the operators, and other-lisps.md what other Lisps have"
+}

@@ -28,7 +28,8 @@ def operator_told(script: str, operator: str, rows: List[str]) -> None:
     status, out, err = told(script, operator)
     of_it = [row for row in rows if re.search(rf"\({operator}[ )]", row)]
     lacking = [row for row in of_it if row not in out.decode().splitlines()]
-    check(f"help of {operator}", (status, err, lacking, b"\n  Value: " in out), (0, b"", [], True))
+    sections = re.findall(r" \([0-9]+(?:\.[0-9]+)+\)", out.decode())
+    check(f"help of {operator}", (status, err, lacking, b"\n  Value: " in out, sections), (0, b"", [], True, []))
     # a command has the name of one operator
     if operator != "EXPORT":
         check(f"help of {operator} in lower case", told(script, operator.lower()), (status, out, err))
@@ -93,6 +94,7 @@ def check_all(script: str) -> None:
     for number, name in numbers:
         status, out, err = told(script, number)
         check(f"help of {number}", (status, out.decode().split("\n", 1)[0], err), (0, f"{number} {name}", b""))
+        check(f"help of {name}", [told(script, word) for word in (name, name.lower())], [(status, out, err)] * 2)
     check("what to do", [b"  What to do: " in told(script, number)[1] for number in ("60", "64", "90")], [True] * 3)
     check_links(script, [number for number, _ in numbers])
     for word in ("FROB", "T", "NIL"):
