@@ -40,15 +40,8 @@ read_words_of_backup() {
 
 # The generation of an open half; nothing of another.
 generation_of() {
-    # shellcheck disable=SC2046 # a byte each
-    set -- $(od -An -v -t u1 -N 11 "$1" 2>/dev/null)
-    [ "${1:-}" = "$OPEN_GATE" ] && [ $# -eq 11 ] || return 0
-    shift 3
-    number=0
-    for byte in "$@"; do
-        number=$((number * 256 + byte))
-    done
-    echo "$number"
+    told=$(head_of "$1")
+    echo "${told% *}"
 }
 
 # Sets `half`, the half of the generation that was asked for, or the one in use.
@@ -115,6 +108,7 @@ make_store() {
 
 back_to() {
     read_words_of_backup "$@"
+    lacks_store "$folder" || :
     find_half
     room=$(mktemp -d "${TMPDIR:-/tmp}/pazturrok-back.XXXXXX") || exit 3
     trap 'rm -rf "$room"' EXIT

@@ -185,21 +185,9 @@ text_of() {
         }' "$texts"
 }
 
-# The commands of the program, as its help has them.
-commands() {
-    text_of PROGRAM_HELP | sed -n '/^Commands:/,/^$/ s/^  \([a-z][a-z-]*\) .*/\1/p'
-}
-
-# Whether a word is a command of the program.
-is_command() {
-    [ "$(commands | grep -Fx -e "$1")" = "$1" ]
-}
-
-# Refuses what is no command.
-refuse_command() {
-    # shellcheck disable=SC2046 # a word each
-    found=$(nearest "$1" $(commands) $(own_words))
-    refuse "there is no command '$1'; ${found:+did you mean $found? }those of the program are $(commands | paste -sd ' ' -)"
+# The help of the program, as the sources have it.
+help_of_commands() {
+    text_of PROGRAM_HELP
 }
 
 # The help of a command: what it does, how it is called, and the end of its help, by their name in the sources. What its options are, the program
@@ -238,37 +226,75 @@ answer_from_texts() {
     write_help "$(help_of_command "$command" "$texts_of")"
 }
 
-# The words of `run` after DIR, as the texts of its help have them: [--strict] [--snapshot-every N], say. With --messages they are others.
-words_of_run() {
-    name=RUN_USAGE
-    case " $* " in *' --messages '*) name=MESSAGES_USAGE ;; esac
-    text_of "$name" | sed -n '1s/.* DIR //p' | sed 's/^--messages/[&]/'
+# The words of a command, as the texts of its help and this script have them: DIR [--strict] [--snapshot-every N], say. With --messages `run` has others.
+words_of() {
+    usage=$(printf '%s_USAGE' "$1" | tr '[:lower:]' '[:upper:]')
+    case $1," $* " in run,*' --messages '*) usage=MESSAGES_USAGE ;; esac
+    text_of "$usage" | sed -n "1s/^.*pazturrok $1 //p" | sed 's/ --messages/ [--messages]/'
+    case $1 in
+        run) echo '[--operators] [--wait SECONDS]' ;;
+        check) echo '[--run]' ;;
+        show) echo '[--html FILE] [--force] [--values] [--existing]' ;;
+        backup) echo '[--at N] [--existing]' ;;
+        log) echo '[--follow] [--existing]' ;;
+        info) echo '[--existing]' ;;
+    esac
 }
 
-# Refuses what `run` would refuse, before anything is compiled for it, and sets `folder` and which word it is. Numbers are left to the program.
+# Refuses an option that a command has not.
+refuse_option() {
+    # shellcheck disable=SC2046 # a word each
+    found=$(nearest "${2%%=*}" $(echo "$known" | grep -o -e '--[a-z-]*'))
+    refuse "$1 knows no $2; ${found:+did you mean $found? }its words are$known"
+}
+
+# Refuses words that a command would refuse, before anything is compiled for it, and sets `folder` and `second`, the words that are no option and no
+# value of one. Numbers are left to the program.
 look_at_words() {
+    command=$1 known=" $(words_of "$@" | paste -sd ' ' -) " folder='' second='' is_value=''
     shift
-    known=" $(words_of_run "$@") [--operators] [--wait SECONDS] " folder='' is_value='' count=0
     for word in "$@"; do
-        count=$((count + 1))
         case $is_value$word in
             value*) is_value= ;;
             --*)
                 case $known in
                     *" [$word]"* | *" [${word%%=*} "*) ;;
-                    *) refuse "run knows no $word; its words are DIR$known" ;;
+                    *) refuse_option "$command" "$word" ;;
                 esac
                 case $known in *" [$word "*) is_value=value ;; esac
                 ;;
-            -*) refuse "run knows no $word; its words are DIR$known" ;;
-            *)
-                [ -z "$folder" ] || refuse "run takes one folder, and not $folder and $word"
-                folder=$word
-                ;;
+            -?*) refuse_option "$command" "$word" ;;
+            *) take_word "$command" "$word" ;;
         esac
     done
-    [ -n "$folder" ] || refuse "run takes a folder, as in ./pazturrok run DIR < FORMS"
-    [ -z "$is_value" ] || refuse "a number is missing after $word"
+    [ -z "$is_value" ] || refuse "something is missing after $word"
+}
+
+# Takes a word of a command that is no option, of which it has one or two.
+take_word() {
+    case $1,${folder:+folder}${second:+second} in
+        *,) folder=$2 ;;
+        show,folder | backup,folder) second=$2 ;;
+        check,*) refuse "check takes one file, and not $folder and $2" ;;
+        show,*) refuse "show takes one symbol, and not $second and $2" ;;
+        backup,*) refuse "backup takes two folders, and not $folder, $second and $2" ;;
+        *) refuse "$1 takes one folder, and not $folder and $2" ;;
+    esac
+}
+
+# Refuses a command without the folder that it takes, or with one in which there is no store for it, as the program does.
+look_at_folder() {
+    case $1,${folder:+folder}${second:+second} in
+        check,*) return 0 ;;
+        run,) refuse "run takes a folder, as in ./pazturrok run DIR < FORMS" ;;
+        backup, | backup,folder) refuse "backup takes two folders, as in ./pazturrok backup DIR DEST" ;;
+        *,) refuse "$1 takes a folder, as in ./pazturrok $1 DIR" ;;
+        run,*) case " $* " in *' --existing '*) ;; *) return 0 ;; esac ;;
+    esac
+    if lacks_store "$folder"; then
+        (printf '! 60 DEVICE\nthere is no store in this folder\n' >&2) || :
+        exit 3
+    fi
 }
 
 # Before there is a program: help and the version are told, and what is no command, or no word of `run`, is refused.
@@ -278,7 +304,8 @@ look_at_command() {
         ,-h,* | ,--help,* | ,help,* | ,-V,* | ,--version,* | *' --help'[\ ,]* | *' -h'[\ ,]*) answer_from_texts "$@" ;;
     esac
     is_command "$1" || refuse_command "$1"
-    [ "$1" != run ] || look_at_words "$@"
+    look_at_words "$@"
+    look_at_folder "$@"
 }
 
 # ---- the words

@@ -87,6 +87,7 @@ follow_log() {
     trap 'exit 130' INT
     trap 'exit 143' TERM
     status=0
+    lacks_store "$folder" || :
     "$program" info "$folder" --files >/dev/null || status=$?
     [ "$status" -eq 0 ] || exit "$status"
     was=never

@@ -82,6 +82,7 @@ tell_into() {
 
 show_html() {
     read_words_of_show "$@"
+    lacks_store "$folder" || :
     room=$(mktemp -d "${TMPDIR:-/tmp}/pazturrok-show.XXXXXX") || exit 3
     trap 'rm -rf "$room"' EXIT
     trap 'exit 129' HUP

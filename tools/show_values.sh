@@ -3,6 +3,7 @@
 # `pazturrok`, and no command.
 
 show_values() {
+    tell_no_store "$@"
     for word in "$@"; do
         shift
         case $word in --values | --json) ;; --forms | --count) refuse "show --values knows no $word" ;; *) set -- "$@" "$word" ;; esac

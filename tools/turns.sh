@@ -141,6 +141,7 @@ feed_operators() {
     # shellcheck disable=SC2086 # none, or --existing
     lines=$("$program" run "$1" --rescue --quiet $2 <"$operators" 2>&1) || status=$?
     if [ "$status" -ne 0 ]; then
+        tell_no_store run "$1" "$2"
         tell_holder run "$1"
         printf '%s\n' "$lines" | sed '/^answers [0-9]* refusals [0-9]*$/d' >&2
         exit "$status"
@@ -193,6 +194,7 @@ start_session() {
         [ -z "$is_round" ] || wait_in_folder "$folder"
     fi
     [ -z "$is_round" ] || leave_round "$folder"
+    tell_no_store "$@"
     tell_holder "$@"
     name_pages "$@"
     edit_lines "$@"

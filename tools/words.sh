@@ -51,18 +51,30 @@ nearest() {
         END { print found }'
 }
 
-# Refuses a command that there is not, where a word of this script is meant and no command of the program.
+# The commands of the program, as its help has them.
+commands() {
+    help_of_commands | sed -n '/^Commands:/,/^$/ s/^  \([a-z][a-z-]*\) .*/\1/p'
+}
+
+# Whether a word is a command of the program.
+is_command() {
+    [ "$(commands | grep -Fx -e "$1")" = "$1" ]
+}
+
+# Refuses what is no command.
+refuse_command() {
+    # shellcheck disable=SC2046 # a word each
+    found=$(nearest "$1" $(commands) $(own_words) --help --version)
+    refuse "there is no command '$1'; ${found:+did you mean $found? }those of the program are $(commands | paste -sd ' ' -)"
+}
+
+# Refuses a command that there is not.
 look_at_command_word() {
     case $1 in
         run | snapshot | upgrade | export | dump | verify | show | info | log | backup | check | help) return 0 ;;
-        '' | -* | *[!a-z-]*) return 0 ;;
+        '' | -h | --help | -V | --version) return 0 ;;
     esac
-    own=" $(own_words | tr '\n' ' ')"
-    # shellcheck disable=SC2046,SC2086 # a word each
-    found=$(nearest "$1" $("$program" --help | sed -n '/^Commands:/,/^$/ s/^  \([a-z][a-z-]*\) .*/\1/p') $own)
-    case $own in
-        *" $found "*) [ -z "$found" ] || refuse "there is no command '$1'; did you mean $found?" ;;
-    esac
+    is_command "$1" || refuse_command "$1"
 }
 
 # Refuses a command or an option that there is not, where one of this script is meant.

@@ -74,4 +74,4 @@ def check_all(script: str, room: str) -> None:
     is_refused("no folder", script, "log", "--follow", says="a folder is wanted")
     is_refused("a typo", script, "log", store, "--folow", says="did you mean --follow?")
     status, out, err = called(script, "log", os.path.join(room, "none"), "--follow")
-    check("no store", (status, out, err.startswith(b"! 60 DEVICE\n")), (3, b"", True))
+    check("no store", (status, out, err.startswith(b"pazturrok: there is no folder "), b"\n! 60 DEVICE\n" in err), (3, b"", True, True))

@@ -66,8 +66,8 @@ def check_proved(script, room):
 
 
 # Words that the program refuses.
-WRONG = ([], ["frob"], ["run"], ["run", "--bogus"], ["run", "a", "b"], ["run", "a", "--snapshot-every", "x"], ["run", "a", "--operators", "--bogus"], ["backup", "a"],
-         ["show"], ["check", "a", "b"], ["dump", "a", "--at"], ["help", "frob"], ["run", "--bogus", "--help"])
+WRONG = ([], ["run"], ["run", "--bogus"], ["run", "a", "b"], ["run", "a", "--snapshot-every", "x"], ["run", "a", "--operators", "--bogus"], ["backup", "a"],
+         ["show"], ["check", "a", "b"], ["dump", "a", "--at"], ["run", "--bogus", "--help"])
 
 
 def check_named(there, room):
@@ -82,7 +82,10 @@ def check_named(there, room):
     check("a folder that is a number", (done.returncode, done.stdout, done.stderr), (0, b"(1)\n", b""))
     check_right_words(there, room)
     folder = os.path.join(room, "at a terminal")
-    check("no store", called(there, "info", folder), (3, b"", b"! 60 DEVICE\nthere is no store in this folder\n"))
+    told = f"pazturrok: there is no folder {folder}\n! 60 DEVICE\nthere is no store in this folder\n".encode()
+    check("no store", called(there, "info", folder), (3, b"", told))
+    for words, says in ((["frob"], "no command 'frob'; those of the program are"), (["shwo"], "did you mean show?"), (["help", "SEFT"], "did you mean SETF?")):
+        is_refused("an installed one", there, *words, says=says)
     for words in ([], ["--quiet"], ["--operators"]):
         text = typed_at_terminal([there, "run", folder, *words], b"help 31\n(help 'get)\nhelp frob\n")
         says = [b"\r\n31 UNKNOWN-OPERATOR\r\n", b"\r\n(GET s i [x])\r\n", b"there is no operator and no number frob;"]
@@ -114,7 +117,7 @@ def check_right_words(there, room):
     for words in (["dump", store], ["dump", "--at", "1", store], ["log", "--from", "1", store], ["show", "--package", "COMMON-LISP-USER", store],
                   ["show", "--like", "a", "--indicator", "b", store], ["show", "--package=CL", store], ["log", "--", store], ["verify", store, "--existing"], ["show", store], ["show", store, "A"], ["show", store, "NONE"], ["log", store], ["log", store, "--from", "9"],
                   ["log", store, "--from", "7.1"], ["export", store], ["check", file], ["check", file, "--store", store], ["check", "--store", store, file],
-                  ["check", file + " not"], ["dump", store + " not", "--existing"], ["backup", store + " not", store + " copy"]):
+                  ["check", file + " not"]):
         done = subprocess.run([PROGRAM, *words], stdin=subprocess.DEVNULL, capture_output=True, check=False)
         check(f"right words: {words}", called(there, *words), (done.returncode, done.stdout, done.stderr))
     check("snapshots", [called(there, word, store)[::2] for word in ("snapshot", "upgrade")], [(0, b"")] * 2)

@@ -5,8 +5,8 @@ import subprocess
 
 from calls import PLAIN, PROGRAM, TOP, called, check, is_refused
 
-# Words that are none, and which is meant: of a clone, and of options that the script carries out.
-COMMANDS = (("instal", "install"), ("buidl", "build"), ("relaese", "release"), ("uninstal", "uninstall"), ("complie", "compile"), ("operator", "operators"))
+# Words that are none, and which is meant: of a clone and of the program, and of options that the script carries out.
+COMMANDS = (("shwo", "show"), ("rnu", "run"), ("instal", "install"), ("buidl", "build"), ("relaese", "release"), ("uninstal", "uninstall"), ("complie", "compile"), ("operator", "operators"))
 OPTIONS = (("run", "--operator", "--operators"), ("run", "--waitt", "--wait"), ("check", "--rnu", "--run"), ("show", "--htm=x", "--html"),
            ("show", "--value", "--values"), ("backup", "--a", "--at"))
 
@@ -15,7 +15,7 @@ OF_OTHER_STORES = {"FORGET-NAMES"}
 
 
 def check_words(script, room):
-    """The word that is meant is told, before there is a program and after; a command of the program has the program's own tip."""
+    """The word that is meant is told, before there is a program and after; an option of the program has the program's own tip."""
     none = os.path.join(room, "none")
     for word, meant in COMMANDS:
         is_refused("a command", script, word, none, says=f"no command '{word}'; did you mean {meant}?")
@@ -23,7 +23,13 @@ def check_words(script, room):
             is_refused("help of a command", script, "help", word, says=f"no command '{word}'; did you mean {meant}?")
     for command, option, meant in OPTIONS:
         is_refused("an option", script, command, none, option, says=f"{command} knows no {option.split('=')[0]}; did you mean {meant}?")
-    for words in (["shwo", none], ["frob", none], ["run", none, "--exsting"], ["run", none, "--oooo"], ["show", none, "--hello"], ["help", "shwo"]):
+    for word, meant in (("--hlep", "--help"), ("version", "--version")):
+        is_refused("an option that is none", script, word, says=f"no command '{word}'; did you mean {meant}?")
+    for words in (["frob", none], ["help", "frob"], ["-x"]):
+        is_refused("what nobody means", script, *words, says="; those of the program are run snapshot upgrade export dump verify show info log backup check help")
+    for word, meant in (("SEFT", "SETF"), ("INTRN", "INTERN"), ("UNKNOWN-OPERATR", "UNKNOWN-OPERATOR")):
+        is_refused("an operator that is meant", script, "help", word, says=f"no operator and no command '{word}'; did you mean {meant}?")
+    for words in (["run", none, "--exsting"], ["run", none, "--oooo"], ["check", none, "--hello"]):
         wanted = subprocess.run([PROGRAM, *words], stdin=subprocess.DEVNULL, capture_output=True, check=False)
         check(f"words of the program: {words}", called(script, *words), (wanted.returncode, wanted.stdout, wanted.stderr))
     check("what is made by them", os.path.exists(none), False)

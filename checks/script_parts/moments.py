@@ -90,6 +90,7 @@ def check_damaged(script, room):
         check("files that a process has locked are left to the program", (status, out, b"no store's" in err, b"is served by process" in err), (3, b"", False, True))
     with open(half, "r+b") as file:
         file.write(b"\xa5")
+    check_told_of(script, room, store)
     for count in (0, 1, NEW_STORE):
         begun = os.path.join(room, f"begun {count}")
         os.makedirs(begun)
@@ -97,6 +98,24 @@ def check_damaged(script, room):
             with open(os.path.join(begun, name), "wb") as file:
                 file.write(b"\x00" * count)
         check(f"a store that never began: {count} bytes", called(script, "run", begun, stdin=b"(LIST 1)"), (0, b"(1)\n", b""))
+
+
+def check_told_of(script, room, store):
+    """Before the program refuses a folder or a version, it is told which."""
+    none = os.path.join(room, "danaged")
+    told = b"! 60 DEVICE\nthere is no store in this folder\n"
+    for words in (["show", none], ["verify", none], ["run", none, "--existing"]):
+        check(f"no folder: {words}", called(script, *words), (3, b"", f"pazturrok: there is no folder {none}; did you mean {store}?\n".encode() + told))
+    os.makedirs(none + " not")
+    check("no store", called(script, "info", none + " not"), (3, b"", f"pazturrok: {none} not has no half-a and no half-b, so it holds no store\n".encode() + told))
+    newer, half = os.path.join(room, "newer"), os.path.join(room, "newer", "half-a")
+    called(script, "run", newer, stdin=b"(LIST 1)")
+    with open(half, "r+b") as file:
+        file.seek(1)
+        file.write(b"\x01\x00")
+    status, out, err = called(script, "show", newer)
+    says = f"pazturrok: {half} is of version 256, and this program knows versions up to ".encode()
+    check("a later version", (status, out, err.startswith(says), err.endswith(b": use a newer one\n! 66 VERSION\n")), (3, b"", True, True))
 
 
 VALUES = b"""(SETF (GET 'V 'INTEGERS) '(7 -9007199254740991 9007199254740992 -170141183460469231731687303715884105727))
