@@ -304,6 +304,7 @@ look_at_command() {
         ,-h,* | ,--help,* | ,help,* | ,-V,* | ,--version,* | *' --help'[\ ,]* | *' -h'[\ ,]*) answer_from_texts "$@" ;;
     esac
     is_command "$1" || refuse_command "$1"
+    look_at_form_words "$@"
     look_at_words "$@"
     look_at_folder "$@"
 }

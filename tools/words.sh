@@ -77,13 +77,26 @@ look_at_command_word() {
     is_command "$1" || refuse_command "$1"
 }
 
-# Refuses a command or an option that there is not, where one of this script is meant.
+# Refuses a form among the words after the folder of a session.
+look_at_form_words() {
+    [ "$1" = run ] || return 0
+    find_folder "$@"
+    for word in "$@"; do
+        case $word in
+            "$folder") ;;
+            '('*) refuse "run takes its forms from standard input: echo \"FORM\" | ${is_clone:+./}pazturrok run $folder" ;;
+        esac
+    done
+}
+
+# Refuses a command, an option or a form where the program would refuse it, and more can be said of it here.
 look_at_own_words() {
     if [ "$1" = help ]; then
         look_at_command_word "${2:-}"
     else
         look_at_command_word "$1"
         look_at_option_words "$@"
+        look_at_form_words "$@"
     fi
 }
 

@@ -27,6 +27,8 @@ def check_words(script, room):
         is_refused("an option that is none", script, word, says=f"no command '{word}'; did you mean {meant}?")
     for words in (["frob", none], ["help", "frob"], ["-x"]):
         is_refused("what nobody means", script, *words, says="; those of the program are run snapshot upgrade export dump verify show info log backup check help")
+    for words in ([], ["--quiet"]):
+        is_refused("a form in the place of a word", script, "run", none, *words, "(GET 'A 'B)", says=f'from standard input: echo "FORM" | ./pazturrok run {none}')
     for word, meant in (("SEFT", "SETF"), ("INTRN", "INTERN"), ("UNKNOWN-OPERATR", "UNKNOWN-OPERATOR")):
         is_refused("an operator that is meant", script, "help", word, says=f"no operator and no command '{word}'; did you mean {meant}?")
     for words in (["run", none, "--exsting"], ["run", none, "--oooo"], ["check", none, "--hello"]):
