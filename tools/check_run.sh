@@ -46,9 +46,13 @@ end_as_told() {
 fill_room() {
     case $file in
         '' | -) cat >"$room/rest" ;;
-        *) cat -- "$file" >"$room/rest" || exit 3 ;;
+        *)
+            if [ ! -r "$file" ] || [ -d "$file" ]; then refuse "$file is no file that can be read"; fi
+            cat -- "$file" >"$room/rest" || exit 3
+            ;;
     esac
     status=0
+    [ -z "$store" ] || lacks_store "$store" || :
     [ -z "$store" ] || "$program" backup "$store" "$room/store" >"$room/told" 2>&1 || status=$?
     [ "$status" -eq 0 ] || end_as_told "$status"
 }

@@ -93,7 +93,10 @@ def check_all(script: str, room: str) -> None:
     check("many forms", without_about(called(script, "check", "--run", stdin=many)[1]).splitlines()[-3:],
           [b"line 2, column 18001: refused with 31 UNKNOWN-OPERATOR in form 2010, which began at line 2, column 18001", b"    (FROB)", b"forms 2010 refused 10"])
     over_a_store(script, room, file)
-    check("a file that is not there", called(script, "check", "--run", file + " not")[:2], (3, b""))
+    for place in (file + " not", room):
+        is_refused("no file", script, "check", "--run", place, says="is no file that can be read")
+    told = f"pazturrok: there is no folder {file} not\n! 60 DEVICE\nthere is no store in this folder\n".encode()
+    check("no store", called(script, "check", "--run", file, "--store", file + " not"), (3, b"", told))
     is_refused("words", script, "check", "--run", "a", "b", says="one file")
     is_refused("words", script, "check", "--run", "--bogus", says="knows no --bogus")
     is_refused("words", script, "check", "--run", "--store", says="is missing")
