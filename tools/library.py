@@ -7,9 +7,9 @@ from typing import List
 
 CRATE = "pazturrok_c"
 SLOT = """
-impl Slot {
-    pub(crate) fn empty(alloc: Global) -> Slot {
-        Slot { handle: Handle::closed(alloc), is_open: false }
+impl EngineSlot {
+    pub(crate) fn empty(alloc: Global) -> EngineSlot {
+        EngineSlot { handle: Handle::closed(alloc), is_open: false }
     }
 }
 """
@@ -17,7 +17,7 @@ impl Slot {
 VALUES = {
     "Global": "alloc",
     "bool": "true",
-    "&mut Slot": "&mut slot",
+    "&mut EngineSlot": "&mut slot",
     "&mut Done": "&mut done",
     "&mut Told": "&mut told",
     "&mut u64": "&mut number",
@@ -31,7 +31,7 @@ MAIN = """
 use crate::exports::{{{names}}};
 fn main(rt: HostRuntime) {{
     let alloc: std::alloc::Global = rt.alloc();
-    let mut slot = Slot::empty(alloc);
+    let mut slot = EngineSlot::empty(alloc);
     let mut done = Done {{ number: 0, answer: 0, orders: 0 }};
     let mut told = Told {{ generation: 0, records: 0, version: 0 }};
     let setting = Setting {{ limit: 1, seed_first: 1, seed_second: 2 }};
