@@ -168,6 +168,14 @@ class OneFamily(StoreTest):
                 self.assertEqual(folder, raised.exception.folder)
                 self.assertIn(f"as it opened {folder}\n! 60 DEVICE\n", str(raised.exception))
                 self.assertIn(reason, str(raised.exception))
+            with self.subTest(kind=kind), self.assertRaises(StoppedError) as raised:
+                kind(empty, PROGRAM, existing=True, options=["--existing"])
+            self.assertIn("no store", str(raised.exception))
+            self.assertEqual([], os.listdir(empty))
+            there = os.path.join(self.folder, kind.__name__)
+            kind(there, PROGRAM).close()
+            with kind(there, PROGRAM, existing=True) as store:
+                self.assertEqual(7, store.put("A", "B", 7))
 
     def test_no_room_for_standard_error(self) -> None:
         with mock.patch.object(tempfile, "tempdir", os.path.join(self.folder, "none")), self.assertRaises(NoProgramError) as raised:

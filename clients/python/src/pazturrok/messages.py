@@ -91,8 +91,8 @@ class MessageStore(Shared, Properties):
     readtable, package and read base.
 
     One MessageStore at a time may feed a store. `time_limit` is how many seconds the answers of what is sent
-    at once may take; `options` are further words of the command line, as ("--snapshot-every", "1000").
-    Without `unicode` texts are ASCII alone.
+    at once may take. With `existing` a folder that holds no store is refused. `options` are further words of
+    the command line, as ("--snapshot-every", "1000"). Without `unicode` texts are ASCII alone.
     """
 
     def __init__(
@@ -101,11 +101,13 @@ class MessageStore(Shared, Properties):
         program: str | os.PathLike[str] = "pazturrok",
         *,
         time_limit: float | None = None,
+        existing: bool = False,
         options: Sequence[str] = (),
         unicode: bool = True,
     ) -> None:
+        own = ["--messages", *(["--existing"] if existing else [])]
         self._folder = os.fspath(folder)
-        self._words = [os.fspath(program), "run", self._folder, "--messages", *options]
+        self._words = [os.fspath(program), "run", self._folder, *own, *(word for word in options if word not in own)]
         self._time_limit = time_limit
         self._begin(unicode)
 

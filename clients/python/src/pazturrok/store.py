@@ -68,8 +68,8 @@ class Store(Shared, Properties):
     """A program over a folder. Threads may share it: each waits until the one before it has its answers.
 
     `time_limit` is how many seconds an answer may take, `opening_time_limit` how many the opening, None for
-    any time. `options` are further words of the command line, as ("--snapshot-every", "1000"). Without
-    `unicode` texts are ASCII alone.
+    any time. With `existing` a folder that holds no store is refused. `options` are further words of the
+    command line, as ("--snapshot-every", "1000"). Without `unicode` texts are ASCII alone.
 
     After a fork the child has no store: its calls raise BrokenStoreError.
     """
@@ -81,10 +81,11 @@ class Store(Shared, Properties):
         *,
         time_limit: float | None = None,
         opening_time_limit: float | None = None,
+        existing: bool = False,
         options: Sequence[str] = (),
         unicode: bool = True,
     ) -> None:
-        own = ["--rescue", "--group"]
+        own = ["--rescue", "--group", *(["--existing"] if existing else [])]
         unanswered = {"--quiet", "--messages", "--help"}.intersection(options)
         if unanswered:
             raise ValueError(f"{min(unanswered)} of options: a store reads the answer to each form")
