@@ -1,0 +1,5 @@
+pub mod Weighing
+pub mod Items
+pub mod Members
+pub mod Variables
+pub mod Readers

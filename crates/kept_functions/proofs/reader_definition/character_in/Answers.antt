@@ -1,0 +1,7 @@
+use Rattle.std.proofs.Common.{None, refl}
+use Rattle.lisp_operators.specs.Kinds.{a_character}
+use Rattle.lisp_operators.proofs.Shapes.{pair_at}
+use Rattle.kept_functions.proofs.reader_definition.character_in.Goals as goal
+
+pub returns-in-List : goal.returns-in-List
+returns-in-List c = pair_at a_character None c.args.datum.now c.in-List.items c.in-List.tail (λ _ _. refl) c.in-List.is c.requires
