@@ -9,13 +9,13 @@ use Rattle.lisp_object.specs.declared.refusal.TheConstants.{END_OF_FILE, OUT_OF_
 use Rattle.lisp_reading.specs.Discarding.{IsDiscarded}
 use Rattle.lisp_reading.specs.Reading.{empty, form, reads, reads_at, refused}
 use Rattle.lisp_reading.specs.Setting.{Setting}
-use Rattle.law_tests.specs.Known.{IsFormThere, IsKnown}
+use Rattle.law_tests.specs.Known.{IsFormThere, IsKnownOutcome}
 
 pub known_of : (setting : Setting) (text : List ℕ)
     → ((x : Object) (starts stops next : ℕ) → reads setting text ≡ form x starts stops next → IsFormThere setting text x starts stops next)
     → (reads setting text ≡ empty → IsDiscarded setting text)
     → ((number offset : ℕ) → reads setting text ≡ refused number offset → (END_OF_FILE ≤ number) × (number ≤ OUT_OF_PROFILE))
-    → (outcome : ReadOutcome) → IsOutcome outcome (reads setting text) → IsKnown setting text outcome
+    → (outcome : ReadOutcome) → IsOutcome outcome (reads setting text) → IsKnownOutcome setting text outcome
 known_of setting text of_form of_empty of_refusal (ReadForm datum starts stops next) is = of_form (object_of datum) starts stops next is.0
 known_of setting text of_form of_empty of_refusal ReadEmpty is = of_empty is
 known_of setting text of_form of_empty of_refusal (ReadRefused number offset) is = of_refusal number offset is

@@ -26,7 +26,7 @@ module _ (setting : Setting) (text : List ℕ) where
         → reads setting (take (next - starts) (drop starts text) ++ more) ≡ form x 0 (stops - starts) (next - starts)
 
   -- a form is there, or discarded text alone, or a number of reading
-  abbrev pub IsKnown : ReadOutcome → Type 0
-  IsKnown (ReadForm datum starts stops next) = IsFormThere (object_of datum) starts stops next
-  IsKnown ReadEmpty = IsDiscarded setting text
-  IsKnown (ReadRefused number offset) = (END_OF_FILE ≤ number) × (number ≤ OUT_OF_PROFILE)
+  abbrev pub IsKnownOutcome : ReadOutcome → Type 0
+  IsKnownOutcome (ReadForm datum starts stops next) = IsFormThere (object_of datum) starts stops next
+  IsKnownOutcome ReadEmpty = IsDiscarded setting text
+  IsKnownOutcome (ReadRefused number offset) = (END_OF_FILE ≤ number) × (number ≤ OUT_OF_PROFILE)

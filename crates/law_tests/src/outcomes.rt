@@ -6,7 +6,7 @@ ghost use Rattle.lisp_reading.specs.Reading.{Outcome, attempt, empty, outcome, r
 ghost use Rattle.lisp_reading.specs.Plans.{run};
 ghost use Rattle.lisp_reading.specs.Setting.{setting_of};
 ghost use Rattle.package_table.specs.Table.{IsPackage, Table};
-ghost use Rattle.law_tests.specs.Known.{IsKnown};
+ghost use Rattle.law_tests.specs.Known.{IsKnownOutcome};
 ghost use Rattle.readtable_core.specs.Names.{is_among};
 ghost use Rattle.user_macros.specs.Functions.{named_among};
 
@@ -43,7 +43,7 @@ fn read_alone<R: MacroFunctions>(
     requires lowest_base { 2 ≤ base }
     requires highest_base { base ≤ 36 }
     requires current { IsPackage packages.now.0 current.now }
-    ensures known { IfOk result (IsKnown
+    ensures known { IfOk result (IsKnownOutcome
         (setting_of limits readtable.now base packages.now.0 current.now (R.functions macros.now)) bytes.now) }
     ensures goes_on { IfOk result (λ read. IsOutcome read (outcome readtable.now 0
         (λ next rest. reads_at
