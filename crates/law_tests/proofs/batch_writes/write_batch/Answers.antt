@@ -1,9 +1,8 @@
-use Rattle.std.proofs.Common.{◌≡◌, ◌∙◌, ◌+◌, List, ℕ, length, inl, inr, sym, subst}
+use Rattle.std.proofs.Common.{◌≡◌, ◌+◌, List, ℕ, length, inl, inr, sym, subst}
 use Rattle.std.proofs.lemmas.Result.{on_ok_weaker}
-use Rattle.batch_bytes.specs.Batch.{batch_bytes}
 use Rattle.disk_trait.specs.Disk.{Image, Mixed, written}
 use Rattle.gate_log.specs.Layout.{with_records}
-use Rattle.gate_log.specs.Version3.{EndsInZeros, HoldsBatches, one_sync}
+use Rattle.gate_log.specs.Version3.{EndsInZeros, HoldsBatches}
 use Rattle.law_tests.proofs.batch_writes.write_batch.Goals as goal
 
 pub returns-clause-left : goal.returns-clause-left

@@ -1,4 +1,4 @@
-use Rattle.std.proofs.Common.{◌≡◌, ◌∙◌, ◌++◌, List, ℕ, length, refl, sym, ap}
+use Rattle.std.proofs.Common.{◌∙◌, List, length, refl, sym, ap}
 use Rattle.batch_bytes.specs.Batch.{LogRecord, batch_bytes}
 use Rattle.law_tests.proofs.batches.count_records.Goals as goal
 

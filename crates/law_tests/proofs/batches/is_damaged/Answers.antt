@@ -1,4 +1,4 @@
-use Rattle.std.proofs.Common.{◌≡◌, ◌∙◌, ◌++◌, ◌⊎◌, List, ℕ, inl, inr, length, refl, sym, ap, subst}
+use Rattle.std.proofs.Common.{◌∙◌, ◌++◌, List, ℕ, inl, inr, length, refl, sym, ap, subst}
 use Rattle.batch_bytes.specs.Batch.{batch_bytes}
 use Rattle.batch_bytes.specs.Reading.{IsUnfinished}
 use Rattle.law_tests.proofs.batches.is_damaged.Goals as goal

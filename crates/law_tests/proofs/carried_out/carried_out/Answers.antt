@@ -1,4 +1,4 @@
-use Rattle.std.proofs.Common.{◌≡◌, ◌∙◌, true, Ok, Err, sym, subst}
+use Rattle.std.proofs.Common.{◌≡◌, ◌∙◌, true, Err, sym, subst}
 use Rattle.form_eval.specs.Acceptance.{accept}
 use Rattle.lisp_object.specs.Datum.{object_of}
 use Rattle.lisp_operators.specs.Evaluated.{Answers, done}

@@ -1,4 +1,4 @@
-use Rattle.std.proofs.Common.{◌∙◌, List, ℕ, sym, subst}
+use Rattle.std.proofs.Common.{◌∙◌, sym, subst}
 use Rattle.form_reader.specs.Reader.{IsOutcome}
 use Rattle.lisp_reading.specs.Reading.{Outcome, reads}
 use Rattle.lisp_reading.specs.Setting.{Setting, setting_of}

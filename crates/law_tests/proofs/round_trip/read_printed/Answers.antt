@@ -1,4 +1,4 @@
-use Rattle.std.proofs.Common.{◌∙◌, ◌++◌, [], List, ℕ, append-nil, refl, sym, ap, subst}
+use Rattle.std.proofs.Common.{◌∙◌, [], List, ℕ, append-nil, refl, sym, ap, subst}
 use Rattle.canon_printer.specs.Printed.{printed}
 use Rattle.form_reader.specs.Reader.{IsOutcome}
 use Rattle.lisp_object.specs.Datum.{object_of}
