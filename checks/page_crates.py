@@ -7,12 +7,6 @@ from pages import TOP, crates, names_of, page_named, read
 
 PICTURE = "docs/pictures/crates.svg"
 
-# The crates whose head does not name all modules. The list only gets shorter. To change the head of a low crate is to prove all crates
-# above it anew, so it waits for the next change there.
-HEADLESS = set("""feeding_laws form_check lisp_object log_look message_laws property_rows
-    store_commands store_laws store_program""".split())
-
-
 def drawn():
     return crates_picture.drawn(crates_picture.headings(read("crates.txt")), crates(), read("docs/pictures/form.svg"))
 
@@ -69,8 +63,5 @@ def heads():
         text = read(root)
         head = "\n".join(re.findall(r"^//!.*$", text, flags=re.M))
         lacking = [name for name in re.findall(r"^(?:pub )?mod (\w+);", text, flags=re.M) if not re.search(rf"\b{name}\b", head)]
-        crate = root.split("/")[1]
-        if lacking and crate not in HEADLESS:
+        if lacking:
             yield f"{root} does not name in its head: {', '.join(lacking)}"
-        elif not lacking and crate in HEADLESS:
-            yield f"{root} names all its modules: {crate} may leave the list in checks/page_crates.py"

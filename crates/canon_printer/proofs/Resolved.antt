@@ -4,7 +4,7 @@ use Rattle.std.specs.Prelude.{option_map, option_and_then}
 use Rattle.std.specs.Str.{bytes_eq}
 use Rattle.std.specs.FinMap as finite
 use Rattle.std.proofs.lemmas.Slice.Eq.{bytes_eq-Decides}
-use Rattle.package_table.specs.Table.{Name, Table, Present, Package, IsSound, IsPresent, IsPackage, keyword, full_name, entry_at}
+use Rattle.package_table.specs.Table.{Name, Table, Present, Package, AreSoundPackages, IsPresent, IsPackage, keyword, full_name, entry_at}
 use Rattle.package_table.specs.Lookup.{found, external_home, is_external}
 use Rattle.package_table.specs.Resolving.{found_at, resolution, external_resolution, internal_resolution}
 pub use Rattle.package_table.proofs.FirstNames.{nil_present}
@@ -26,7 +26,7 @@ in_package : (k : Option Package) (own h : Name) → option_map (λ (e : Present
 in_package None own h e = absurd (cc)
 in_package (Some k) own h e = refl
 
-module _ (t : Table) (home own : Name) (sound : IsSound t) (present : IsPresent t home own home) where
+module _ (t : Table) (home own : Name) (sound : AreSoundPackages t) (present : IsPresent t home own home) where
   pub home_there : IsPackage t home
   home_there = in_package (finite.get t home) own home present
 

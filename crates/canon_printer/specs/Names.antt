@@ -9,8 +9,8 @@ abbrev pub is_one_of : List ℕ → ℕ → Bool
 is_one_of characters c = list_any (λ d. d == c) characters
 
 -- each character, with a backslash before those that pass the test (standard 2.1.4.6)
-abbrev pub escaped : (ℕ → Bool) → List ℕ → List ℕ
-escaped test = flat_map (λ c. if test c then codes "\\" ++ c ∷ [] else c ∷ [])
+abbrev pub with_backslashes : (ℕ → Bool) → List ℕ → List ℕ
+with_backslashes test = flat_map (λ c. if test c then codes "\\" ++ c ∷ [] else c ∷ [])
 
 -- what a plain name may begin with: a capital letter or one of these
 abbrev pub begins_plain : ℕ → Bool
@@ -35,4 +35,4 @@ is_escaped_in_bars c = c == byte "|" || c == byte "\\" || is_invalid c
 
 abbrev pub printed_name : List ℕ → List ℕ
 printed_name name =
-    if is_plain name then name else codes "|" ++ escaped is_escaped_in_bars name ++ codes "|"
+    if is_plain name then name else codes "|" ++ with_backslashes is_escaped_in_bars name ++ codes "|"

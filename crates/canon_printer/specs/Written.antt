@@ -6,7 +6,7 @@ use Rattle.std.specs.Fmt.{signed_decimal}
 use Rattle.std.specs.List.{flat_map}
 use Rattle.std.specs.Str.{byte}
 use Rattle.lisp_object.specs.Object.{Object, integer, rational, character, text, symbol, uninterned, pair, vector, is_nil}
-use Rattle.canon_printer.specs.Names.{escaped, printed_name}
+use Rattle.canon_printer.specs.Names.{with_backslashes, printed_name}
 
 -- a numerator and a denominator (standard 22.1.3.1.2)
 abbrev pub printed_ratio : ℤ → ℕ → List ℕ
@@ -33,7 +33,7 @@ is_escaped_in_text c = c == byte "\"" || c == byte "\\"
 
 -- a string (standard 22.1.3.4)
 abbrev pub printed_text : List ℕ → List ℕ
-printed_text bytes = codes "\"" ++ escaped is_escaped_in_text bytes ++ codes "\""
+printed_text bytes = codes "\"" ++ with_backslashes is_escaped_in_text bytes ++ codes "\""
 
 -- a symbol without a home package (standard 22.1.3.3.1)
 abbrev pub printed_uninterned : List ℕ → List ℕ

@@ -19,7 +19,7 @@ use Rattle.session_words.specs.declared.content.Content.{Content}
 use Rattle.command_words.specs.declared.words.Task.{Task}
 use Rattle.command_words.specs.declared.words.Task.TheVariants.{Export, Run}
 use Rattle.command_words.specs.Rules.{is_set}
-use Rattle.command_words.specs.CommandLine.{Asked, asked_of, content_of_flag, mode_of_flag, number_in, given_number, task_of, wanted_of}
+use Rattle.command_words.specs.CommandLine.{Asked, asked_of, content_of_flag, mode_of_flag, number_among_rows, given_number, task_of, wanted_of}
 
 -- a number that was read is the one that the text writes
 number_read : (E : Type 0) (text : Text) (n : ℕ) → ParsesUnsigned {E = E} 64 10 text (Ok n) → (other : ℕ) → n ≡ given_number other (Some text)
@@ -54,7 +54,7 @@ run_found name f wanted is wanted_is = rw (is, wanted_is) refl
 
 -- what is wanted of its session
 pub wanted_found : (f : Found) (flag other third : Option Text) (mode : Mode) (every ratio : ℕ) (strict group : Bool) → mode ≡ mode_of_flag flag → flag ≡ first_value f (codes "rescue")
-    → every ≡ number_in 0 (codes "snapshot-every") (rows_of f) → ratio ≡ number_in 10 (codes "snapshot-ratio") (rows_of f) → strict ≡ is_set other → other ≡ first_value f (codes "strict")
+    → every ≡ number_among_rows 0 (codes "snapshot-every") (rows_of f) → ratio ≡ number_among_rows 10 (codes "snapshot-ratio") (rows_of f) → strict ≡ is_set other → other ≡ first_value f (codes "strict")
     → group ≡ is_set third → third ≡ first_value f (codes "group")
     → ◌≡◌ {A = Wanted} (record { mode = mode; snapshot_every = every; snapshot_ratio = ratio; strict = strict; group = group }) (wanted_of (rows_of f))
 wanted_found f flag other third mode every ratio strict group mode_is flag_is every_is ratio_is strict_is other_is group_is third_is =

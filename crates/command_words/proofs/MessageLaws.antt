@@ -9,7 +9,7 @@ use Rattle.clap.specs.declared.parser.matches.Found.{Found}
 use Rattle.clap.specs.declared.parser.matches.ValueSource.TheVariants.{CommandLine}
 use Rattle.clap.proofs.OnLiterals.{clap_on_literals}
 use Rattle.clap.proofs.WalkLemmas.{first_value-rows}
-use Rattle.command_words.specs.CommandLine.{IsNumberIn, existing_for, given_number, number_in}
+use Rattle.command_words.specs.CommandLine.{IsNumberIn, existing_for, given_number, number_among_rows}
 use Rattle.command_words.specs.MessageLine.{AsksForMessages, IsMessageLine, Messages, message_faults, message_line, messages_in, messages_line, messages_of, missing_folder}
 use Rattle.command_words.specs.Rules.{is_set}
 use Rattle.command_words.proofs.CommandLineLaws.{among_first, differs, in_range, no_hyphen, number_is}
@@ -152,7 +152,7 @@ of_rows (Some found) rows listed = let same : rows ≡ found.1 = cc in rw same r
 
 pub messages_found : (o : Option (Text × List Row)) (f : Found) (folder flag : Option Text) (existing : Bool) (every : ℕ)
     → Some (rows_of f) ≡ option_map (λ (p : Text × List Row). p.1) o
-    → folder ≡ first_value f (codes "DIR") → existing ≡ is_set flag → flag ≡ first_value f (codes "existing") → every ≡ number_in 0 (codes "snapshot-every") (rows_of f)
+    → folder ≡ first_value f (codes "DIR") → existing ≡ is_set flag → flag ≡ first_value f (codes "existing") → every ≡ number_among_rows 0 (codes "snapshot-every") (rows_of f)
     → option_map (λ (at : Text). (at, existing, every)) folder ≡ option_and_then messages_of o
 messages_found o f folder flag existing every listed folder_is existing_is flag_is every_is =
     rw (

@@ -70,16 +70,16 @@ given_number other None = other
 given_number other (Some text) = if is_unsigned_in 0 (2 ^ 64 - 1) text then digits_value 10 (without_leading_plus text) else other
 
 -- the same of the rows that were found
-abbrev pub number_in : ℕ → Text → List Row → ℕ
-number_in other option rows = given_number other (one_of option rows)
+abbrev pub number_among_rows : ℕ → Text → List Row → ℕ
+number_among_rows other option rows = given_number other (one_of option rows)
 
 -- What is wanted of a session, by the rows that were found. Snapshots by a number of forms are taken where it is given. By the length of the half
 -- they are taken at 10 times where no other number is given; 0 is never.
 abbrev pub wanted_of : List Row → Wanted
 wanted_of rows = record {
   mode = mode_of_flag (first_of (codes "rescue") rows);
-  snapshot_every = number_in 0 (codes "snapshot-every") rows;
-  snapshot_ratio = number_in 10 (codes "snapshot-ratio") rows;
+  snapshot_every = number_among_rows 0 (codes "snapshot-every") rows;
+  snapshot_ratio = number_among_rows 10 (codes "snapshot-ratio") rows;
   strict = is_set (first_of (codes "strict") rows);
   group = is_set (first_of (codes "group") rows);
 }

@@ -3,7 +3,7 @@ use Rattle.std.specs.Prelude.{◌≡◌, ◌⊎◌, ℕ, Bool, false, List, [], 
 use Rattle.clap.specs.Kinds.{Kinds, or_else}
 use Rattle.clap.specs.Words.{App, Row, Text, fault_of, first_of, subcommand_of, with_rule, with_subcommand}
 use Rattle.clap.specs.declared.error.kind.ErrorKind.TheVariants.{MissingRequiredArgument}
-use Rattle.command_words.specs.CommandLine.{IsNoOption, IsNumberIn, every_rule, existing_for, number_in}
+use Rattle.command_words.specs.CommandLine.{IsNoOption, IsNumberIn, every_rule, existing_for, number_among_rows}
 use Rattle.command_words.specs.Rules.{bare_line, flag_rule, folder_line, is_set}
 
 abbrev pub message_line : App
@@ -20,7 +20,7 @@ Messages = Text × Bool × ℕ
 -- what was found asks for
 abbrev pub messages_of : Text × List Row → Option Messages
 messages_of found =
-    option_map (λ folder. (folder, is_set (first_of (codes "existing") found.1), number_in 0 (codes "snapshot-every") found.1)) (first_of (codes "DIR") found.1)
+    option_map (λ folder. (folder, is_set (first_of (codes "existing") found.1), number_among_rows 0 (codes "snapshot-every") found.1)) (first_of (codes "DIR") found.1)
 
 -- what the words ask for
 abbrev pub messages_in : List Text → Option Messages

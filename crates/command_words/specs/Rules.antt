@@ -13,7 +13,7 @@ place_rule name = record (new_rule name) {
   action = Some Set;
 }
 
--- a flag
+-- the rule of a flag: an option without a value
 abbrev pub flag_rule : Text → Rule
 flag_rule name = record (new_rule name) {
   long = Some name;

@@ -73,7 +73,8 @@ fn messages_by_line<'a, S: AsStr>(
 
 // What was found, if it is the command with its folder.
 fn messages_by<'a>(matches: &ArgMatches<'a>) -> Option<Messages<'a>>
-    ensures { option_map (λ messages. (messages.folder.now, messages.existing, messages.snapshot_every)) result
+    ensures { option_map
+        (λ messages. (messages.folder.now, messages.existing, messages.snapshot_every)) result
         ≡ option_and_then messages_of (subcommand_rows_of matches.now) }
 {
     let (_name, found) = matches.subcommand()?;

@@ -82,7 +82,8 @@ pub(crate) fn with_flag<'a>(
     help: &'a str,
 ) -> Result<Command<'a>, AllocError>
     requires { (fields_of command).has_globals ≡ false }
-    ensures line { IfOk result (λ new. app_of new ≡ with_rule (app_of command.entry) (flag_rule name.entry.now)) }
+    ensures line { IfOk result
+        (λ new. app_of new ≡ with_rule (app_of command.entry) (flag_rule name.entry.now)) }
     ensures local { IfOk result (λ new. (fields_of new).has_globals ≡ false) }
 {
     with_arg(command, flag(alloc, name, help))
@@ -97,7 +98,8 @@ pub(crate) fn with_option<'a>(
     help: &'a str,
 ) -> Result<Command<'a>, AllocError>
     requires { (fields_of command).has_globals ≡ false }
-    ensures line { IfOk result (λ new. app_of new ≡ with_rule (app_of command.entry) (option_rule name.entry.now)) }
+    ensures line { IfOk result
+        (λ new. app_of new ≡ with_rule (app_of command.entry) (option_rule name.entry.now)) }
     ensures local { IfOk result (λ new. (fields_of new).has_globals ≡ false) }
 {
     with_arg(command, option(alloc, name, value, help))

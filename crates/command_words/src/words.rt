@@ -4,7 +4,7 @@ ghost use Rattle.clap.specs.Words.{FailsBy, Text, app_of, found_of, kind_of, row
 ghost use Rattle.clap.specs.declared.builder.command.Command.TheViews.{out-Command as fields_of};
 ghost use Rattle.clap.specs.declared.error.kind.ErrorKind.TheVariants.{MissingRequiredArgument, OutOfMemory};
 ghost use Rattle.command_words.specs.declared.words.Task.{Task};
-ghost use Rattle.command_words.specs.CommandLine.{asked_in, asked_of, command_line, content_of_flag, every_rule, export_line, faults_of, flags_line, mode_of_flag, number_in, program_line, ratio_rule, run_line, session_line, task_of, wanted_of, writing_line, AsksFor};
+ghost use Rattle.command_words.specs.CommandLine.{asked_in, asked_of, command_line, content_of_flag, every_rule, export_line, faults_of, flags_line, mode_of_flag, number_among_rows, program_line, ratio_rule, run_line, session_line, task_of, wanted_of, writing_line, AsksFor};
 ghost use Rattle.command_words.specs.Rules.{folder_line};
 
 use crate::help::{
@@ -272,7 +272,7 @@ fn content_for(flag: Option<&str>) -> Content
 
 /// The number of an option on snapshots, or another one where it is not given.
 pub(crate) fn number_in(found: &ArgMatches<'_>, option: &str, other: u64) -> u64
-    ensures { result ≡ number_in other option.now (rows_of (found_of found.now)) }
+    ensures { result ≡ number_among_rows other option.now (rows_of (found_of found.now)) }
 {
     found.get_one::<u64>(option).unwrap_or(other)
 }

@@ -3,7 +3,7 @@ use Rattle.std.specs.Prelude.{◌≡◌, ℕ, List, length, Result, OnOk, OnErr}
 use Rattle.disk_trait.specs.Disk.{State}
 use Rattle.deferred_disk.specs.Bytes.{orders_bytes}
 use Rattle.deferred_disk.specs.Calls.{CallsValue, with_order, reported}
-use Rattle.deferred_disk.specs.Kept.{IsWhole}
+use Rattle.deferred_disk.specs.KeptFiles.{IsKeptWhole}
 use Rattle.disk_trait.specs.Orders.{OrderValue}
 use Rattle.deferred_disk.specs.State.{ordered}
 use Rattle.deferred_disk.specs.declared.disk.DeferredDisk.{DeferredDisk}
@@ -16,12 +16,12 @@ calls_of disk = disk.past.calls
 abbrev pub pending_of : DeferredDisk → List OrderValue
 pending_of disk = disk.past.calls.pending
 
-abbrev pub state_of : DeferredDisk → State
-state_of disk = ordered disk.past.calls disk.failures
+abbrev pub state_by_calls : DeferredDisk → State
+state_by_calls disk = ordered disk.past.calls disk.failures
 
 -- All bytes of both files are in memory. So it is until the first change and the first report.
 abbrev pub KeepsAll : DeferredDisk → Type 0
-KeepsAll disk = IsWhole disk.a × IsWhole disk.b
+KeepsAll disk = IsKeptWhole disk.a × IsKeptWhole disk.b
 
 -- A call of which this is the order: it is pending after it, or the call failed and nothing was asked.
 pub record Asks {T E : Type 0} (order : OrderValue) (old new : DeferredDisk) (result : Result T E) : Type 0 where

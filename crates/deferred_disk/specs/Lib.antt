@@ -1,7 +1,7 @@
 pub mod Bytes
 pub mod Calls
 pub mod Disk
-pub mod Kept
-pub mod Noted
+pub mod KeptFiles
+pub mod NotedOrders
 pub mod Sound
 pub mod State

@@ -1,11 +1,11 @@
 -- How a disk that is told from its orders stands between two of them.
 use Rattle.std.proofs.Common.{inl, inr, ⊎_elim, ◌≡◌, ℕ, zero, suc, ◌+◌, ◌≤◌, List, [], ◌∷◌, ◌++◌, take, drop, length, refl, sym, ◌∙◌, ap, subst, arith, append-nil, length-append, length-take, length-drop}
-use Rattle.disk_trait.specs.Disk.{Image, AreBytes, HoldsBytes, Torn, Cut, OnHalf, Partly, IsSound, file_of, other_of, written}
+use Rattle.disk_trait.specs.Disk.{Image, AreBytes, HoldsBytes, Torn, Cut, OnHalf, Partly, IsSoundDisk, file_of, other_of, written}
 use Rattle.disk_trait.specs.declared.half.Half.{Half}
 use Rattle.disk_trait.specs.declared.half.Half.TheVariants.{A, B}
 use Rattle.disk_trait.specs.Orders.{OrderValue, writes, cuts, syncs}
 use Rattle.deferred_disk.specs.Calls.{CallsValue, all_of}
-use Rattle.deferred_disk.specs.State.{AllWriteBytes, OrderBinds, OrdersLeftSince, OrdersMayLeave, PartOfOrder, WritesBytes, ordered, image_after, reads_by, with_file}
+use Rattle.deferred_disk.specs.State.{AllWriteBytes, OrderBinds, OrdersLeftSince, OrdersMayLeave, PartOfOrder, OrderWritesBytes, ordered, image_after, reads_by, with_file}
 
 -- ---- bytes in lists
 
@@ -68,7 +68,7 @@ whole_cut : (len : ℕ) (file : List ℕ) → Cut len file (take len file)
 whole_cut len file = record { middle = []; bytes = tt; parts = sym (append-nil (take len file)); no_longer = omega (arith, length-take len file) }
 
 -- done in whole, it is one of the parts
-pub whole : (order : OrderValue) (image : Image) → WritesBytes order → Partly (PartOfOrder order) image (image_after order image)
+pub whole : (order : OrderValue) (image : Image) → OrderWritesBytes order → Partly (PartOfOrder order) image (image_after order image)
 whole (writes half at bytes) image are = inr (on_half half (Torn at (length bytes)) (written at bytes (file_of half image)) image (whole_write at bytes (file_of half image) are))
 whole (cuts half len) image are = inr (on_half half (Cut len) (take len (file_of half image)) image (whole_cut len (file_of half image)))
 whole (syncs half) image are = inl refl
@@ -119,7 +119,7 @@ only_now start [] c left = left.1
 only_now start (order ∷ earlier) c left =
     ⊎_elim (λ before. let le : length (order ∷ earlier) ≤ length earlier = no_later start earlier (length (order ∷ earlier)) c before in absurd (omega (arith, le))) (λ now. now.1) left
 
-pub sound_ordered : (calls : CallsValue) (failures : ℕ) → HoldsBytes calls.start → AllWriteBytes (all_of calls) → IsSound (ordered calls failures)
+pub sound_ordered : (calls : CallsValue) (failures : ℕ) → HoldsBytes calls.start → AllWriteBytes (all_of calls) → IsSoundDisk (ordered calls failures)
 sound_ordered calls failures holds wrote = record {
   reads_stay = stays calls.start (all_of calls) wrote;
   counts_now = λ t c le left. left_now calls.start (all_of calls) t c le left;

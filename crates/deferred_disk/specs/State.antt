@@ -31,9 +31,9 @@ OrderBinds (syncs half) reads left = file_of half left ≡ file_of half reads
 OrderBinds _ reads left = Unit {0}
 
 -- what it writes is bytes
-abbrev pub WritesBytes : OrderValue → Type 0
-WritesBytes (writes half at bytes) = AreBytes bytes
-WritesBytes _ = Unit {0}
+abbrev pub OrderWritesBytes : OrderValue → Type 0
+OrderWritesBytes (writes half at bytes) = AreBytes bytes
+OrderWritesBytes _ = Unit {0}
 
 -- ---- orders in turn, of which the newest is the first here
 
@@ -54,7 +54,7 @@ OrdersLeftSince start (order ∷ earlier) t c = OrdersLeftSince start earlier t 
 
 abbrev pub AllWriteBytes : List OrderValue → Type 0
 AllWriteBytes [] = Unit {0}
-AllWriteBytes (order ∷ earlier) = WritesBytes order × AllWriteBytes earlier
+AllWriteBytes (order ∷ earlier) = OrderWritesBytes order × AllWriteBytes earlier
 
 -- ---- what holds once
 
@@ -65,7 +65,7 @@ bytes-prop (b ∷ bs) = ×_prop le_prop (bytes-prop bs)
 pub holds-prop : (image : Image) → IsProp (HoldsBytes image)
 holds-prop image = ×_prop (bytes-prop image.a) (bytes-prop image.b)
 
-writes-prop : (order : OrderValue) → IsProp (WritesBytes order)
+writes-prop : (order : OrderValue) → IsProp (OrderWritesBytes order)
 writes-prop (writes half at bytes) = bytes-prop bytes
 writes-prop (cuts half len) = Unit-prop
 writes-prop (syncs half) = Unit-prop

@@ -4,7 +4,7 @@ ghost use Rattle.std.proofs.Props.{props};
 ghost use Rattle.disk_trait.specs.Disk.{HoldsBytes};
 ghost use Rattle.deferred_disk.specs.Bytes.{orders_bytes};
 ghost use Rattle.deferred_disk.specs.Calls.{all_of};
-ghost use Rattle.deferred_disk.specs.Kept.{IsKeptOf, IsWhole};
+ghost use Rattle.deferred_disk.specs.KeptFiles.{IsKeptOf, IsKeptWhole};
 ghost use Rattle.deferred_disk.specs.State.{AllWriteBytes, all_write-prop, holds-prop, ordered, reads_by};
 ghost use Rattle.deferred_disk.specs.Sound.{sound_ordered};
 
@@ -40,14 +40,14 @@ pub struct DeferredDisk {
 impl DeferredDisk {
     ghost use Rattle.disk_trait.specs.Disk.{file_of};
     ghost use Rattle.deferred_disk.specs.Calls.{with_order, first_calls, reported};
-    ghost use Rattle.deferred_disk.specs.Disk.{Asks, KeepsAll, calls_of, pending_of, state_of};
+    ghost use Rattle.deferred_disk.specs.Disk.{Asks, KeepsAll, calls_of, pending_of, state_by_calls};
     ghost use Rattle.disk_trait.specs.Orders.{writes, cuts, syncs};
 
     /// Two files that hold these bytes now, of which a crash leaves just that: they were synced before they were read.
     pub fn new(alloc: Global, a: Vec<u8>, b: Vec<u8>) -> DeferredDisk
         ensures calls { calls_of result ≡ first_calls a.items b.items }
         ensures all { KeepsAll result }
-        ensures failures { (state_of result).failures ≡ 0 }
+        ensures failures { (state_by_calls result).failures ≡ 0 }
     {
         let past = Past::of(&a, &b);
         DeferredDisk {
@@ -75,8 +75,8 @@ impl DeferredDisk {
     }
 
     fn kept(&self, half: Half) -> &KeptBytes
-        ensures kept { IsKeptOf result.now (file_of half (state_of self.now).reads) }
-        ensures whole { KeepsAll self.now → IsWhole result.now }
+        ensures kept { IsKeptOf result.now (file_of half (state_by_calls self.now).reads) }
+        ensures whole { KeepsAll self.now → IsKeptWhole result.now }
     {
         match half {
             Half::A => &self.a,
@@ -85,7 +85,7 @@ impl DeferredDisk {
     }
 
     fn try_write(&mut self, half: Half, at: u64, bytes: &[u8]) -> Result<(), AllocError>
-        requires { at ≤ length (file_of half (state_of self.old).reads) }
+        requires { at ≤ length (file_of half (state_by_calls self.old).reads) }
         ensures asks { Asks (writes half at bytes.now) self.old self.new result }
         ensures failures { self.new.failures ≡ self.old.failures }
     {
@@ -103,7 +103,7 @@ impl DeferredDisk {
     }
 
     fn try_cut(&mut self, half: Half, len: u64) -> Result<(), AllocError>
-        requires { len ≤ length (file_of half (state_of self.old).reads) }
+        requires { len ≤ length (file_of half (state_by_calls self.old).reads) }
         ensures asks { Asks (cuts half len) self.old self.new result }
         ensures failures { self.new.failures ≡ self.old.failures }
     {
@@ -139,7 +139,7 @@ fn counted(failures: &mut u64) -> DeviceFault
 
 impl Disk for DeferredDisk {
     ghost use Rattle.disk_trait.specs.Calls.{CutsFile, GivesBytes, GivesLength, IsWithinFile, SyncsFile, WritesBytes};
-    ghost use Rattle.deferred_disk.specs.Disk.{Asks, KeepsAll, calls_of, state_of};
+    ghost use Rattle.deferred_disk.specs.Disk.{Asks, KeepsAll, calls_of, state_by_calls};
     ghost use Rattle.disk_trait.specs.Orders.{writes, cuts, syncs};
 
     ghost state = { λ d. ordered d.past.calls d.failures };
@@ -155,8 +155,8 @@ impl Disk for DeferredDisk {
     }
 
     fn len(&mut self, half: Half) -> Result<u64, DeviceFault>
-        requires { (state_of self.old).failures < 2 ^ 64 - 1 }
-        ensures disk { GivesLength half (state_of self.old) (state_of self.new) result }
+        requires { (state_by_calls self.old).failures < 2 ^ 64 - 1 }
+        ensures disk { GivesLength half (state_by_calls self.old) (state_by_calls self.new) result }
         ensures calls { calls_of self.new ≡ calls_of self.old }
         ensures all { KeepsAll self.old → KeepsAll self.new }
         ensures given { IsOk result }
@@ -165,9 +165,9 @@ impl Disk for DeferredDisk {
     }
 
     fn read(&mut self, half: Half, at: u64, buffer: &mut [u8]) -> Result<usize, DeviceFault>
-        requires { (state_of self.old).failures < 2 ^ 64 - 1 }
+        requires { (state_by_calls self.old).failures < 2 ^ 64 - 1 }
         ensures disk { GivesBytes half at buffer.old buffer.new
-            (state_of self.old) (state_of self.new) result }
+            (state_by_calls self.old) (state_by_calls self.new) result }
         ensures calls { calls_of self.new ≡ calls_of self.old }
         ensures all { KeepsAll self.old → KeepsAll self.new }
         ensures given { KeepsAll self.old → IsOk result }
@@ -180,10 +180,10 @@ impl Disk for DeferredDisk {
     }
 
     fn write_at(&mut self, half: Half, at: u64, bytes: &[u8]) -> Result<(), DeviceFault>
-        requires count { (state_of self.old).failures < 2 ^ 64 - 1 }
-        requires within { IsWithinFile half at (state_of self.old) }
+        requires count { (state_by_calls self.old).failures < 2 ^ 64 - 1 }
+        requires within { IsWithinFile half at (state_by_calls self.old) }
         ensures disk { WritesBytes half at bytes.now
-            (state_of self.old) (state_of self.new) result }
+            (state_by_calls self.old) (state_by_calls self.new) result }
         ensures asks { Asks (writes half at bytes.now) self.old self.new result }
     {
         match self.try_write(half, at, bytes) {
@@ -193,9 +193,9 @@ impl Disk for DeferredDisk {
     }
 
     fn cut(&mut self, half: Half, len: u64) -> Result<(), DeviceFault>
-        requires count { (state_of self.old).failures < 2 ^ 64 - 1 }
-        requires within { IsWithinFile half len (state_of self.old) }
-        ensures disk { CutsFile half len (state_of self.old) (state_of self.new) result }
+        requires count { (state_by_calls self.old).failures < 2 ^ 64 - 1 }
+        requires within { IsWithinFile half len (state_by_calls self.old) }
+        ensures disk { CutsFile half len (state_by_calls self.old) (state_by_calls self.new) result }
         ensures asks { Asks (cuts half len) self.old self.new result }
     {
         match self.try_cut(half, len) {
@@ -205,8 +205,8 @@ impl Disk for DeferredDisk {
     }
 
     fn sync(&mut self, half: Half) -> Result<(), DeviceFault>
-        requires { (state_of self.old).failures < 2 ^ 64 - 1 }
-        ensures disk { SyncsFile half (state_of self.old) (state_of self.new) result }
+        requires { (state_by_calls self.old).failures < 2 ^ 64 - 1 }
+        ensures disk { SyncsFile half (state_by_calls self.old) (state_by_calls self.new) result }
         ensures asks { Asks (syncs half) self.old self.new result }
         ensures all { KeepsAll self.old → KeepsAll self.new }
     {

@@ -1,7 +1,7 @@
 // What is kept in memory of a file.
 ghost use Rattle.std.specs.Prelude.{◌≡◌, ◌+◌, ◌≤◌, List, ℕ, IfSome, IsSome, length, take, drop};
 ghost use Rattle.disk_trait.specs.Disk.{written};
-ghost use Rattle.deferred_disk.specs.Kept.{IsKeptOf, IsWhole};
+ghost use Rattle.deferred_disk.specs.KeptFiles.{IsKeptOf, IsKeptWhole};
 
 use std::alloc::Global;
 
@@ -16,7 +16,7 @@ pub(crate) struct KeptBytes {
 impl KeptBytes {
     pub(crate) fn new(bytes: Vec<u8>) -> KeptBytes
         ensures kept { IsKeptOf result bytes.items }
-        ensures whole { IsWhole result }
+        ensures whole { IsKeptWhole result }
     {
         let first = match bytes.first() {
             Some(byte) => *byte,
@@ -37,7 +37,7 @@ impl KeptBytes {
         ensures bytes { (file : List ℕ) → IsKeptOf self.now file
             → IfSome result (λ count. (count ≤ length buffer.old)
             × (take count buffer.new ≡ take (length buffer.old) (drop at file))) }
-        ensures whole { IsWhole self.now → IsSome result }
+        ensures whole { IsKeptWhole self.now → IsSome result }
         ensures first { at ≡ 0 → length buffer.old ≡ 1 → IsSome result }
     {
         if at >= self.len || buffer.is_empty() {

@@ -2,7 +2,7 @@
 ghost use Rattle.std.specs.Prelude.{◌≡◌, List, [], ◌++◌, length};
 ghost use Rattle.disk_trait.specs.Disk.{Image};
 ghost use Rattle.disk_trait.specs.Orders.{OrderValue};
-ghost use Rattle.deferred_disk.specs.Disk.{calls_of, pending_of, state_of};
+ghost use Rattle.deferred_disk.specs.Disk.{calls_of, pending_of, state_by_calls};
 ghost use Rattle.deferred_disk.specs.State.{OrdersMayLeave};
 ghost use Rattle.deferred_disk.specs.declared.disk.DeferredDisk.{DeferredDisk};
 
@@ -13,13 +13,13 @@ ghost use Rattle.deferred_disk.specs.declared.disk.DeferredDisk.{DeferredDisk};
 /// since the last report (`before`). Lists of orders have the newest first.
 pub fn between_orders()
     ensures none_open { (old new : DeferredDisk) (first later : List OrderValue) (image : Image)
-        → (state_of new).performed ≡ (state_of old).performed
+        → (state_by_calls new).performed ≡ (state_by_calls old).performed
         → pending_of old ≡ [] → pending_of new ≡ later ++ first
         → OrdersMayLeave (calls_of old).start (first ++ (calls_of old).done) image
-        → (state_of new).left_since (state_of old).moment image }
+        → (state_by_calls new).left_since (state_by_calls old).moment image }
     ensures some_open { (old new : DeferredDisk) (first later : List OrderValue) (image : Image)
-        → (state_of new).performed ≡ (state_of old).performed
+        → (state_by_calls new).performed ≡ (state_by_calls old).performed
         → pending_of new ≡ later ++ first
         → OrdersMayLeave (calls_of old).start (first ++ (calls_of old).done) image
-        → (state_of new).left_since (length (calls_of old).done) image }
+        → (state_by_calls new).left_since (length (calls_of old).done) image }
 {}

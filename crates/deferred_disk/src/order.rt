@@ -1,7 +1,7 @@
 // What a device is to do, and its bytes.
 ghost use Rattle.std.specs.Prelude.{◌≡◌, ◌++◌, ◌∷◌, MatchResult};
 ghost use Rattle.deferred_disk.specs.Bytes.{half_byte, head, order_bytes};
-ghost use Rattle.deferred_disk.specs.Noted.{order_value};
+ghost use Rattle.deferred_disk.specs.NotedOrders.{order_value};
 
 use disk_trait::Half;
 use std::alloc::AllocError;
@@ -67,7 +67,8 @@ fn push_both(orders: &mut Vec<u8>, first: &[u8], second: &[u8]) -> Result<(), Al
 
 /// Writes one order more. Where there is no room for it, all are as before.
 pub(crate) fn push(orders: &mut Vec<u8>, order: &Order<'_>) -> Result<(), AllocError>
-    ensures { MatchResult result (λ _. orders.new.items ≡ orders.old.items ++ order_bytes (order_value order.now))
+    ensures { MatchResult result
+        (λ _. orders.new.items ≡ orders.old.items ++ order_bytes (order_value order.now))
         (λ _. orders.new.items ≡ orders.old.items) }
 {
     match *order {

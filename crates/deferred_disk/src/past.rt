@@ -16,7 +16,7 @@ impl Model for Past {
 }
 
 impl Past {
-    ghost use Rattle.deferred_disk.specs.Noted.{order_value};
+    ghost use Rattle.deferred_disk.specs.NotedOrders.{order_value};
 
     // Two files of these bytes, and no order.
     pub(crate) fn of(_a: &Vec<u8>, _b: &Vec<u8>) -> Past

@@ -26,7 +26,7 @@ pub record IsSpotAfter (spot : Spot) (text : List ℕ) : Type 0 where
   pub line : spot.line ≡ line_at text
   pub column : spot.column ≡ column_at text
 
--- so far further is the text after which the second place is, if it begins at the first one
+-- The second place is behind this text, if the text begins at the first one.
 pub record IsMoved (spot : Spot) (text : List ℕ) (later : Spot) : Type 0 where
   pub bytes : later.bytes ≡ spot.bytes + length text
   pub line : later.line ≡ line_from spot.line text

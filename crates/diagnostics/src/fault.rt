@@ -66,7 +66,7 @@ fn write_cause<W: Write>(faults: &mut W, cause: &HostError) -> Result<(), Unwrit
     write_text(faults, line.as_slice())
 }
 
-/// Writes a text whole, or a part of it from its front.
+/// Writes a text whole. After an error a part of it was written, from its front.
 pub fn write_text<W: Write>(writer: &mut W, text: &[u8]) -> Result<(), Unwritten>
     ensures { WritesText result (W.contents writer.old) (W.contents writer.new) text.now }
 {

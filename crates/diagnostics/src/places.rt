@@ -196,7 +196,7 @@ fn passed(before: Option<Spot>, text: &[u8]) -> Option<Spot>
 }
 
 impl History {
-    /// Before the first byte.
+    /// No byte was read yet.
     pub fn new(alloc: Global) -> History {
         History {
             given: RefCell::new(GivenBytes::new(alloc)),

@@ -1,10 +1,10 @@
 -- The files of a disk in memory, after one call more.
 use Rattle.std.proofs.Common.{◌≡◌, inl, inr, ⊎_elim, ℕ, Bool, true, false, List, ◌++◌, length, sym, ◌∙◌, ap, subst, if◌then◌else◌, IsTrue, arith}
 use Rattle.std.specs.Global.{Vec}
-use Rattle.disk_trait.specs.Disk.{Image, State, AreBytes, HoldsBytes, IsSound, Allows, Changes, Mixed, Torn, file_of, other_of, written, OnHalf, Partly}
+use Rattle.disk_trait.specs.Disk.{Image, State, AreBytes, HoldsBytes, IsSoundDisk, Allows, Changes, Mixed, Torn, file_of, other_of, written, OnHalf, Partly}
 use Rattle.disk_trait.specs.Memory.{WriteLeaves, TakesWrite}
 use Rattle.disk_trait.specs.Mixes.{mixed_torn, whole_mixed}
-use Rattle.disk_trait.specs.Replay.{PartOf, reads_after, told, Follows, writes_bytes, wrote_bytes}
+use Rattle.disk_trait.specs.Replay.{PartOf, reads_after, state_after_calls, FollowsOneCall, writes_bytes, wrote_bytes}
 use Rattle.disk_trait.specs.declared.call.Call.{Call}
 use Rattle.disk_trait.specs.declared.call.What.{What}
 use Rattle.disk_trait.specs.declared.call.What.TheVariants.{Wrote, WroteMixing}
@@ -14,23 +14,23 @@ use Rattle.disk_trait.specs.ReplayBytes.{wrote_more}
 use Rattle.disk_trait.proofs.Left.{whole_write}
 use Rattle.disk_trait.proofs.Next.{one, next_is}
 
-module _ (half at : Half) (what : What) (old new : State) (follows : Follows half what old new) where
+module _ (half at : Half) (what : What) (old new : State) (follows : FollowsOneCall half what old new) where
   pub put_in : (next : List ℕ) → half ≡ at → next ≡ reads_after what (file_of half old.reads) → file_of at new.reads ≡ next
   put_in next is put = subst (λ (h : Half). file_of h new.reads ≡ next) is (follows.changed ∙ sym put)
 
   pub kept_beside : half ≡ at → other_of at new.reads ≡ other_of at old.reads
   kept_beside is = subst (λ (h : Half). other_of h new.reads ≡ other_of h old.reads) is follows.other
 
-kept : (half at : Half) (what : What) (old new : State) → ((file : List ℕ) → reads_after what file ≡ file) → Follows half what old new → file_of at new.reads ≡ file_of at old.reads
+kept : (half at : Half) (what : What) (old new : State) → ((file : List ℕ) → reads_after what file ≡ file) → FollowsOneCall half what old new → file_of at new.reads ≡ file_of at old.reads
 kept A A what old new keeps follows = follows.changed ∙ keeps old.reads.a
 kept A B what old new keeps follows = follows.other
 kept B A what old new keeps follows = follows.other
 kept B B what old new keeps follows = follows.changed ∙ keeps old.reads.b
 
 -- a call that leaves its file as it is, taken or not
-pub kept_either : (mixes taken : Bool) (half at : Half) (what : What) (start : Image) (calls later : List Call) (failures : ℕ) → ((file : List ℕ) → reads_after what file ≡ file) → later ≡ (if taken then calls ++ one half what else calls) → file_of at (told mixes start later failures).reads ≡ file_of at (told mixes start calls failures).reads
-kept_either mixes true half at what start calls later failures keeps is = kept half at what (told mixes start calls failures) (told mixes start later failures) keeps (next_is mixes start calls later half what failures failures is)
-kept_either mixes false half at what start calls later failures keeps is = ap (λ (l : List Call). file_of at (told mixes start l failures).reads) is
+pub kept_either : (mixes taken : Bool) (half at : Half) (what : What) (start : Image) (calls later : List Call) (failures : ℕ) → ((file : List ℕ) → reads_after what file ≡ file) → later ≡ (if taken then calls ++ one half what else calls) → file_of at (state_after_calls mixes start later failures).reads ≡ file_of at (state_after_calls mixes start calls failures).reads
+kept_either mixes true half at what start calls later failures keeps is = kept half at what (state_after_calls mixes start calls failures) (state_after_calls mixes start later failures) keeps (next_is mixes start calls later half what failures failures is)
+kept_either mixes false half at what start calls later failures keeps is = ap (λ (l : List Call). file_of at (state_after_calls mixes start l failures).reads) is
 
 -- what the calls wrote is bytes, with this call too
 pub wrote_push : (calls later : List Call) (half : Half) (what : What) → IsTrue (wrote_bytes calls) → IsTrue (writes_bytes what) → later ≡ calls ++ one half what → IsTrue (wrote_bytes later)
@@ -63,7 +63,7 @@ module _ (half : Half) (at : ℕ) (bytes : List ℕ) (stored : Vec ℕ) (old new
       whole : file_of half c ≡ written at stored.items (file_of half d) → Torn at (length bytes) (file_of half d) (file_of half c)
       whole w = subst (Torn at (length bytes) (file_of half d)) (sym (w ∙ ap (λ (l : List ℕ). written at l (file_of half d)) is)) (whole_write at bytes (file_of half d) are)
 
-  pub takes_mixing : old.mixes ≡ true → Follows half (WroteMixing at stored) old new → TakesWrite half at bytes old new
+  pub takes_mixing : old.mixes ≡ true → FollowsOneCall half (WroteMixing at stored) old new → TakesWrite half at bytes old new
   takes_mixing mixing follows = record {
     tears = subst (λ (b : Bool). Changes (OnHalf half (WriteLeaves b at bytes)) old new) (sym mixing) (record {
       reads = inr (record { changed = subst (Mixed at bytes (file_of half old.reads)) (sym now) (whole_mixed at bytes (file_of half old.reads)); other = follows.other });
@@ -76,7 +76,7 @@ module _ (half : Half) (at : ℕ) (bytes : List ℕ) (stored : Vec ℕ) (old new
       now : file_of half new.reads ≡ written at bytes (file_of half old.reads)
       now = follows.changed ∙ ap (λ (l : List ℕ). written at l (file_of half old.reads)) is
 
-  pub takes_tearing : AreBytes bytes → old.mixes ≡ false → Follows half (Wrote at stored) old new → TakesWrite half at bytes old new
+  pub takes_tearing : AreBytes bytes → old.mixes ≡ false → FollowsOneCall half (Wrote at stored) old new → TakesWrite half at bytes old new
   takes_tearing are tears follows = record {
     tears = subst (λ (b : Bool). Changes (OnHalf half (WriteLeaves b at bytes)) old new) (sym tears) (record {
       reads = inr (record { changed = subst (Torn at (length bytes) (file_of half old.reads)) (sym now) (whole_write at bytes (file_of half old.reads) are); other = follows.other });
@@ -89,12 +89,12 @@ module _ (half : Half) (at : ℕ) (bytes : List ℕ) (stored : Vec ℕ) (old new
       now : file_of half new.reads ≡ written at bytes (file_of half old.reads)
       now = follows.changed ∙ ap (λ (l : List ℕ). written at l (file_of half old.reads)) is
 
-  pub allows_mixing : old.mixes ≡ true → Follows half (WroteMixing at stored) old new → Allows (OnHalf half (WriteLeaves old.mixes at bytes)) old new
+  pub allows_mixing : old.mixes ≡ true → FollowsOneCall half (WroteMixing at stored) old new → Allows (OnHalf half (WriteLeaves old.mixes at bytes)) old new
   allows_mixing mixing follows = subst (λ (b : Bool). Allows (OnHalf half (WriteLeaves b at bytes)) old new) (sym mixing)
       (λ d c left step. follows.allows d c left
       (partly half (Mixed at bytes) (WroteMixing at stored) d c (λ o n part. subst (λ (l : List ℕ). Mixed at l o n) (sym is) part) step) tt)
 
-  pub allows_tearing : old.mixes ≡ false → Follows half (Wrote at stored) old new → Allows (OnHalf half (WriteLeaves old.mixes at bytes)) old new
+  pub allows_tearing : old.mixes ≡ false → FollowsOneCall half (Wrote at stored) old new → Allows (OnHalf half (WriteLeaves old.mixes at bytes)) old new
   allows_tearing tears follows = subst (λ (b : Bool). Allows (OnHalf half (WriteLeaves b at bytes)) old new) (sym tears)
       (λ d c left step. follows.allows d c left
       (partly half (Torn at (length bytes)) (Wrote at stored) d c (λ o n torn. inl (subst (λ (l : List ℕ). Torn at (length l) o n) (sym is) torn)) step) tt)
@@ -117,7 +117,7 @@ torn_of_mixed half at bytes old new are reads leaves changes = record {
     tear d c holds (inr step) = inr (record { changed = mixed_torn at bytes (file_of half d) (file_of half c) are (file_bytes half d holds) step.changed; other = step.other })
 
 -- of a write that was taken: it was torn, whether the disk mixes or not; and it was mixed, where it does
-pub taken_torn : (half : Half) (at : ℕ) (bytes : List ℕ) (old new : State) → AreBytes bytes → IsSound old → TakesWrite half at bytes old new → Changes (OnHalf half (Torn at (length bytes))) old new
+pub taken_torn : (half : Half) (at : ℕ) (bytes : List ℕ) (old new : State) → AreBytes bytes → IsSoundDisk old → TakesWrite half at bytes old new → Changes (OnHalf half (Torn at (length bytes))) old new
 taken_torn half at bytes old new are sound takes = by old.mixes takes.tears
   where
     leaves : (c : Image) → old.may_leave c → HoldsBytes c

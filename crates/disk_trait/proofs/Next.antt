@@ -3,7 +3,7 @@ use Rattle.std.proofs.Common.{◌≡◌, ◌⊎◌, inl, inr, ⊎_elim, ℕ, Boo
 use Rattle.std.proofs.lemmas.List.{take_all, take-append-le}
 use Rattle.std.proofs.lemmas.Bool.{cases_lt}
 use Rattle.disk_trait.specs.Disk.{Image, other_of, OnHalf, Partly, Elapses}
-use Rattle.disk_trait.specs.Replay.{FileState, PartOf, settled, after_what, where_same, after_call, after_calls, MayLeave, LeftSince, told, Follows}
+use Rattle.disk_trait.specs.Replay.{FileState, PartOf, settled, after_what, where_same, after_call, after_calls, MayLeave, LeftSince, state_after_calls, FollowsOneCall}
 use Rattle.disk_trait.specs.declared.call.Call.{Call}
 use Rattle.disk_trait.specs.declared.call.What.{What}
 use Rattle.disk_trait.specs.declared.half.Half.{Half}
@@ -25,7 +25,7 @@ left-push half on what calls p c left = subst (λ (q : FileState). q.may_leave c
 left-pull : (half on : Half) (what : What) (calls : List Call) (p : FileState) (c : List ℕ) → (where_same half on (after_what what (after_calls half calls p)) (after_calls half calls p)).may_leave c → (after_calls half (calls ++ one on what) p).may_leave c
 left-pull half on what calls p c left = subst (λ (q : FileState). q.may_leave c) (sym (after_calls-push half calls (record { half = on; what = what }) p)) left
 
-elapses_push : (mixes : Bool) (start : Image) (calls : List Call) (call : Call) (failures later_failures : ℕ) → Elapses (told mixes start calls failures) (told mixes start (calls ++ call ∷ []) later_failures)
+elapses_push : (mixes : Bool) (start : Image) (calls : List Call) (call : Call) (failures later_failures : ℕ) → Elapses (state_after_calls mixes start calls failures) (state_after_calls mixes start (calls ++ call ∷ []) later_failures)
 elapses_push mixes start calls call failures later_failures = record {
   later = omega (arith, length-append calls (call ∷ []));
   nothing_else = λ t c le left. earlier t c left (cases_lt left.moment (length calls + 1));
@@ -57,7 +57,7 @@ beside : {step : List ℕ → List ℕ → Type 0} (half : Half) (d c : Image) �
 beside half d c (inl same) = ap (other_of half) same
 beside half d c (inr step) = step.other
 
-next : (mixes : Bool) (start : Image) (calls : List Call) (half : Half) (what : What) (failures later_failures : ℕ) → Follows half what (told mixes start calls failures) (told mixes start (calls ++ one half what) later_failures)
+next : (mixes : Bool) (start : Image) (calls : List Call) (half : Half) (what : What) (failures later_failures : ℕ) → FollowsOneCall half what (state_after_calls mixes start calls failures) (state_after_calls mixes start (calls ++ one half what) later_failures)
 next mixes start calls A what failures later_failures = record {
   changed = reads-push A A what calls (settled start.a);
   other = reads-push B A what calls (settled start.b);
@@ -92,5 +92,5 @@ next mixes start calls B what failures later_failures = record {
         (d, (other, left.0.1), ⊎_elim (λ same. inl (ap (λ (x : List ℕ). let i : Image = record { a = c.a; b = x } in i) same)) (λ part. inr (record { changed = part; other = refl })) left.0.2)
 
 -- the same, of a list that is known to be longer by the call
-pub next_is : (mixes : Bool) (start : Image) (calls later : List Call) (half : Half) (what : What) (failures later_failures : ℕ) → later ≡ calls ++ one half what → Follows half what (told mixes start calls failures) (told mixes start later later_failures)
-next_is mixes start calls later half what failures later_failures is = subst (λ (l : List Call). Follows half what (told mixes start calls failures) (told mixes start l later_failures)) (sym is) (next mixes start calls half what failures later_failures)
+pub next_is : (mixes : Bool) (start : Image) (calls later : List Call) (half : Half) (what : What) (failures later_failures : ℕ) → later ≡ calls ++ one half what → FollowsOneCall half what (state_after_calls mixes start calls failures) (state_after_calls mixes start later later_failures)
+next_is mixes start calls later half what failures later_failures is = subst (λ (l : List Call). FollowsOneCall half what (state_after_calls mixes start calls failures) (state_after_calls mixes start l later_failures)) (sym is) (next mixes start calls half what failures later_failures)

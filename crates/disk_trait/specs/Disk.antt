@@ -11,6 +11,7 @@ pub record Image : Type 0 where
   pub a : List ℕ
   pub b : List ℕ
 
+-- the file of a half
 abbrev pub file_of : Half → Image → List ℕ
 file_of A image = image.a
 file_of B image = image.b
@@ -30,6 +31,7 @@ pub record Performed : Type 0 where
 abbrev pub at_once : Performed
 at_once = record { start = record { a = []; b = [] }; done = [] }
 
+-- What a disk is at a moment, and what a crash leaves of it.
 pub record State : Type 1 where
   -- the disk keeps the rules below; nothing is claimed of one that isn't
   pub honest : Bool
@@ -48,9 +50,11 @@ pub record State : Type 1 where
   -- what was reported done; a call adds orders to it, and changes none of it
   pub performed : Performed
 
+-- the disk keeps these rules
 abbrev pub IsHonest : State → Type 0
 IsHonest s = IsTrue s.honest
 
+-- its writes mix
 abbrev pub IsMixing : State → Type 0
 IsMixing s = IsTrue s.mixes
 
@@ -58,6 +62,7 @@ IsMixing s = IsTrue s.mixes
 abbrev pub IsDurable : State → Type 0
 IsDurable s = (c : Image) → s.may_leave c → c ≡ s.reads
 
+-- each is a number from 0 to 255
 abbrev pub AreBytes : List ℕ → Type 0
 AreBytes bytes = AllByRecursion (λ byte. byte < 256) bytes
 
@@ -133,6 +138,7 @@ pub record Tells {T E : Type 0} (is_fault : E → Bool) (old new : State) (resul
 abbrev pub is_fault_of_device : DeviceFault → Bool
 is_fault_of_device fault = true
 
+-- a call of the disk itself: its honesty stays, and the count rises exactly where the call failed
 abbrev pub Counts : {T : Type 0} → State → State → Result T DeviceFault → Type 0
 Counts old new result = Tells is_fault_of_device old new result
 
@@ -162,7 +168,7 @@ Allows step old new = (d c : Image) → old.may_leave d → Partly step d c → 
 
 -- Between calls: what a read gives may be left; the moments since t have this one among them; since this one there is no other;
 -- and all that a crash might have left since any moment, so what it may leave now and what a read gives too, is bytes.
-pub record IsSound (s : State) : Type 0 where
+pub record IsSoundDisk (s : State) : Type 0 where
   pub reads_stay : s.may_leave s.reads
   pub counts_now : (t : ℕ) (c : Image) → t ≤ s.moment → s.may_leave c → s.left_since t c
   pub only_now : (c : Image) → s.left_since s.moment c → s.may_leave c

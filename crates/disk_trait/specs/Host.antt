@@ -2,8 +2,9 @@
 use Rattle.std.specs.Prelude.{ℕ, Bool, false, [], pos, ◌<ℤ◌}
 use Rattle.std.specs.Fd.{file_raw_fd}
 use Rattle.std.specs.declared.fs.File.{File}
-use Rattle.disk_trait.specs.Disk.{State, IsHonest, IsSound, at_once}
+use Rattle.disk_trait.specs.Disk.{State, IsHonest, IsSoundDisk, at_once}
 
+-- a disk of which nothing is claimed, but how often it failed
 abbrev pub unclaimed : Bool → ℕ → State
 unclaimed mixes failures = record {
   honest = false;
@@ -16,7 +17,7 @@ unclaimed mixes failures = record {
   performed = at_once;
 }
 
-pub sound_unclaimed : (mixes : Bool) (failures : ℕ) → IsHonest (unclaimed mixes failures) → IsSound (unclaimed mixes failures)
+pub sound_unclaimed : (mixes : Bool) (failures : ℕ) → IsHonest (unclaimed mixes failures) → IsSoundDisk (unclaimed mixes failures)
 sound_unclaimed mixes failures honest = absurd (cc)
 
 -- The file's descriptor is none of the three standard streams: 0, 1 and 2.

@@ -2,14 +2,15 @@
 use Rattle.std.specs.Prelude.{◌≡◌, ℕ, Bool, true, false, List, ◌+◌, length, take, Result, OnOk, OnErr}
 use Rattle.disk_trait.specs.Crash.{left_by}
 use Rattle.disk_trait.specs.Disk.{Image, State, Allows, Changes, Cut, Elapses, Mixed, OnHalf, Torn, file_of, written}
-use Rattle.disk_trait.specs.Replay.{told}
+use Rattle.disk_trait.specs.Replay.{state_after_calls}
 use Rattle.disk_trait.specs.declared.crash.Crash.{Crash}
 use Rattle.disk_trait.specs.declared.half.Half.{Half}
 use Rattle.disk_trait.specs.declared.half.Half.TheVariants.{A, B}
 use Rattle.disk_trait.specs.declared.memory.MemoryDisk.{MemoryDisk}
 
+-- what a disk in memory is, told from the bytes that it began with and its calls since
 abbrev pub state_of : MemoryDisk → State
-state_of m = told m.mixes (record { a = m.start_a.items; b = m.start_b.items }) m.calls.items m.failures
+state_of m = state_after_calls m.mixes (record { a = m.start_a.items; b = m.start_b.items }) m.calls.items m.failures
 
 -- what a crash of this kind leaves
 abbrev pub left_image : Crash → MemoryDisk → Image

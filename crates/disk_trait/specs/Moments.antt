@@ -1,9 +1,9 @@
 -- How runs of calls are told, moment by moment.
 use Rattle.std.proofs.Common.{inl, inr, ⊎_elim, ℕ, ◌≤◌, ◌∙◌, arith}
-use Rattle.disk_trait.specs.Disk.{Image, State, HoldsBytes, Elapses, IsSound, Throughout}
+use Rattle.disk_trait.specs.Disk.{Image, State, HoldsBytes, Elapses, IsSoundDisk, Throughout}
 
 -- one call, from a disk whose crash would have left an image with P, to one whose crash leaves such an image
-pub one_call : (old new : State) (P : Image → Type 0) → IsSound old → Elapses old new → ((c : Image) → old.may_leave c → P c) → ((c : Image) → new.may_leave c → P c) → Throughout old new P
+pub one_call : (old new : State) (P : Image → Type 0) → IsSoundDisk old → Elapses old new → ((c : Image) → old.may_leave c → P c) → ((c : Image) → new.may_leave c → P c) → Throughout old new P
 one_call old new P sound time before after = record {
   later = time.later;
   each = λ c left. ⊎_elim (λ was. before c (sound.only_now c was)) (after c) (time.nothing_else old.moment c (omega arith) left);
@@ -33,11 +33,11 @@ weaker a b P Q run weaken = record {
 }
 
 -- the count of failures has no part in it
-pub recounted_sound : (s : State) (failures : ℕ) → IsSound s → IsSound (record s { failures = failures })
+pub recounted_sound : (s : State) (failures : ℕ) → IsSoundDisk s → IsSoundDisk (record s { failures = failures })
 recounted_sound s failures sound = record { reads_stay = sound.reads_stay; counts_now = sound.counts_now; only_now = sound.only_now; bytes = sound.bytes }
 
 -- all that an honest disk might have left is bytes
-pub bytes_since : {P : Image → Type 0} (old new : State) → Throughout old new P → IsSound new → Throughout old new HoldsBytes
+pub bytes_since : {P : Image → Type 0} (old new : State) → Throughout old new P → IsSoundDisk new → Throughout old new HoldsBytes
 bytes_since old new run sound = record {
   later = run.later;
   each = λ c left. sound.bytes old.moment c left;

@@ -5,6 +5,7 @@ use Rattle.std.specs.Coded.{Coded, code_by, coded×, coded⊎, coded_ℕ, coded_
 use Rattle.disk_trait.specs.declared.half.Half.{Half}
 use Rattle.disk_trait.specs.declared.half.Half.TheVariants.{A, B}
 
+-- an order to a disk, which does it later
 pub data OrderValue : Type 0 where
   -- these bytes, in place of those from there on
   writes : Half → ℕ → List ℕ → OrderValue

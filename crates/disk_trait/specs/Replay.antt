@@ -41,6 +41,7 @@ Binds _ file left = Unit {0}
 abbrev pub MayFollow : What → FileState → List ℕ → Type 0
 MayFollow what before c = (d : List ℕ) × before.may_leave d × ((c ≡ d) ⊎ PartOf what d c)
 
+-- a file after a call, by what the call does
 abbrev pub after_what : What → FileState → FileState
 after_what what before = record {
   reads = reads_after what before.reads;
@@ -93,8 +94,9 @@ pub record LeftSince (start : Image) (calls : List Call) (t : ℕ) (c : Image) :
   pub not_after : moment ≤ length calls
   pub left : MayLeave start (take moment calls) c
 
-abbrev pub told : Bool → Image → List Call → ℕ → State
-told mixes start calls failures = record {
+-- a disk, told from the bytes that its files began with, its calls since, and how often it failed
+abbrev pub state_after_calls : Bool → Image → List Call → ℕ → State
+state_after_calls mixes start calls failures = record {
   honest = true;
   mixes = mixes;
   reads = record {
@@ -109,7 +111,7 @@ told mixes start calls failures = record {
 }
 
 -- the new disk has taken one call more
-pub record Follows (half : Half) (what : What) (old new : State) : Type 0 where
+pub record FollowsOneCall (half : Half) (what : What) (old new : State) : Type 0 where
   pub changed : file_of half new.reads ≡ reads_after what (file_of half old.reads)
   pub other : other_of half new.reads ≡ other_of half old.reads
   pub crash : (c : Image) → new.may_leave c → (d : Image) × old.may_leave d × Partly (OnHalf half (PartOf what)) d c

@@ -1,9 +1,9 @@
 -- How a disk that is told from its calls stands between two of them.
 use Rattle.std.proofs.Common.{inl, inr, ℕ, Bool, IsTrue, List, [], ◌∷◌, length, take, refl, sym, subst, arith, append-nil, length-take}
 use Rattle.std.proofs.lemmas.List.{take_all}
-use Rattle.disk_trait.specs.Disk.{Image, Cut, IsSound}
+use Rattle.disk_trait.specs.Disk.{Image, Cut, IsSoundDisk}
 use Rattle.disk_trait.specs.Mixes.{whole_mixed}
-use Rattle.disk_trait.specs.Replay.{FileState, settled, after_what, where_same, after_call, after_calls, MayLeave, told, began_with_bytes, wrote_bytes}
+use Rattle.disk_trait.specs.Replay.{FileState, settled, after_what, where_same, after_call, after_calls, MayLeave, state_after_calls, began_with_bytes, wrote_bytes}
 use Rattle.disk_trait.specs.ReplayBytes.{left_bytes}
 use Rattle.disk_trait.specs.declared.call.Call.{Call}
 use Rattle.disk_trait.specs.declared.call.What.{What}
@@ -35,7 +35,7 @@ pub stay : (half : Half) (calls : List Call) (p : FileState) → Stays p → Sta
 stay half [] p stays = stays
 stay half (call ∷ calls) p stays = stay half calls (after_call half call p) (stay_where half call.half (after_what call.what p) p (stay_what call.what p stays) stays)
 
-pub sound_told : (mixes : Bool) (start : Image) (calls : List Call) (failures : ℕ) → IsTrue (began_with_bytes start) → IsTrue (wrote_bytes calls) → IsSound (told mixes start calls failures)
+pub sound_told : (mixes : Bool) (start : Image) (calls : List Call) (failures : ℕ) → IsTrue (began_with_bytes start) → IsTrue (wrote_bytes calls) → IsSoundDisk (state_after_calls mixes start calls failures)
 sound_told mixes start calls failures began wrote = record {
   reads_stay = (stay A calls (settled start.a) refl, stay B calls (settled start.b) refl);
   counts_now = λ t c le left. record {

@@ -1,7 +1,7 @@
 // A disk as the log sees it: two files of bytes, of which a crash may leave less than a read gives.
 ghost use Rattle.std.specs.Prelude.{◌≡◌, ◌<◌, ◌-◌, ◌^◌};
 ghost use Rattle.disk_trait.specs.Calls.{CutsFile, GivesBytes, GivesLength, IsWithinFile, SyncsFile, WritesBytes};
-ghost use Rattle.disk_trait.specs.Disk.{State, IsHonest, IsSound};
+ghost use Rattle.disk_trait.specs.Disk.{State, IsHonest, IsSoundDisk};
 
 use crate::Half;
 use thiserror::Error;
@@ -72,5 +72,5 @@ pub trait Disk {
         ensures { SyncsFile half (state self.old) (state self.new) result };
 
     /// How an honest disk stands between calls.
-    ghost sound: { (disk : Self) → IsHonest (state disk) → IsSound (state disk) };
+    ghost sound: { (disk : Self) → IsHonest (state disk) → IsSoundDisk (state disk) };
 }

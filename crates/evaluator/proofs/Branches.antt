@@ -14,10 +14,10 @@ use Rattle.lisp_operators.specs.Kinds.{is_true}
 use Rattle.lisp_operators.specs.Evaluation.{gives, also, and_then}
 use Rattle.evaluator.specs.Value.{value, choice, other_value, value_over}
 use Rattle.lisp_operators.specs.Evaluated.{Answers, done}
-use Rattle.evaluator.specs.Gathered.{arguments_of}
+use Rattle.evaluator.specs.ArgumentValues.{arguments_of}
 use Rattle.evaluator.specs.declared.wanted.Wanted.{Wanted}
 use Rattle.evaluator.specs.declared.wanted.Wanted.TheVariants.{Truth}
-use Rattle.evaluator.specs.Wanted.{seen}
+use Rattle.evaluator.specs.StandIns.{seen}
 use Rattle.evaluator.proofs.Forms.{two_arguments}
 use Rattle.evaluator.proofs.Seen.{seen_also, refused_seen, refused_so, evaluated_so, truth_of}
 

@@ -15,7 +15,7 @@ use Rattle.package_table.specs.Table.{Table}
 use Rattle.lisp_operators.specs.Evaluated.{IsArgument}
 use Rattle.std.specs.Borrow.{Bor}
 use Rattle.evaluator.specs.Value.{is_clause, are_clauses}
-use Rattle.evaluator.specs.Gathered.{IsClause}
+use Rattle.evaluator.specs.ArgumentValues.{IsClause}
 use Rattle.evaluator.proofs.Steps.{items_arguments, forms_from}
 
 pub dotted_clause : (d : Datum) (items : List Datum) (tail : Option Datum) → d ≡ Datum.List items tail → is_proper d ≡ true → is_some tail ≡ true → is_clause (object_of d) ≡ false

@@ -16,8 +16,8 @@ use Rattle.lisp_operators.specs.Properties.{t}
 use Rattle.lisp_operators.proofs.Silence.{Keeps}
 use Rattle.evaluator.specs.Operators.{Operator, Action, sequence, seeks, selects, guards, takes_any, takes_one_or_more, operator_of, pazturrok, is_interned, count, counts}
 use Rattle.evaluator.specs.Value.{value, sought, selected, guarded, has_truth, are_clauses, action_value, form_value_by, last, value_over}
-use Rattle.evaluator.specs.Gathered.{parts, sequence_value}
-use Rattle.evaluator.specs.DecidingForms.{if_form, progn_form, and_form, or_form, cond_form, when_form, unless_form}
+use Rattle.evaluator.specs.ArgumentValues.{parts, sequence_value}
+use Rattle.evaluator.specs.FormObjects.{if_form, progn_form, and_form, or_form, cond_form, when_form, unless_form}
 use Rattle.evaluator.proofs.Heads.{head_value}
 use Rattle.evaluator.proofs.Deciding.{sought_of, selected_of, guarded_of}
 use Rattle.evaluator.proofs.SilentForms.{value_silent}

@@ -36,13 +36,13 @@ use Rattle.evaluator.specs.Value.{value, values, values_at_place, values_before_
 use Rattle.evaluator.specs.declared.place.PlaceForm.TheVariants.{Property, PropertyOr, Case, ReadBase}
 use Rattle.evaluator.specs.Operations.{action_of, is_ordinary, set_at, has_default_at, function_of_operation}
 use Rattle.lisp_operators.specs.Evaluated.{Answers, done}
-use Rattle.evaluator.specs.Gathered.{all_done}
-use Rattle.evaluator.specs.Gathered.{arguments_of, parts, followed, subforms, gathered, refusal_of_place, list_place, place_of, IsOperatorHead}
-use Rattle.evaluator.specs.Gathered.{operation_value}
+use Rattle.evaluator.specs.ArgumentValues.{all_done}
+use Rattle.evaluator.specs.ArgumentValues.{arguments_of, parts, followed, subforms, gathered, refusal_of_place, list_place, place_form_of, IsOperatorHead}
+use Rattle.evaluator.specs.ArgumentValues.{operation_value}
 use Rattle.evaluator.specs.declared.place.PlaceForm.{PlaceForm}
 use Rattle.evaluator.specs.declared.wanted.Wanted.{Wanted}
 use Rattle.evaluator.specs.declared.wanted.Wanted.TheVariants.{Value}
-use Rattle.evaluator.specs.Wanted.{seen}
+use Rattle.evaluator.specs.StandIns.{seen}
 use Rattle.evaluator.proofs.Places.{count_pairs}
 use Rattle.evaluator.proofs.Seen.{seen_also, seen_value}
 use Rattle.evaluator.proofs.Steps.{value_symbol, value_constant, value_uninterned, is_constant, followed_start, followed_both}
@@ -90,7 +90,7 @@ head_refused names s t items xs x OutOfMemory same some is head = tt
 -- ---- operators
 
 any_place : (names : List Name) (s : WorldState) (arguments : Object) → action_value s (action_of names Setf) arguments (parts names s arguments)
-    ≡ unless (refusal_of_place Setf arguments) (and_then (gathered names s Setf arguments) (function_of_operation names Setf (place_of Setf arguments)))
+    ≡ unless (refusal_of_place Setf arguments) (and_then (gathered names s Setf arguments) (function_of_operation names Setf (place_form_of Setf arguments)))
 any_place names s arguments =
     elim (is_base_place (first arguments)) as (λ b. unless (refusal_of_place Setf arguments) (and_then (values_at_place names s arguments) (cond b set_base (cond (is_case_place (first arguments)) set_case set)))
     ≡ unless (refusal_of_place Setf arguments) (and_then (values_at_place names s arguments) (λ xs t. set_at (cond b ReadBase (list_place (first arguments))) xs t))) [
@@ -113,7 +113,7 @@ changed_at operator r o true = refl
 changed_at operator r o false = refl
 
 pub ordinary_is : (names : List Name) (operation : Operation) (s : WorldState) (arguments : Object) → is_ordinary operation ≡ true → action_value s (action_of names operation) arguments (parts names s arguments)
-    ≡ unless (refusal_of_place operation arguments) (and_then (gathered names s operation arguments) (function_of_operation names operation (place_of operation arguments)))
+    ≡ unless (refusal_of_place operation arguments) (and_then (gathered names s operation arguments) (function_of_operation names operation (place_form_of operation arguments)))
 ordinary_is names Quote s arguments e = absurd (false≢true e)
 ordinary_is names Progn s arguments e = absurd (false≢true e)
 ordinary_is names If s arguments e = absurd (false≢true e)
@@ -145,15 +145,15 @@ ordinary_is names (Changes operator) s arguments e = changed_at operator (refusa
 ordinary_is names (Computes function) s arguments e = ap (λ f. and_then (values names s arguments) f) (bounded function (most_arguments function) e)
 
 pub performed : (wanted : Wanted) (names : List Name) (operation : Operation) (place : PlaceForm) (s t u : WorldState) (arguments : Object) (v : Values) (r : Result Evaluated EvaluationError) → is_ordinary operation ≡ true
-    → refusal_of_place operation arguments ≡ None → place ≡ place_of operation arguments → gathered names s operation arguments ≡ Ok (all_done v t)
+    → refusal_of_place operation arguments ≡ None → place ≡ place_form_of operation arguments → gathered names s operation arguments ≡ Ok (all_done v t)
     → Answers done r u (also v.wrote (seen wanted (function_of_operation names operation place (map object_of v.values.items) t))) → Answers done r u (seen wanted (operation_value names operation arguments s))
 performed wanted names operation place s t u arguments v r ordinary none at is h =
     let xs = map object_of v.values.items in
     let values = gathered names s operation arguments in
     subst (Answers done r u)
     (sym (ap (seen wanted) (ordinary_is names operation s arguments ordinary
-    ∙ ap (λ k. unless k (and_then values (function_of_operation names operation (place_of operation arguments)))) none
-    ∙ ap (λ o. and_then o (function_of_operation names operation (place_of operation arguments))) is
+    ∙ ap (λ k. unless k (and_then values (function_of_operation names operation (place_form_of operation arguments)))) none
+    ∙ ap (λ o. and_then o (function_of_operation names operation (place_form_of operation arguments))) is
     ∙ ap (λ p. also v.wrote (function_of_operation names operation p xs t)) (sym at))
     ∙ seen_also wanted v.wrote (function_of_operation names operation place xs t))) h
 

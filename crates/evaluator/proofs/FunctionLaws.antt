@@ -3,7 +3,7 @@
 use Rattle.std.proofs.Common.{ℕ, false, List, Result, Ok, Err, refl}
 use Rattle.lisp_object.specs.Object.{Object}
 use Rattle.plist_state.specs.State.{WorldState}
-use Rattle.plist_state.specs.Sound.{IsSound, IsValue}
+use Rattle.plist_state.specs.Sound.{IsSoundWorldState, IsValue}
 use Rattle.lisp_operators.proofs.Good.{Goods, goods_here}
 use Rattle.lisp_operators.proofs.Keeping.{Keeps}
 use Rattle.lisp_operators.proofs.Numbered.{Numbered}
@@ -22,7 +22,7 @@ module _ (s : WorldState) where
   silent_here (Ok x) = record { same = λ _. refl }
   silent_here (Err code) = record { same = tt }
 
-  safe_here : (v : Result Object ℕ) → IsSound s → IsStorable s.packages v → Goods IsValue s (value_here s v)
+  safe_here : (v : Result Object ℕ) → IsSoundWorldState s → IsStorable s.packages v → Goods IsValue s (value_here s v)
   safe_here (Ok x) sound is = goods_here IsValue s x false sound is.storable
   safe_here (Err code) sound is = record { good = tt }
 

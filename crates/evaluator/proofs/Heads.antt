@@ -23,7 +23,7 @@ use Rattle.lisp_operators.specs.declared.places.PlaceChange.{PlaceChange}
 use Rattle.lisp_operators.specs.LookUps.{look_up_named}
 use Rattle.lisp_operators.specs.Places.{change_named}
 use Rattle.evaluator.specs.Value.{value, form_value_by, action_value, value_over}
-use Rattle.evaluator.specs.Gathered.{parts}
+use Rattle.evaluator.specs.ArgumentValues.{parts}
 
 module _ (names : List Name) (name : Name) where
   pick : (b : Bool) (x : Operation) (r : Option Operation) (q : Option Operator) → option_map (operator names) r ≡ q → option_map (operator names) (cond b (Some x) r) ≡ cond b (Some (operator names x)) q

@@ -22,7 +22,7 @@ use Rattle.lisp_operators.specs.Evaluation.{Done, Evaluation, gives, also, and_t
 use Rattle.lisp_operators.specs.Kinds.{is_pair}
 use Rattle.lisp_operators.specs.Properties.{list}
 use Rattle.value_functions.specs.declared.functions.ValueFunction.{ValueFunction}
-use Rattle.value_functions.specs.Answered.{AnswersValue}
+use Rattle.value_functions.specs.FunctionAnswers.{AnswersValue}
 use Rattle.value_functions.specs.Functions.{most_arguments, function_value, if_listed}
 use Rattle.evaluator.specs.Operators.{first, computed, computed_value, value_here}
 use Rattle.evaluator.specs.Value.{rest}

@@ -12,7 +12,7 @@ use Rattle.lisp_operators.specs.declared.evaluated.Evaluated.{Evaluated}
 use Rattle.lisp_operators.specs.Evaluated.{Answers, done}
 use Rattle.lisp_operators.specs.Evaluation.{also, and_then}
 use Rattle.lisp_operators.specs.Properties.{list}
-use Rattle.evaluator.specs.Gathered.{all_done, arguments_of, followed, list_of_values}
+use Rattle.evaluator.specs.ArgumentValues.{all_done, arguments_of, followed, list_of_values}
 use Rattle.evaluator.proofs.Steps.{followed_start, followed_at_end}
 use Rattle.evaluator.proofs.Forms.{arguments_from}
 

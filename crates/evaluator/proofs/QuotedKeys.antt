@@ -26,7 +26,7 @@ use Rattle.lisp_operators.specs.Evaluated.{IsProper, AreProper, object_of_symbol
 use Rattle.lisp_operators.proofs.Storable.{value_parts, symbol_kind}
 use Rattle.evaluator.specs.declared.operation.Operation.TheVariants.{Get, Setf}
 use Rattle.evaluator.specs.Value.{value, value_over}
-use Rattle.evaluator.specs.Gathered.{arguments_of, operation_value}
+use Rattle.evaluator.specs.ArgumentValues.{arguments_of, operation_value}
 use Rattle.evaluator.specs.Direct.{quoted, quoted_key, IsLiteral, setf}
 use Rattle.evaluator.proofs.Steps.{is_constant, value_constant}
 

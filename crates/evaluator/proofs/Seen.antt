@@ -22,10 +22,10 @@ use Rattle.lisp_operators.proofs.SoundBase.{base_value}
 use Rattle.package_table.specs.Growth.{Grows}
 use Rattle.package_table.specs.Table.{Name, Table}
 use Rattle.lisp_object.specs.Datum.{object_of}
-use Rattle.plist_state.specs.Sound.{IsSound, IsValue}
+use Rattle.plist_state.specs.Sound.{IsSoundWorldState, IsValue}
 use Rattle.evaluator.specs.declared.wanted.Wanted.{Wanted}
 use Rattle.evaluator.specs.declared.wanted.Wanted.TheVariants.{Value, Truth, Depth, Nothing}
-use Rattle.evaluator.specs.Wanted.{stand_in, seen}
+use Rattle.evaluator.specs.StandIns.{stand_in, seen}
 use Rattle.evaluator.specs.Value.{value}
 use Rattle.evaluator.proofs.Steps.{good_value}
 
@@ -67,7 +67,7 @@ stand_in_value Truth u x is = elim (is_true x) as (λ b. IsValue u (cond b (inte
 stand_in_value Depth u x is = elim (nat_lt 99 (object_depth x)) as (λ b. IsValue u (cond b x (integer (pos 1)))) [ true ↦ is | false ↦ base_value u 1 (omega arith) ]
 stand_in_value Nothing u x is = base_value u 1 (omega arith)
 
-pub evaluated_good : (w : Wanted) (names : List Name) (s t : WorldState) (x : Object) (e : Evaluated) → AreFunctionNames names → IsSound s → IsValue s.packages x → seen w (value names s x) ≡ Ok (done e t)
+pub evaluated_good : (w : Wanted) (names : List Name) (s t : WorldState) (x : Object) (e : Evaluated) → AreFunctionNames names → IsSoundWorldState s → IsValue s.packages x → seen w (value names s x) ≡ Ok (done e t)
     → IsValue t.packages (object_of e.value) × Grows s.packages t.packages
 evaluated_good w names s t x e all sound is h =
     let so = evaluated_so w (value names s x) (done e t) h in

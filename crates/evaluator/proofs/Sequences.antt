@@ -14,10 +14,10 @@ use Rattle.lisp_operators.specs.declared.error.EvaluationError.TheVariants.{Refu
 use Rattle.lisp_operators.specs.Evaluated.{Answers, done}
 use Rattle.lisp_operators.specs.Evaluation.{Evaluation, gives, also, and_then}
 use Rattle.evaluator.specs.Value.{last, value, values, value_over}
-use Rattle.evaluator.specs.Gathered.{arguments_of, sequence_value}
+use Rattle.evaluator.specs.ArgumentValues.{arguments_of, sequence_value}
 use Rattle.lisp_operators.specs.declared.evaluated.Evaluated.{Evaluated}
 use Rattle.evaluator.specs.declared.wanted.Wanted.{Wanted}
-use Rattle.evaluator.specs.Wanted.{seen}
+use Rattle.evaluator.specs.StandIns.{seen}
 use Rattle.evaluator.proofs.Seen.{seen_also, refused_seen}
 use Rattle.evaluator.proofs.Steps.{or_false, forms_from, value_first}
 

@@ -7,7 +7,7 @@ use Rattle.package_table.specs.Table as packages
 use Rattle.package_table.specs.Table.{Name, Table, keyword}
 use Rattle.package_table.specs.Growth.{Grows}
 use Rattle.plist_state.specs.State.{WorldState}
-use Rattle.plist_state.specs.Sound.{IsValue, IsSound}
+use Rattle.plist_state.specs.Sound.{IsValue, IsSoundWorldState}
 use Rattle.lisp_operators.specs.Evaluation.{Evaluation, gives, and_then}
 use Rattle.lisp_operators.specs.Readtables.{AreFunctionNames, a_keyword_of}
 use Rattle.lisp_operators.proofs.Good.{Goods, goods_here, goods_then}
@@ -25,18 +25,18 @@ use Rattle.evaluator.proofs.FunctionLaws.{computed_safe}
 use Rattle.evaluator.proofs.Induction.{Operators, Steps, every_value}
 
 abbrev Asks : WorldState → Object → Type 0
-Asks s x = IsSound s × IsValue s.packages x
+Asks s x = IsSoundWorldState s × IsValue s.packages x
 
 -- what is asked of a form stays so in a sound state whose packages have grown
-stays : (s t : WorldState) → IsSound t → Grows s.packages t.packages → (x : Object) → Asks s x → Asks t x
+stays : (s t : WorldState) → IsSoundWorldState t → Grows s.packages t.packages → (x : Object) → Asks s x → Asks t x
 stays s t sound grows x asks = (sound, value_grown s.packages t.packages grows x asks.1)
 
-last_value : (u : Table) → packages.IsSound u → (xs : List Object) → AreValues u xs → IsValue u (last xs)
+last_value : (u : Table) → packages.AreSoundPackages u → (xs : List Object) → AreValues u xs → IsValue u (last xs)
 last_value u sound [] are = nil_value u sound
 last_value u sound (x ∷ []) are = All-head (IsValue u) x [] are
 last_value u sound (x ∷ y ∷ ys) are = last_value u sound (y ∷ ys) (All-tail (IsValue u) x (y ∷ ys) are)
 
-first_value : (u : Table) → packages.IsSound u → (xs : List Object) → AreValues u xs → IsValue u (first (list_of xs))
+first_value : (u : Table) → packages.AreSoundPackages u → (xs : List Object) → AreValues u xs → IsValue u (first (list_of xs))
 first_value u sound [] are = nil_value u sound
 first_value u sound (x ∷ xs) are = All-head (IsValue u) x xs are
 
@@ -102,5 +102,5 @@ module _ (names : List Name) (all : AreFunctionNames names) where
     of_values = λ s o function is safe. goods_then AreValues IsValue s o function is (λ xs t sound grows are. safe xs t sound are);
   }
 
-  pub value_safe : (s : WorldState) (x : Object) → IsSound s → IsValue s.packages x → Goods IsValue s (value names s x)
+  pub value_safe : (s : WorldState) (x : Object) → IsSoundWorldState s → IsValue s.packages x → Goods IsValue s (value names s x)
   value_safe s x sound is = every_value true names Asks (Goods IsValue) (Goods AreValues) IsSafe steps s x (sound, is)

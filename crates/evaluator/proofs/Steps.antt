@@ -19,15 +19,15 @@ use Rattle.lisp_object.proofs.ProperLists.{items_of_proper}
 use Rattle.package_table.specs.Table.{Name, Table}
 use Rattle.package_table.specs.Growth.{Grows}
 use Rattle.plist_state.specs.State.{WorldState}
-use Rattle.plist_state.specs.Sound.{IsSound, IsValue}
+use Rattle.plist_state.specs.Sound.{IsSoundWorldState, IsValue}
 use Rattle.lisp_operators.specs.declared.error.EvaluationError.{EvaluationError}
 use Rattle.lisp_operators.specs.declared.error.EvaluationError.TheVariants.{Refused, OutOfMemory}
 use Rattle.lisp_operators.specs.Evaluation.{Done, Evaluation, gives, also, and_then}
 use Rattle.evaluator.specs.Value.{value, values, symbol_value, value_over}
 use Rattle.lisp_operators.specs.Readtables.{AreFunctionNames}
 use Rattle.lisp_operators.specs.Evaluated.{IsArgument, Answers, done}
-use Rattle.evaluator.specs.Gathered.{all_done}
-use Rattle.evaluator.specs.Gathered.{followed}
+use Rattle.evaluator.specs.ArgumentValues.{all_done}
+use Rattle.evaluator.specs.ArgumentValues.{followed}
 use Rattle.lisp_operators.proofs.Good.{Goods, IsGood}
 use Rattle.lisp_operators.proofs.Storable.{value_parts, value_grown}
 use Rattle.evaluator.proofs.Places.{some_items}
@@ -99,7 +99,7 @@ pub argument_grown : (u v : Table) → Grows u v → (d : Datum) → IsArgument 
 argument_grown u v grows d is = record { proper = is.proper; value = value_grown u v grows (object_of d) is.value }
 
 -- ---- the value of a form is good
-pub good_value : (names : List Name) (s : WorldState) (x : Object) (d : Done Object) → AreFunctionNames names → IsSound s → IsValue s.packages x → value names s x ≡ Ok d → IsGood IsValue s d
+pub good_value : (names : List Name) (s : WorldState) (x : Object) (d : Done Object) → AreFunctionNames names → IsSoundWorldState s → IsValue s.packages x → value names s x ≡ Ok d → IsGood IsValue s d
 good_value names s x d all sound is e = (subst (Goods IsValue s) e (value_safe names all s x sound is)).good
 
 -- ---- forms one after the other

@@ -7,7 +7,7 @@ use Rattle.readtable_core.specs.Tables as readtable
 use Rattle.readtable_core.specs.Tables.{entry_at, dispatch_at}
 use Rattle.readtable_core.specs.Cases.{case_name}
 use Rattle.readtable_core.specs.Changes.{macro_entry, dispatching_entry, with_function}
-use Rattle.readtable_core.specs.Changes.{with_entry as with_entry_at}
+use Rattle.readtable_core.specs.Changes.{with_character_entry as with_entry_at}
 use Rattle.readtable_core.specs.Sound.{is_dispatching}
 use Rattle.package_table.specs.Table.{common_lisp, keyword, symbol_count, with_entry, with_used, with_new_package}
 use Rattle.package_table.specs.Lookup.{found, is_present, is_external, is_used}

@@ -8,14 +8,14 @@ use Rattle.package_table.specs.Table.{Name, Table, common_lisp}
 use Rattle.plist_state.specs.Properties.{Symbol}
 use Rattle.plist_state.specs.State.{WorldState}
 use Rattle.plist_state.specs.Changes.{property, with_property}
-use Rattle.plist_state.specs.Shown.{symbol_named}
+use Rattle.plist_state.specs.Views.{symbol_named}
 use Rattle.plist_state.specs.Sound.{IsSymbol}
 use Rattle.lisp_operators.specs.Evaluation.{Evaluation, gives, writes}
 use Rattle.lisp_operators.specs.Evaluated.{IsArgument, object_of_symbol}
 use Rattle.evaluator.specs.declared.direct.QuotedProperty.{QuotedProperty}
 use Rattle.evaluator.specs.declared.operation.Operation.TheVariants.{Setf}
 use Rattle.evaluator.specs.Value.{value}
-use Rattle.evaluator.specs.Gathered.{arguments_in, operation_value}
+use Rattle.evaluator.specs.ArgumentValues.{arguments_in, operation_value}
 
 -- (QUOTE x)
 abbrev pub quoted : Object → Object

@@ -1,8 +1,8 @@
 pub mod Operators
 pub mod EarlierOperators
-pub mod DecidingForms
+pub mod FormObjects
 pub mod Value
 pub mod Operations
-pub mod Gathered
-pub mod Wanted
+pub mod ArgumentValues
+pub mod StandIns
 pub mod Direct

@@ -19,6 +19,7 @@ use Rattle.lisp_operators.specs.LookUps.{least_of_look_up, most_of_look_up, look
 use Rattle.lisp_operators.specs.Places.{most_of_change, place_changed}
 use Rattle.value_functions.specs.Functions as functions
 
+-- how many arguments it takes at least
 abbrev pub least : Operation → ℕ
 least Quote = 1
 least Progn = 0
@@ -56,6 +57,7 @@ least (Decides Assert) = 1
 least (LooksUp operator) = least_of_look_up operator
 least (Changes operator) = 1
 
+-- how many arguments it takes at most; None where there may be any number
 abbrev pub most : Operation → Option ℕ
 most Quote = Some 1
 most Progn = None
@@ -126,12 +128,13 @@ action_of names (Decides Assert) = asserts
 action_of names (LooksUp operator) = calls (looked_up operator)
 action_of names (Changes operator) = changes (place_changed operator)
 
+-- the operator that it is, where these are the names of macro functions
 abbrev pub operator : List Name → Operation → Operator
 operator names operation = record { least = least operation; most = most operation; action = action_of names operation }
 
 -- a list with so many elements, an operator among them, has a right number of arguments
-abbrev pub IsCounted : Operation → ℕ → Type 0
-IsCounted operation n = (least operation + 1 ≤ n) × IfSome (most operation) (λ m. n ≤ m + 1)
+abbrev pub HasRightCount : Operation → ℕ → Type 0
+HasRightCount operation n = (least operation + 1 ≤ n) × IfSome (most operation) (λ m. n ≤ m + 1)
 
 -- whether it gives a function of the values of its arguments, of which all are held
 abbrev pub is_ordinary : Operation → Bool
@@ -149,6 +152,7 @@ abbrev pub of_values : Action → List Object → WorldState → Evaluation Obje
 of_values (calls function) xs s = function xs s
 of_values _ xs s = Err ARGUMENT_KIND
 
+-- what SETF does at a place of each kind
 abbrev pub set_at : PlaceForm → List Object → WorldState → Evaluation Object
 set_at Property xs s = set xs s
 set_at PropertyOr xs s = set xs s

@@ -38,18 +38,22 @@ pub data Action : Type 0 where
   -- a place that GET names, of which it is known whether it has a default, and the forms after it
   changes : (Bool → List Object → WorldState → Evaluation Object) → Action
 
+-- How many arguments an operator takes, and what it does with them.
 pub record Operator : Type 0 where
   -- how many arguments at least, and how many at most
   pub least : ℕ
   pub most : Option ℕ
   pub action : Action
 
+-- an operator of so many arguments
 abbrev pub takes : ℕ → ℕ → Action → Option Operator
 takes least most action = Some (record { least = least; most = Some most; action = action })
 
+-- one of any number of arguments
 abbrev pub takes_any : Action → Option Operator
 takes_any action = Some (record { least = 0; most = None; action = action })
 
+-- one of at least one argument
 abbrev pub takes_one_or_more : Action → Option Operator
 takes_one_or_more action = Some (record { least = 1; most = None; action = action })
 
@@ -97,6 +101,7 @@ abbrev pub value_here : WorldState → Result Object ℕ → Evaluation Object
 value_here s (Ok x) = gives x s
 value_here s (Err code) = Err code
 
+-- what a function of values gives, in a state that stays as it is
 abbrev pub computed : ValueFunction → List Object → WorldState → Evaluation Object
 computed function xs s = value_here s (call_value function xs)
 
@@ -104,15 +109,19 @@ computed function xs s = value_here s (call_value function xs)
 abbrev pub computed_value : ValueFunction → List Object → WorldState → Evaluation Object
 computed_value function xs s = value_here s (function_value function xs)
 
+-- the package in which the operators are that are not of the standard, or not all of it
 abbrev pub pazturrok : Name
 pazturrok = codes "PAZTURROK"
 
+-- a function of values as an operator
 abbrev pub function_operator : ValueFunction → Operator
 function_operator function = record { least = functions.fewest_arguments function; most = functions.most_arguments function; action = calls (computed function) }
 
+-- an operator that looks up
 abbrev pub look_up_operator : LookUp → Operator
 look_up_operator operator = record { least = least_of_look_up operator; most = Some (most_of_look_up operator); action = calls (looked_up operator) }
 
+-- an operator that changes a place
 abbrev pub change_operator : PlaceChange → Operator
 change_operator operator = record { least = 1; most = Some (most_of_change operator); action = changes (place_changed operator) }
 
@@ -152,6 +161,7 @@ abbrev pub is_standard : List ℕ → Object → Bool
 is_standard name (symbol home own) = bytes_eq home common_lisp && bytes_eq own name
 is_standard name _ = false
 
+-- whether it is a symbol with a home
 abbrev pub is_interned : Object → Bool
 is_interned (symbol home name) = true
 is_interned _ = false
@@ -161,6 +171,7 @@ abbrev pub count : Object → ℕ
 count (pair x xs) = count xs + 1
 count _ = 0
 
+-- whether an operator takes so many arguments
 abbrev pub counts : Operator → ℕ → Bool
 counts operator n = nat_le operator.least n && option_map_or (λ most. nat_le n most) operator.most true
 

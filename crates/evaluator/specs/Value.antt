@@ -68,10 +68,12 @@ has_truth truth x = if truth then is_true x else not (is_true x)
 abbrev pub is_clause : Object → Bool
 is_clause x = is_pair x && is_proper_list x
 
+-- whether each element of a list is one
 abbrev pub are_clauses : Object → Bool
 are_clauses (pair clause others) = is_clause clause && are_clauses others
 are_clauses _ = true
 
+-- the refusal, if there is one; else what goes on
 abbrev pub unless : Option ℕ → Evaluation Object → Evaluation Object
 unless (Some code) on = Err code
 unless None on = on
@@ -116,9 +118,11 @@ module _ (based : Bool) where
   abbrev pub place_refusal_by : Object → Option ℕ
   place_refusal_by place = if is_base_by place then None else list_place_refusal place
 
+  -- how SETF puts a value into a place
   abbrev pub set_place_by : Object → List Object → WorldState → Evaluation Object
   set_place_by place = if is_base_by place then set_base else (if is_case_place place then set_case else set)
 
+  -- what an operator gives for its arguments: by what it does, and by what these give in the order in which it takes them
   abbrev pub action_value_by : WorldState → Action → Object → Parts → Evaluation Object
   action_value_by s quotes arguments parts = gives (first arguments) s
   action_value_by s sequence arguments parts = and_then parts.in_order (λ xs later. gives (last xs) later)
@@ -227,6 +231,7 @@ unfoldable mutual
 abbrev pub value_by : Bool → List Name → WorldState → Object → Evaluation Object
 value_by based names = value_over based (operator_of names)
 
+-- what arguments give in each order in which an operator takes them, by the operators there are: here from left to right
 abbrev pub values_by : Bool → List Name → WorldState → Object → Evaluation (List Object)
 values_by based names = values_over based (operator_of names)
 
@@ -255,21 +260,27 @@ values_before_place_by based names = values_before_place_over based (operator_of
 abbrev pub is_base_place : Object → Bool
 is_base_place = is_base_by true
 
+-- and from here on the variable is known: what a symbol gives as a form
 abbrev pub symbol_value : List ℕ → List ℕ → WorldState → Evaluation Object
 symbol_value = symbol_value_by true
 
+-- why it is no place for SETF
 abbrev pub place_refusal : Object → Option ℕ
 place_refusal = place_refusal_by true
 
+-- what an operator gives for its arguments
 abbrev pub action_value : WorldState → Action → Object → Parts → Evaluation Object
 action_value = action_value_by true
 
+-- the value of a form
 abbrev pub value : List Name → WorldState → Object → Evaluation Object
 value = value_by true
 
+-- the values of forms, from left to right
 abbrev pub values : List Name → WorldState → Object → Evaluation (List Object)
 values = values_by true
 
+-- what IF gives for its arguments
 abbrev pub choice : List Name → WorldState → Object → Evaluation Object
 choice = choice_by true
 

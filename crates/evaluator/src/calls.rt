@@ -7,7 +7,7 @@ ghost use Rattle.lisp_operators.specs.Effects.{Leaves};
 ghost use Rattle.lisp_operators.specs.Readtables.{AreFunctionNames};
 ghost use Rattle.lisp_operators.specs.Evaluated.{IsArgument, KeepsArguments};
 ghost use Rattle.evaluator.specs.Value.{value};
-ghost use Rattle.evaluator.specs.Gathered.{arguments_in, Evaluates};
+ghost use Rattle.evaluator.specs.ArgumentValues.{arguments_in, Evaluates};
 
 use crate::direct::{into_call, is_literal, set_moved};
 use crate::evaluation::evaluate_for;

@@ -2,7 +2,7 @@
 ghost use Rattle.std.specs.Prelude.{◌≡◌, ◌≤◌, length};
 ghost use Rattle.lisp_operators.specs.Evaluated.{IsProper, AreProper};
 ghost use Rattle.evaluator.specs.Value.{are_clauses};
-ghost use Rattle.evaluator.specs.Gathered.{arguments_in, IsClause};
+ghost use Rattle.evaluator.specs.ArgumentValues.{arguments_in, IsClause};
 
 use lisp_object::Datum;
 

@@ -46,7 +46,8 @@ fn into_items(alloc: Global, list: Datum) -> Vec<Datum>
     }
 }
 
-/// What such a function gives of the values of which this is LIST, where it takes any number of them.
+/// What a function of values gives that takes any number of them, of the items of this list. Where there is no list but a refusal of one,
+/// the function is refused with that.
 pub fn computed_of_list(
     alloc: Global,
     function: ValueFunction,

@@ -8,7 +8,7 @@ ghost use Rattle.lisp_operators.specs.Kinds.{a_symbol};
 ghost use Rattle.lisp_operators.specs.Evaluation.{Evaluation, gives, also};
 ghost use Rattle.evaluator.specs.Operators.{first};
 ghost use Rattle.evaluator.specs.Value.{symbol_value};
-ghost use Rattle.evaluator.specs.Gathered.{arguments_in, Evaluates, HasValue};
+ghost use Rattle.evaluator.specs.ArgumentValues.{arguments_in, Evaluates, HasValue};
 ghost use Rattle.lisp_operators.specs.Evaluated.{Answers, done, IsProper, AreProper, IsProperValue};
 
 use lisp_object::Datum;

@@ -4,13 +4,13 @@ ghost use Rattle.std.specs.Prelude.{◌≡◌, true, All, IfErr, IfOk, IfSome, L
 ghost use Rattle.lisp_object.specs.Object.{Object, pair, symbol};
 ghost use Rattle.lisp_object.specs.Datum.{object_of};
 ghost use Rattle.package_table.specs.Table.{Name, Table, common_lisp};
-ghost use Rattle.plist_state.specs.Shown.{symbol_named};
+ghost use Rattle.plist_state.specs.Views.{symbol_named};
 ghost use Rattle.lisp_operators.specs.Effects.{Leaves};
 ghost use Rattle.lisp_operators.specs.Evaluated.{Answers, done, IsArgument, IsProper, AreProper, IsProperValue, object_of_symbol};
 ghost use Rattle.evaluator.specs.Direct.{quoted, quoted_key, IsCall, IsLiteral, IsSetf, IsStorable, property_value, assigned, setf};
-ghost use Rattle.evaluator.specs.Gathered.{arguments_in};
+ghost use Rattle.evaluator.specs.ArgumentValues.{arguments_in};
 ghost use Rattle.evaluator.specs.Value.{value};
-ghost use Rattle.evaluator.specs.Wanted.{seen};
+ghost use Rattle.evaluator.specs.StandIns.{seen};
 
 use crate::control::nothing;
 use crate::place::is_standard;
@@ -245,7 +245,8 @@ pub(crate) fn get_directly(
     property: QuotedProperty<'_>,
     wanted: Wanted,
 ) -> Result<Evaluated, EvaluationError>
-    ensures gives { Answers done result world.now.0 (seen wanted (property_value property.entry world.now.0)) }
+    ensures gives { Answers done result world.now.0
+        (seen wanted (property_value property.entry world.now.0)) }
     ensures proper { IfOk result IsProperValue }
 {
     match world.get_at(property.symbol, property.indicator) {

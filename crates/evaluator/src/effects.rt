@@ -9,7 +9,7 @@ ghost use Rattle.lisp_operators.specs.Evaluated.{Answers, done, IsProper, IsProp
 ghost use Rattle.lisp_operators.specs.Evaluation.{Evaluation};
 ghost use Rattle.lisp_operators.specs.Readtables.{AreFunctionNames};
 ghost use Rattle.evaluator.specs.Operations.{function_of_operation};
-ghost use Rattle.evaluator.specs.Wanted.{seen};
+ghost use Rattle.evaluator.specs.StandIns.{seen};
 ghost use Rattle.evaluator.specs.declared.wanted.Wanted.TheVariants.{Truth, Nothing};
 
 use crate::operation::Operation;

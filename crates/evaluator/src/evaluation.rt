@@ -5,9 +5,9 @@ ghost use Rattle.lisp_object.specs.Datum.{object_of};
 ghost use Rattle.evaluator.specs.Value.{values_at_place, values_before_place};
 ghost use Rattle.lisp_operators.specs.Readtables.{AreFunctionNames};
 ghost use Rattle.lisp_operators.specs.Evaluated.{IsArgument, KeepsArguments, Answers, done, IsProperValue, AreArgumentsOf, objects};
-ghost use Rattle.evaluator.specs.Gathered.{all_done, arguments_in, EvaluatesFor, Operates, followed, subforms, gathered, sequence_value, list_of_values};
-ghost use Rattle.evaluator.specs.Operations.{IsCounted, is_ordinary};
-ghost use Rattle.evaluator.specs.Wanted.{seen};
+ghost use Rattle.evaluator.specs.ArgumentValues.{all_done, arguments_in, EvaluatesFor, Operates, followed, subforms, gathered, sequence_value, list_of_values};
+ghost use Rattle.evaluator.specs.Operations.{HasRightCount, is_ordinary};
+ghost use Rattle.evaluator.specs.StandIns.{seen};
 
 mod deciding;
 
@@ -114,7 +114,7 @@ fn act(
     task: EvaluationTask,
     items: &[Datum],
 ) -> Result<Evaluated, EvaluationError>
-    requires counted { IsCounted task.operation (length items.now) }
+    requires counted { HasRightCount task.operation (length items.now) }
     requires names { AreFunctionNames names.now }
     requires items { AreArgumentsOf world.old items.now }
     ensures gives { Operates names.now task items.now world.old.0 world.new.0 result }
@@ -157,7 +157,7 @@ fn ordinary(
     items: &[Datum],
 ) -> Result<Evaluated, EvaluationError>
     requires ordinary { is_ordinary task.operation ≡ true }
-    requires counted { IsCounted task.operation (length items.now) }
+    requires counted { HasRightCount task.operation (length items.now) }
     requires names { AreFunctionNames names.now }
     requires items { AreArgumentsOf world.old items.now }
     ensures gives { Operates names.now task items.now world.old.0 world.new.0 result }
@@ -183,7 +183,7 @@ fn gathered(
     operation: Operation,
     items: &[Datum],
 ) -> Result<Values, EvaluationError>
-    requires counted { IsCounted operation (length items.now) }
+    requires counted { HasRightCount operation (length items.now) }
     requires names { AreFunctionNames names.now }
     requires items { AreArgumentsOf world.old items.now }
     ensures gives { Answers all_done result world.new.0

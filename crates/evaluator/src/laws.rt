@@ -4,7 +4,7 @@ ghost use Rattle.lisp_object.specs.Object.{Object};
 ghost use Rattle.package_table.specs.Growth.{Grows};
 ghost use Rattle.package_table.specs.Table.{Name};
 ghost use Rattle.plist_state.specs.State.{WorldState};
-ghost use Rattle.plist_state.specs.Sound.{IsSound, IsValue};
+ghost use Rattle.plist_state.specs.Sound.{IsSoundWorldState, IsValue};
 ghost use Rattle.lisp_operators.specs.Evaluation.{Done};
 ghost use Rattle.lisp_operators.specs.Readtables.{AreCovered, AreFunctionNames};
 ghost use Rattle.evaluator.specs.Operators.{OperatorTable, AreOperatorsAmong, standard_operator_of};
@@ -21,8 +21,8 @@ pub fn silent_values_change_nothing()
 /// name and no use of a package is lost, and may be stored there. For proofs: it does nothing.
 pub fn values_leave_sound_states()
     ensures { (names : List Name) (s : WorldState) (x : Object) (d : Done Object)
-        → AreFunctionNames names → IsSound s → IsValue s.packages x → value names s x ≡ Ok d
-        → IsSound d.state × Grows s.packages d.state.packages × IsValue d.state.packages d.value }
+        → AreFunctionNames names → IsSoundWorldState s → IsValue s.packages x → value names s x ≡ Ok d
+        → IsSoundWorldState d.state × Grows s.packages d.state.packages × IsValue d.state.packages d.value }
 {}
 
 /// Where the readtables of a state name no function but those of the standard readtable and these names of macro functions, the

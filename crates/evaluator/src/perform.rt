@@ -3,7 +3,7 @@ ghost use Rattle.std.specs.Prelude.{◌≡◌, IfOk};
 ghost use Rattle.lisp_operators.specs.Readtables.{AreFunctionNames};
 ghost use Rattle.lisp_operators.specs.Evaluation.{also};
 ghost use Rattle.evaluator.specs.Operations.{function_of_operation, set_at, has_default_at};
-ghost use Rattle.evaluator.specs.Wanted.{seen};
+ghost use Rattle.evaluator.specs.StandIns.{seen};
 ghost use Rattle.lisp_operators.specs.Evaluated.{Answers, done, IsProperValue, AreArgumentsOf, CarriesOut, objects};
 
 use crate::computed::computed;
@@ -57,7 +57,8 @@ pub(crate) fn perform(
     }
 }
 
-/// What it gives of these, as nothing was evaluated before.
+/// What an operator gives of the values of its arguments, where these wrote nothing. An operator that takes its arguments as they are written,
+/// or decides which are evaluated, is refused. After an error the world may have changed, but for its marks: who calls it goes back to one.
 pub fn carry_out(
     alloc: Global,
     world: &mut World,

@@ -5,8 +5,8 @@ ghost use Rattle.lisp_object.specs.Datum.{object_of, is_proper};
 ghost use Rattle.lisp_object.specs.declared.refusal.TheConstants.{ARGUMENT_KIND as WRONG_KIND};
 ghost use Rattle.evaluator.specs.Operators.{is_standard, count};
 ghost use Rattle.evaluator.specs.Value.{get_place_refusal, default_place_refusal, list_place_refusal, place_refusal};
-ghost use Rattle.evaluator.specs.Operations.{IsCounted};
-ghost use Rattle.evaluator.specs.Gathered.{refusal_of_place, property_place, list_place, setf_place, place_of, IsRefusal, arguments_in};
+ghost use Rattle.evaluator.specs.Operations.{HasRightCount};
+ghost use Rattle.evaluator.specs.ArgumentValues.{refusal_of_place, property_place, list_place, setf_place, place_form_of, RefusesIfSome, arguments_in};
 ghost use Rattle.lisp_operators.specs.Evaluated.{IsProper, AreProper};
 
 use crate::operation::Operation;
@@ -70,7 +70,7 @@ pub fn is_standard(datum: &Datum, name: &[u8]) -> bool
 // That it is a place that GET names.
 fn check_property(place: &Datum) -> Result<PlaceForm, EvaluationError>
     requires { IsProper place.now }
-    ensures refusal { IsRefusal (get_place_refusal (object_of place.now)) result }
+    ensures refusal { RefusesIfSome (get_place_refusal (object_of place.now)) result }
     ensures value { IfOk result (λ p. p ≡ PlaceForm.Property) }
 {
     let Some((operator, number)) = accessor(place) else {
@@ -88,7 +88,7 @@ fn check_property(place: &Datum) -> Result<PlaceForm, EvaluationError>
 // That it is a place that GET names, with a default or without.
 fn check_with_default(place: &Datum) -> Result<PlaceForm, EvaluationError>
     requires { IsProper place.now }
-    ensures refusal { IsRefusal (default_place_refusal (object_of place.now)) result }
+    ensures refusal { RefusesIfSome (default_place_refusal (object_of place.now)) result }
     ensures value { IfOk result (λ p. p ≡ property_place (object_of place.now)) }
 {
     let Some((name, number)) = accessor(place) else {
@@ -109,7 +109,7 @@ fn check_with_default(place: &Datum) -> Result<PlaceForm, EvaluationError>
 // That it is a list that is a place for SETF, and what it names.
 fn check_list(place: &Datum) -> Result<PlaceForm, EvaluationError>
     requires { IsProper place.now }
-    ensures refusal { IsRefusal (list_place_refusal (object_of place.now)) result }
+    ensures refusal { RefusesIfSome (list_place_refusal (object_of place.now)) result }
     ensures value { IfOk result (λ p. p ≡ list_place (object_of place.now)) }
 {
     let Some((operator, number)) = accessor(place) else {
@@ -127,7 +127,7 @@ fn check_list(place: &Datum) -> Result<PlaceForm, EvaluationError>
 // That it is a place for SETF, and what it names.
 fn check_setf(place: &Datum) -> Result<PlaceForm, EvaluationError>
     requires { IsProper place.now }
-    ensures refusal { IsRefusal (place_refusal (object_of place.now)) result }
+    ensures refusal { RefusesIfSome (place_refusal (object_of place.now)) result }
     ensures value { IfOk result (λ p. p ≡ setf_place (object_of place.now)) }
 {
     if is_standard(place, b"*READ-BASE*") {
@@ -139,10 +139,10 @@ fn check_setf(place: &Datum) -> Result<PlaceForm, EvaluationError>
 /// That the place of an operator, if it takes one, is a place, and what it names. The first of the items is the operator
 /// itself.
 pub fn check_place(operation: Operation, items: &[Datum]) -> Result<PlaceForm, EvaluationError>
-    requires counted { IsCounted operation (length items.now) }
+    requires counted { HasRightCount operation (length items.now) }
     requires proper { AreProper items.now }
-    ensures refusal { IsRefusal (refusal_of_place operation (arguments_in items.now)) result }
-    ensures value { IfOk result (λ p. p ≡ place_of operation (arguments_in items.now)) }
+    ensures refusal { RefusesIfSome (refusal_of_place operation (arguments_in items.now)) result }
+    ensures value { IfOk result (λ p. p ≡ place_form_of operation (arguments_in items.now)) }
 {
     match operation {
         Operation::Setf => check_setf(&items[1]),

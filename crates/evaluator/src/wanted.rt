@@ -7,7 +7,7 @@ ghost use Rattle.lisp_object.specs.Datum.{object_of};
 ghost use Rattle.lisp_operators.specs.Evaluated.{Answers, done, IsProper, IsProperValue};
 ghost use Rattle.lisp_operators.specs.Kinds.{is_true};
 ghost use Rattle.evaluator.specs.Value.{has_truth};
-ghost use Rattle.evaluator.specs.Wanted.{stand_in, seen, wanted_for};
+ghost use Rattle.evaluator.specs.StandIns.{stand_in, seen, wanted_for};
 
 use crate::operation::Operation;
 use lisp_object::Datum;

@@ -17,7 +17,7 @@ use Rattle.package_table.specs.Table.{Name}
 use Rattle.plist_state.specs.Properties.{Symbol, Plist, Properties, list_at, symbol_cmp, with_list, with_value}
 use Rattle.plist_state.specs.Changes.{plist, with_property}
 use Rattle.plist_state.specs.Readers.{symbols_with_properties}
-use Rattle.plist_state.specs.Sound.{IsSound, IsSymbol, IsPlist, IsValue}
+use Rattle.plist_state.specs.Sound.{IsSoundWorldState, IsSymbol, IsPlist, IsValue}
 use Rattle.plist_state.specs.State.{WorldState}
 use Rattle.plist_state.proofs.Orders.{symbol_total}
 use Rattle.snapshot_text.specs.Built.{with_each, with_packages_of, with_properties, with_properties_of}
@@ -35,7 +35,7 @@ module _ (names : List Name) where
   stepped xs (Ok done) = after_each names done.state xs
   stepped xs (Err number) = None
 
-  each_set : (now : WorldState) (x : Symbol) (ps : Plist) (more : List Object) → packages.IsSound now.packages → IsSymbol now.packages x
+  each_set : (now : WorldState) (x : Symbol) (ps : Plist) (more : List Object) → packages.AreSoundPackages now.packages → IsSymbol now.packages x
       → All (λ p. IsSymbol now.packages p.0) ps → All (λ p. IsValue now.packages p.1) ps
       → after_each names now (map (property_object x) ps ++ more) ≡ after_each names (with_each now x ps) more
   each_set now x [] more sound there indicators values = refl
@@ -81,7 +81,7 @@ module _ (s : WorldState) where
   front (z ∷ zs) zero x ys e = let first : z ≡ x = cc in let later : zs ≡ ys = cc in (first, later)
   front (z ∷ zs) (suc n) x ys e = front zs n x ys e
 
-  module _ (sound : IsSound s) where
+  module _ (sound : IsSoundWorldState s) where
     from : (n : ℕ) (xs : List Symbol) (now : WorldState) → drop n (symbols_with_properties s) ≡ xs → n + length xs ≡ length (symbols_with_properties s)
         → IsUpTo s n now → listed now xs ≡ with_properties_of s
     from n [] now rest all so_far = at_last s n now so_far (omega (arith, all))
@@ -113,7 +113,7 @@ module _ (s : WorldState) where
         let one = All-head MayBe x xs all in
         let plist_there = subst (λ u. IsPlist u (plist s x)) (sym same) one.1 in
         let kept : (with_each now x (plist s x)).packages ≡ s.packages = ap (λ (w : WorldState). w.packages) (each_put now x (plist s x)) ∙ same in
-        each_set names now x (plist s x) (flat_map (λ x. map (property_object x) (plist s x)) xs) (subst packages.IsSound (sym same) sound.packages)
+        each_set names now x (plist s x) (flat_map (λ x. map (property_object x) (plist s x)) xs) (subst packages.AreSoundPackages (sym same) sound.packages)
         (subst (λ u. IsSymbol u x) (sym same) one.0) plist_there.indicators plist_there.values
         ∙ all_set names (with_each now x (plist s x)) xs kept (All-tail MayBe x xs all)
 

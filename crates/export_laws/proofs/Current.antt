@@ -43,7 +43,7 @@ is_enter = record { listed = refl; plain = refl; short = omega arith }
 
 -- ---- it is read
 
-module _ (s : WorldState) (t : Table) (sound : packages.IsSound t) (there : IsPackage t s.current_package) where
+module _ (s : WorldState) (t : Table) (sound : packages.AreSoundPackages t) (there : IsPackage t s.current_package) where
   abbrev p : Name
   p = s.current_package
 
@@ -78,7 +78,7 @@ module _ (s : WorldState) (t : Table) (sound : packages.IsSound t) (there : IsPa
 
 -- ---- it is accepted
 
-module _ (names : List Name) (s : WorldState) (sound : packages.IsSound s.packages) (p : Name) (there : IsPackage s.packages p) where
+module _ (names : List Name) (s : WorldState) (sound : packages.AreSoundPackages s.packages) (p : Name) (there : IsPackage s.packages p) where
   abbrev entered : WorldState
   entered = record s { current_package = p }
 

@@ -7,7 +7,7 @@ use Rattle.std.proofs.lemmas.List.{length-append}
 use Rattle.lisp_object.specs.Object.{text}
 use Rattle.readtable_core.specs.Tables.{standard}
 use Rattle.package_table.proofs.Frames.{get_inserted}
-use Rattle.plist_state.specs.Sound.{IsSound}
+use Rattle.plist_state.specs.Sound.{IsSoundWorldState}
 use Rattle.plist_state.specs.State.{WorldState, initial, standard_name, user_name}
 use Rattle.user_macros.specs.Functions.{Functions}
 use Rattle.snapshot_text.specs.Built.{with_packages_of, with_properties_of}
@@ -22,7 +22,7 @@ use Rattle.export_laws.proofs.Lines.{lines_made}
 use Rattle.export_laws.proofs.OneForm.{nothing_made, one_more_made}
 use Rattle.export_laws.proofs.PackageLines.{packages_made}
 
-module _ (functions : Functions) (s : WorldState) (sound : IsSound s) (none : left_out_lines s ≡ []) where
+module _ (functions : Functions) (s : WorldState) (sound : IsSoundWorldState s) (none : left_out_lines s ≡ []) where
   -- a new store reads as an export is read
   new_reads : ReadsAsExported initial
   new_reads = record {

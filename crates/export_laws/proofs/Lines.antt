@@ -11,12 +11,12 @@ use Rattle.package_table.specs.Table.{Table}
 use Rattle.plist_state.specs.Properties.{Symbol, Plist}
 use Rattle.plist_state.specs.Changes.{plist, with_property}
 use Rattle.plist_state.specs.Readers.{symbols_with_properties}
-use Rattle.plist_state.specs.Sound.{IsSound, IsSymbol, IsPlist, IsValue}
+use Rattle.plist_state.specs.Sound.{IsSoundWorldState, IsSymbol, IsPlist, IsValue}
 use Rattle.plist_state.specs.State.{WorldState}
 use Rattle.user_macros.specs.Functions.{Functions}
 use Rattle.snapshot_text.specs.Built.{with_each}
 use Rattle.world_forms.specs.Properties.{is_form, left_out_line, left_out_lines, plist_left_out, plist_lines, property_form, property_line, property_lines}
-use Rattle.world_forms.specs.Tokens.{line, symbol_text, told_text}
+use Rattle.world_forms.specs.Tokens.{line_of_form, symbol_text, told_text}
 use Rattle.export_laws.specs.Objects.{property_object}
 use Rattle.export_laws.specs.Texts.{Makes, ReadsAsExported}
 use Rattle.export_laws.proofs.All.{MayBe, all_listed_in, all_may_be, each_put, listed}
@@ -38,7 +38,7 @@ module _ (t : Table) (x : Symbol) where
   not_left_out : (p : Symbol × Object) → left_out_line t x p ≡ [] → IsForm p
   unfolding left_out_line
   not_left_out p none =
-      elim (is_form t (property_form t x p)) as (λ b. (if b then [] else line (told_text (symbol_text x.0 x.1 ++ codes " " ++ symbol_text p.0.0 p.0.1))) ≡ [] → b ≡ true) [
+      elim (is_form t (property_form t x p)) as (λ b. (if b then [] else line_of_form (told_text (symbol_text x.0 x.1 ++ codes " " ++ symbol_text p.0.0 p.0.1))) ≡ [] → b ≡ true) [
         | true ↦ λ _. refl
         | false ↦ λ e. absurd (let none : 10 ∷ [] ≡ [] = (both_empty (told_text (symbol_text x.0 x.1 ++ codes " " ++ symbol_text p.0.0 p.0.1)) (10 ∷ []) e).1 in cc)
       ] none
@@ -66,9 +66,9 @@ module _ (functions : Functions) (first : WorldState) (whole : List ℕ) where
   line_before : (t : Table) (x : Symbol) (p : Symbol × Object) (more : List ℕ) → IsForm t x p → property_line t x p ++ more ≡ property_form t x p ++ 10 ∷ more
   unfolding property_line
   line_before t x p more is =
-      ap (λ b. (if b then line (property_form t x p) else []) ++ more) is ∙ append_assoc (property_form t x p) (10 ∷ []) more
+      ap (λ b. (if b then line_of_form (property_form t x p) else []) ++ more) is ∙ append_assoc (property_form t x p) (10 ∷ []) more
 
-  list_made : (x : Symbol) (ps : Plist) (now : WorldState) (rest : List ℕ) → packages.IsSound now.packages → IsSymbol now.packages x
+  list_made : (x : Symbol) (ps : Plist) (now : WorldState) (rest : List ℕ) → packages.AreSoundPackages now.packages → IsSymbol now.packages x
       → All (λ p. IsSymbol now.packages p.0) ps → All (λ p. IsValue now.packages p.1) ps → All (IsForm now.packages x) ps → ReadsAsExported now
       → Made now (10 ∷ flat_map (property_line now.packages x) ps ++ rest) → Made (with_each now x ps) (10 ∷ rest)
   list_made x [] now rest sound there indicators values forms as_exported made = made
@@ -89,7 +89,7 @@ module _ (functions : Functions) (first : WorldState) (whole : List ℕ) where
 
   -- ---- all lists
 
-  module _ (s : WorldState) (sound : IsSound s) where
+  module _ (s : WorldState) (sound : IsSoundWorldState s) where
     kept : (now : WorldState) (x : Symbol) (ps : Plist) → now.packages ≡ s.packages → (with_each now x ps).packages ≡ s.packages
     kept now x ps same = ap (λ (w : WorldState). w.packages) (each_put now x ps) ∙ same
 
@@ -112,7 +112,7 @@ module _ (functions : Functions) (first : WorldState) (whole : List ℕ) where
         let plist_there = subst (λ u. IsPlist u ps) (sym same) one.1 in
         all_made xs (with_each now x ps) rest (kept now x ps same) (All-tail (MayBe s sound) x xs all)
         (All-tail (λ x. All (IsForm s.packages x) (plist s x)) x xs forms) (still now x ps as_exported)
-        (list_made x ps now more (subst packages.IsSound (sym same) sound.packages) (subst (λ u. IsSymbol u x) (sym same) one.0) plist_there.indicators plist_there.values
+        (list_made x ps now more (subst packages.AreSoundPackages (sym same) sound.packages) (subst (λ u. IsSymbol u x) (sym same) one.0) plist_there.indicators plist_there.values
         (subst (λ u. All (IsForm u x) ps) (sym same) its_forms) as_exported (subst (λ cs. Made now (10 ∷ cs)) text made))
 
     pub lines_made : left_out_lines s ≡ [] → (now : WorldState) (rest : List ℕ) → now.packages ≡ s.packages → now.properties ≡ finite.empty → ReadsAsExported now

@@ -12,7 +12,7 @@ use Rattle.lisp_object.specs.Object.{text}
 use Rattle.package_table.specs.Growth.{Grows}
 use Rattle.package_table.specs.Lookup.{is_present}
 use Rattle.package_table.specs.Readers.{own_names}
-use Rattle.package_table.specs.Table.{Name, Package, Present, Table, IsPackage, IsPresent, IsSound, common_lisp, common_lisp_user, common_lisp_names, empty_package, entry_at, initial, keyword, keyword_names, name_cmp, with_new_package}
+use Rattle.package_table.specs.Table.{Name, Package, Present, Table, IsPackage, IsPresent, AreSoundPackages, common_lisp, common_lisp_user, common_lisp_names, empty_package, entry_at, initial, keyword, keyword_names, name_cmp, with_new_package}
 use Rattle.package_table.proofs.Names.{same_tied}
 use Rattle.package_table.proofs.First.{sound as first_sound}
 use Rattle.package_table.proofs.Frames.{equal_names, get_inserted, get_kept}
@@ -29,7 +29,7 @@ use Rattle.snapshot_text.proofs.PartFinds.{present_entry, present_more, present_
 use Rattle.snapshot_text.proofs.PartMakes.{intern_goes, make_goes, make_part}
 use Rattle.snapshot_text.proofs.PartSame.{first_part, where_first}
 use Rattle.world_forms.specs.Packages.{is_first, own_line, own_lines, package_line}
-use Rattle.world_forms.specs.Tokens.{call_text, line}
+use Rattle.world_forms.specs.Tokens.{call_text, line_of_form}
 use Rattle.export_laws.specs.Objects.{call}
 use Rattle.export_laws.specs.Texts.{ReadsAsExported}
 use Rattle.export_laws.proofs.OnTheWay.{Goes, IsOnTheWay, Made, at, every_line, nothing_more, one_line}
@@ -68,7 +68,7 @@ pub two_short : (n p : Name) → length n ≤ 4096 → length p ≤ 4096 → All
 two_short n p a b =
     All-cons (λ m. length m ≤ 4096) n (p ∷ []) a (All-cons (λ m. length m ≤ 4096) p [] b (All-nil (λ m. length m ≤ 4096)))
 
-module _ (s : Table) (sound : IsSound s) where
+module _ (s : Table) (sound : AreSoundPackages s) where
   pub package_name_short : (p : Name) → IsPackage s p → length p ≤ 4096
   package_name_short p there = let few : length p ≤ 256 = (sound.within.package_names p there).short in omega (arith, few)
 
@@ -78,11 +78,11 @@ module _ (s : Table) (sound : IsSound s) where
 abbrev pub IsNew : Table → Name → Type 0
 IsNew t p = is_first p ≡ false → finite.contains_key t p ≡ false
 
-pub keyword_there : (t : Table) → IsSound t → IsPackage t keyword
+pub keyword_there : (t : Table) → AreSoundPackages t → IsPackage t keyword
 unfolding keyword_names
 keyword_there t sound_t = present_package t keyword (codes "USER") keyword (sound_t.first.keywords (codes "USER") refl)
 
-firsts_there : (t : Table) → IsSound t → (p : Name) → is_first p ≡ true → IsPackage t p
+firsts_there : (t : Table) → AreSoundPackages t → (p : Name) → is_first p ≡ true → IsPackage t p
 unfolding is_first
 firsts_there t sound_t p is =
     elim (bytes_eq p common_lisp) as (λ b. bytes_eq p common_lisp ≡ b → (b || (bytes_eq p common_lisp_user || bytes_eq p keyword)) ≡ true → IsPackage t p) [
@@ -113,7 +113,7 @@ first_new p other =
       ]))
     ] refl
 
-module _ (functions : Functions) (first : WorldState) (whole : List ℕ) (base : WorldState) (as_exported : ReadsAsExported base) (s : Table) (sound : IsSound s) where
+module _ (functions : Functions) (first : WorldState) (whole : List ℕ) (base : WorldState) (as_exported : ReadsAsExported base) (s : Table) (sound : AreSoundPackages s) where
   abbrev Reached : (Table → Type 0) → Table → List ℕ → Type 0
   Reached = Goes functions first whole base as_exported s
 
@@ -134,7 +134,7 @@ module _ (functions : Functions) (first : WorldState) (whole : List ℕ) (base :
   unfolding package_line
   make_line p ps t more other there new way made = by_kind (is_first p) refl made
     where
-      by_kind : (b : Bool) → is_first p ≡ b → Before t ((if b then [] else line (call_text (codes "MAKE-PACKAGE") (p ∷ []))) ++ more) → Reached (IsMade p ps) t more
+      by_kind : (b : Bool) → is_first p ≡ b → Before t ((if b then [] else line_of_form (call_text (codes "MAKE-PACKAGE") (p ∷ []))) ++ more) → Reached (IsMade p ps) t more
       by_kind true e made =
           nothing_more functions first whole base as_exported s (IsMade p ps) t more way (firsts_there t way.sound p e, All-tail (IsNew t) p ps new) made
       by_kind false e made =
@@ -196,7 +196,7 @@ module _ (functions : Functions) (first : WorldState) (whole : List ℕ) (base :
   unfolding own_line
   own_step p there n t more home all way made = by_kind (is_present initial p n) refl made
     where
-      by_kind : (b : Bool) → is_present initial p n ≡ b → Before t ((if b then [] else line (call_text (codes "INTERN") (n ∷ p ∷ []))) ++ more) → Reached (λ u. IsPresent u p n p) t more
+      by_kind : (b : Bool) → is_present initial p n ≡ b → Before t ((if b then [] else line_of_form (call_text (codes "INTERN") (n ∷ p ∷ []))) ++ more) → Reached (λ u. IsPresent u p n p) t more
       by_kind true e made = nothing_more functions first whole base as_exported s (λ u. IsPresent u p n p) t more way (still_there t way p n home e) made
       by_kind false e made =
           let here = all p there in

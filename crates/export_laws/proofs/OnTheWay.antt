@@ -9,13 +9,13 @@ use Rattle.std.proofs.lemmas.List.Elements.{All-cons, All-head, All-nil, All-tai
 use Rattle.lisp_object.specs.Object.{Object}
 use Rattle.lisp_operators.specs.Evaluation.{Done}
 use Rattle.package_table.specs.Growth.{Grows}
-use Rattle.package_table.specs.Table.{Table, IsSound}
+use Rattle.package_table.specs.Table.{Table, AreSoundPackages}
 use Rattle.package_table.proofs.Growing.{grows_both, grows_same}
 use Rattle.plist_state.specs.Changes.{with_packages}
 use Rattle.plist_state.specs.State.{WorldState}
 use Rattle.user_macros.specs.Functions.{Functions}
 use Rattle.snapshot_text.specs.Part.{IsPartOf}
-use Rattle.world_forms.specs.Tokens.{line}
+use Rattle.world_forms.specs.Tokens.{line_of_form}
 use Rattle.export_laws.specs.Texts.{Makes, ReadsAsExported}
 use Rattle.export_laws.proofs.OneForm.{IsForm, one_more_made}
 use Rattle.prevalence_store.specs.meaning.Acceptance.{transacted}
@@ -23,7 +23,7 @@ use Rattle.prevalence_store.specs.meaning.Acceptance.{transacted}
 -- sound packages that are a part of s
 pub record IsOnTheWay (s t : Table) : Type 0 where
   pub part : IsPartOf t s
-  pub sound : IsSound t
+  pub sound : AreSoundPackages t
 
 module _ (functions : Functions) (first : WorldState) (whole : List ℕ) (base : WorldState) (as_exported : ReadsAsExported base) (s : Table) where
   abbrev pub at : Table → WorldState
@@ -49,7 +49,7 @@ module _ (functions : Functions) (first : WorldState) (whole : List ℕ) (base :
 
   -- ---- one line
 
-  pub one_line : (Has : Table → Type 0) (t u : Table) (text : List ℕ) (x : Object) (more : List ℕ) → Made t (line text ++ more) → IsForm t text x
+  pub one_line : (Has : Table → Type 0) (t u : Table) (text : List ℕ) (x : Object) (more : List ℕ) → Made t (line_of_form text ++ more) → IsForm t text x
       → ((done : Done Object) × (transacted functions.names (at t) x ≡ Ok done) × (done.state ≡ at u)) → IsOnTheWay s u → Grows t u → Has u → Goes Has t more
   one_line Has t u text x more made is accepted way grows has = record {
     there = u;

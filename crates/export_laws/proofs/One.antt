@@ -29,7 +29,7 @@ use Rattle.world_forms.specs.Tokens.{is_too_long}
 use Rattle.export_laws.specs.Objects.{call, symbol_form, property_object}
 use Rattle.export_laws.proofs.There.{lisp_there, nil_there, pair_there, there_alone}
 
-module _ (names : List Name) (s : WorldState) (sound : packages.IsSound s.packages) where
+module _ (names : List Name) (s : WorldState) (sound : packages.AreSoundPackages s.packages) where
   abbrev t : Table
   t = s.packages
 

@@ -43,7 +43,7 @@ prefix_short prefix = by_package (bytes_eq prefix keyword) (bytes_eq prefix comm
     by_package false true = omega arith
     by_package false false = omega arith
 
-module _ (names : List Name) (s : WorldState) (sound : packages.IsSound s.packages) where
+module _ (names : List Name) (s : WorldState) (sound : packages.AreSoundPackages s.packages) where
   abbrev t : Table
   t = s.packages
 

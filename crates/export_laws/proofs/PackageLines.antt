@@ -11,7 +11,7 @@ use Rattle.lisp_object.specs.Object.{text}
 use Rattle.package_table.specs.Changes.{finds_this, with_external, with_present}
 use Rattle.package_table.specs.Growth.{Grows}
 use Rattle.package_table.specs.Readers.{external_names, imports, package_names, used_names}
-use Rattle.package_table.specs.Table.{Name, Package, Present, Table, IsExternal, IsPackage, IsPresent, IsSound, Uses, common_lisp, common_lisp_package, common_lisp_user, initial, is_locked, keyword, name_cmp}
+use Rattle.package_table.specs.Table.{Name, Package, Present, Table, IsExternal, IsPackage, IsPresent, AreSoundPackages, Uses, common_lisp, common_lisp_package, common_lisp_user, initial, is_locked, keyword, name_cmp}
 use Rattle.package_table.proofs.Names.{same_some}
 use Rattle.package_table.proofs.Found.{present_found}
 use Rattle.package_table.proofs.First.{sound as first_sound}
@@ -29,7 +29,7 @@ use Rattle.snapshot_text.proofs.PartFinds.{external_entry, present_package}
 use Rattle.snapshot_text.proofs.PartSame.{first_part}
 use Rattle.snapshot_text.proofs.PartSteps.{after_used, export_goes, export_part, export_there, import_goes, import_part, import_there, not_locked, use_goes, use_part, use_there}
 use Rattle.world_forms.specs.Packages.{change_line, export_form_line, import_line, own_lines, package_line, package_lines, shown_lines, use_line, use_lines}
-use Rattle.world_forms.specs.Tokens.{call_text, line}
+use Rattle.world_forms.specs.Tokens.{call_text, line_of_form}
 use Rattle.export_laws.specs.Objects.{call}
 use Rattle.export_laws.specs.Texts.{ReadsAsExported}
 use Rattle.export_laws.proofs.OnTheWay.{Goes, IsOnTheWay, Made, at, every_line, nothing_more, one_line}
@@ -42,7 +42,7 @@ lisp_uses_none : (q : Name) → option_map (λ (k : Package). finite.contains_ke
 unfolding common_lisp_package
 lisp_uses_none q e = false≢true (sym (ap is_some (get-empty name_cmp q)) ∙ same_some _ true e)
 
-module _ (functions : Functions) (first : WorldState) (whole : List ℕ) (base : WorldState) (as_exported : ReadsAsExported base) (s : Table) (sound : IsSound s) where
+module _ (functions : Functions) (first : WorldState) (whole : List ℕ) (base : WorldState) (as_exported : ReadsAsExported base) (s : Table) (sound : AreSoundPackages s) where
   abbrev Reached : (Table → Type 0) → Table → List ℕ → Type 0
   Reached = Goes functions first whole base as_exported s
 
@@ -203,7 +203,7 @@ module _ (functions : Functions) (first : WorldState) (whole : List ℕ) (base :
       other = not_equal keyword q (λ same. sound.first.unused p (subst (λ r. Uses s p r) (sym same) uses))
 
       by_kind : (b : Bool) → (bytes_eq p common_lisp_user && bytes_eq q common_lisp) ≡ b
-          → Before t ((if b then [] else line (call_text (codes "USE-PACKAGE") (q ∷ p ∷ []))) ++ more) → Reached (λ u. Uses u p q) t more
+          → Before t ((if b then [] else line_of_form (call_text (codes "USE-PACKAGE") (q ∷ p ∷ []))) ++ more) → Reached (λ u. Uses u p q) t more
       by_kind true e made =
           let both = and_parts (bytes_eq p common_lisp_user) (bytes_eq q common_lisp) e in
           nothing_more functions first whole base as_exported s (λ u. Uses u p q) t more way

@@ -8,11 +8,11 @@ use Rattle.std.proofs.lemmas.Bool.{ltb-false}
 use Rattle.std.proofs.lemmas.List.{length-append}
 use Rattle.std.proofs.lemmas.List.Elements.{All-cons, All-head, All-nil, All-tail}
 use Rattle.lisp_object.specs.Object.{Object, list_of, symbol, text}
-use Rattle.package_table.specs.Table.{Name, Table as Packages, IsSound, IsPackage, common_lisp, common_lisp_names, common_lisp_user, keyword}
+use Rattle.package_table.specs.Table.{Name, Table as Packages, AreSoundPackages, IsPackage, common_lisp, common_lisp_names, common_lisp_user, keyword}
 use Rattle.package_table.specs.Lookup.{found}
 use Rattle.user_macros.specs.Functions.{no_functions}
 use Rattle.canon_printer.specs.Names as names
-use Rattle.canon_printer.specs.Names.{escaped, is_escaped_in_bars}
+use Rattle.canon_printer.specs.Names.{with_backslashes, is_escaped_in_bars}
 use Rattle.canon_printer.specs.Written.{is_escaped_in_text, printed_text}
 use Rattle.lisp_reading.specs.declared.found.Found.TheVariants.{One as one}
 use Rattle.prevalence_store.specs.meaning.Acceptance.{form_limits}
@@ -25,18 +25,18 @@ use Rattle.export_laws.proofs.Symbols.{call_is_read, found_is_read, lisp_is_read
 
 -- ---- how long they are
 
-escaped_short : (test : ℕ → Bool) (cs : List ℕ) → length (escaped test cs) ≤ 2 * length cs
+escaped_short : (test : ℕ → Bool) (cs : List ℕ) → length (with_backslashes test cs) ≤ 2 * length cs
 escaped_short test [] = omega arith
 escaped_short test (c ∷ cs) =
     let later = escaped_short test cs in
-    elim (test c) as (λ b. length ((if b then codes "\\" ++ c ∷ [] else c ∷ []) ++ escaped test cs) ≤ 2 * suc (length cs)) [
+    elim (test c) as (λ b. length ((if b then codes "\\" ++ c ∷ [] else c ∷ []) ++ with_backslashes test cs) ≤ 2 * suc (length cs)) [
       | true ↦ omega (arith, later)
       | false ↦ omega (arith, later)
     ]
 
 pub text_short : (bytes : List ℕ) → length (printed_text bytes) ≤ 2 + 2 * length bytes
 text_short bytes =
-    let body = escaped is_escaped_in_text bytes in
+    let body = with_backslashes is_escaped_in_text bytes in
     omega (arith, escaped_short is_escaped_in_text bytes, length-append (codes "\"" ++ body) (codes "\""), length-append (codes "\"") body)
 
 -- a name of a package or of a symbol
@@ -50,7 +50,7 @@ arguments_short (n ∷ ns) short =
 
 pub name_short : (n : Name) → length (name_text n) ≤ 2 + 2 * length n
 name_short n =
-    let body = escaped is_escaped_in_bars n in
+    let body = with_backslashes is_escaped_in_bars n in
     elim (is_portable_name n) as (λ b. length (if b then n else codes "|" ++ body ++ codes "|") ≤ 2 + 2 * length n) [
       | true ↦ omega arith
       | false ↦ omega (arith, escaped_short is_escaped_in_bars n, length-append body (codes "|"))
@@ -83,7 +83,7 @@ pub record IsOperator (operator : Name) : Type 0 where
   pub plain : names.is_plain operator ≡ true
   pub short : length operator ≤ 40
 
-module _ (t : Packages) (sound : IsSound t) where
+module _ (t : Packages) (sound : AreSoundPackages t) where
   pub room : 0 < form_limits.token
   room = omega arith
 

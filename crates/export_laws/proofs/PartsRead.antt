@@ -11,7 +11,7 @@ use Rattle.readtable_core.specs.Tables.{standard}
 use Rattle.token_scan.specs.declared.mark.Mark.{Mark}
 use Rattle.token_scan.specs.Marks.{character_count}
 use Rattle.token_scan.specs.Spelling.{may_end}
-use Rattle.package_table.specs.Table.{Table as Packages, IsSound, common_lisp_user}
+use Rattle.package_table.specs.Table.{Table as Packages, AreSoundPackages, common_lisp_user}
 use Rattle.std_macros.specs.declared.kind.Standard.TheVariants.{Quote}
 use Rattle.std_macros.specs.Values.{one as one_object}
 use Rattle.user_macros.specs.Functions.{Functions}
@@ -33,7 +33,7 @@ use Rattle.world_text.proofs.Spelling.{met_text}
 use Rattle.world_text.proofs.Whole.{ends_close, ends_space, list_opened, object_open, object_read, token_open, token_read}
 use Rattle.export_laws.specs.Objects.{call}
 
-module _ (limits : Limits) (packages : Packages) (functions : Functions) (sound : IsSound packages) (room : 0 < limits.token) where
+module _ (limits : Limits) (packages : Packages) (functions : Functions) (sound : AreSoundPackages packages) (room : 0 < limits.token) where
   abbrev s : Setting
   s = under limits packages common_lisp_user functions
 

@@ -5,7 +5,7 @@ use Rattle.std.specs.Prelude.{bytes_eq, IsTrue}
 use Rattle.std.specs.List.{list_any}
 use Rattle.lisp_object.specs.Object.{Object, object_depth, symbol}
 use Rattle.readtable_core.specs.Tables.{standard}
-use Rattle.package_table.specs.Table.{Name, Table as Packages, IsSound, common_lisp, common_lisp_names, common_lisp_user}
+use Rattle.package_table.specs.Table.{Name, Table as Packages, AreSoundPackages, common_lisp, common_lisp_names, common_lisp_user}
 use Rattle.user_macros.specs.Functions.{no_functions}
 use Rattle.canon_printer.specs.Names as names
 use Rattle.canon_printer.specs.Printed.{printed}
@@ -23,12 +23,12 @@ use Rattle.world_text.proofs.Begun.{begun}
 use Rattle.world_text.proofs.OneLine.{IsGood, good_symbols}
 use Rattle.world_text.proofs.WithinLimits.{tokens_short}
 use Rattle.world_forms.specs.Properties.{ends_at, form_setting, is_form, property_form}
-use Rattle.world_forms.specs.Tokens.{line, quoted_text}
+use Rattle.world_forms.specs.Tokens.{line_of_form, quoted_text}
 use Rattle.export_laws.specs.Objects.{call, property_object, symbol_form}
 use Rattle.export_laws.proofs.PartsRead.{AreRead, IsRead, deeper, list_read, listed_is_read, no_more, object_is_read, one_more, quoted_is_read}
 use Rattle.export_laws.proofs.Symbols.{lisp_is_read, quoted_symbol_is_read}
 
-module _ (t : Packages) (sound : IsSound t) (x : Symbol) (p : Symbol × Object) (there : IsSymbol t x) (indicator : IsSymbol t p.0) (value : IsValue t p.1) where
+module _ (t : Packages) (sound : AreSoundPackages t) (x : Symbol) (p : Symbol × Object) (there : IsSymbol t x) (indicator : IsSymbol t p.0) (value : IsValue t p.1) where
   abbrev text : List ℕ
   text = property_form t x p
 
@@ -124,15 +124,15 @@ module _ (t : Packages) (sound : IsSound t) (x : Symbol) (p : Symbol × Object) 
   Ended r = true ≡ ends_at (outcome standard 0 (λ next cs. reads_at (form_setting t) next cs) r) (length text)
 
   -- what is not refused under these limits is the same under the ample ones
-  line_read : is_form t text ≡ true → small_read (line text) ≡ Ok (one false object, length text, 10 ∷ [])
+  line_read : is_form t text ≡ true → small_read (line_of_form text) ≡ Ok (one false object, length text, 10 ∷ [])
   unfolding is_form reads
-  line_read is = by_result (small_read (line text)) refl (sym is ∙ ap (λ r. ends_at r (length text)) (reads_is (form_setting t) 0 (line text)))
+  line_read is = by_result (small_read (line_of_form text)) refl (sym is ∙ ap (λ r. ends_at r (length text)) (reads_is (form_setting t) 0 (line_of_form text)))
     where
-      by_result : (r : Read Found) → small_read (line text) ≡ r → Ended (small_read (line text)) → small_read (line text) ≡ Ok (one false object, length text, 10 ∷ [])
-      by_result (Ok v) e ended = e ∙ sym (attempt_allowed (form_setting t) ample (line text) v (omega arith) (omega arith) (omega arith) e) ∙ form_read (10 ∷ [])
+      by_result : (r : Read Found) → small_read (line_of_form text) ≡ r → Ended (small_read (line_of_form text)) → small_read (line_of_form text) ≡ Ok (one false object, length text, 10 ∷ [])
+      by_result (Ok v) e ended = e ∙ sym (attempt_allowed (form_setting t) ample (line_of_form text) v (omega arith) (omega arith) (omega arith) e) ∙ form_read (10 ∷ [])
       by_result (Err f) e ended = absurd (let no : true ≡ false = subst Ended e ended in cc)
 
   pub property_is_form : is_form t text ≡ true → (rest : List ℕ) → small_read (text ++ 10 ∷ rest) ≡ Ok (one false object, length text, 10 ∷ rest)
   property_is_form is rest =
       ap small_read (sym (append_assoc text (10 ∷ []) rest))
-      ∙ subst (λ r. Follows rest (small_read (line text ++ rest)) r) (line_read is) (follows standard small (attempt (form_setting t) 100) 0 (line text) rest)
+      ∙ subst (λ r. Follows rest (small_read (line_of_form text ++ rest)) r) (line_read is) (follows standard small (attempt (form_setting t) 100) 0 (line_of_form text) rest)

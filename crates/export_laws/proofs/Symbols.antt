@@ -16,7 +16,7 @@ use Rattle.token_scan.specs.declared.mark.Mark.{Mark}
 use Rattle.token_scan.specs.declared.mark.Mark.TheVariants.{Plain, Bar}
 use Rattle.token_scan.specs.Marks.{character_count}
 use Rattle.token_scan.proofs.Spelled.{plain_counts}
-use Rattle.package_table.specs.Table.{Name, Table as Packages, Package, Present, IsSound, IsPackage, IsPackageName, IsPresent, IsExternal, common_lisp, common_lisp_names, common_lisp_package, common_lisp_user, full_name, keyword}
+use Rattle.package_table.specs.Table.{Name, Table as Packages, Package, Present, AreSoundPackages, IsPackage, IsPackageName, IsPresent, IsExternal, common_lisp, common_lisp_names, common_lisp_package, common_lisp_user, full_name, keyword}
 use Rattle.package_table.specs.Lookup.{found}
 use Rattle.package_table.proofs.First.{among_has, at_home, symbol_first}
 use Rattle.package_table.proofs.FirstNames.{lisp_present}
@@ -26,7 +26,7 @@ use Rattle.canon_printer.proofs.Resolved.{home_there}
 use Rattle.plist_state.specs.Properties.{Symbol}
 use Rattle.user_macros.specs.Functions.{Functions}
 use Rattle.canon_printer.specs.Names as names
-use Rattle.canon_printer.specs.Names.{escaped, is_escaped_in_bars, printed_name}
+use Rattle.canon_printer.specs.Names.{with_backslashes, is_escaped_in_bars, printed_name}
 use Rattle.canon_printer.specs.Written.{printed_text}
 use Rattle.lisp_reading.specs.declared.limits.Limits.{Limits}
 use Rattle.world_text.proofs.Atoms.{ReadsAs, IsNameText, as_keyword, barred_text, home_ascii, internal, own_ascii, printed_text as printed_name_text, unqualified}
@@ -66,8 +66,8 @@ text_marks name = if is_portable_name name then plain_marks name else Bar ∷ (q
 name_is_text : (name : Name) → IsAscii name → IsNameText name (name_text name) (text_marks name)
 name_is_text name ascii =
     elim (is_portable_name name)
-    as (λ b. is_portable_name name ≡ b → IsNameText name (if b then name else codes "|" ++ escaped is_escaped_in_bars name ++ codes "|") (if b then plain_marks name else Bar ∷ (quoted_marks name ++ Bar ∷ []))) [
-      | true ↦ λ e. subst (λ b. IsNameText name (if b then name else codes "|" ++ escaped is_escaped_in_bars name ++ codes "|") (if b then plain_marks name else Bar ∷ (quoted_marks name ++ Bar ∷ [])))
+    as (λ b. is_portable_name name ≡ b → IsNameText name (if b then name else codes "|" ++ with_backslashes is_escaped_in_bars name ++ codes "|") (if b then plain_marks name else Bar ∷ (quoted_marks name ++ Bar ∷ []))) [
+      | true ↦ λ e. subst (λ b. IsNameText name (if b then name else codes "|" ++ with_backslashes is_escaped_in_bars name ++ codes "|") (if b then plain_marks name else Bar ∷ (quoted_marks name ++ Bar ∷ [])))
           (plain_printed name ascii e) (printed_name_text name ascii)
       | false ↦ λ _. barred_text name ascii
     ] refl
@@ -79,7 +79,7 @@ text_count name =
       | false ↦ barred_count name
     ]
 
-module _ (limits : Limits) (packages : Packages) (functions : Functions) (sound : IsSound packages) (room : 0 < limits.token) where
+module _ (limits : Limits) (packages : Packages) (functions : Functions) (sound : AreSoundPackages packages) (room : 0 < limits.token) where
   abbrev Read : ℕ → List ℕ → Object → Type 0
   Read = IsRead limits packages functions sound room
 
@@ -169,7 +169,7 @@ module _ (limits : Limits) (packages : Packages) (functions : Functions) (sound 
   lisp_is_read n listed plain short =
       let present = lisp_present packages sound n listed in
       let own = printed_name_text n (own_ascii packages common_lisp_user sound common_lisp n present) in
-      subst (λ t. Read 0 t (symbol common_lisp n)) (ap (λ b. if b then n else codes "|" ++ escaped is_escaped_in_bars n ++ codes "|") plain)
+      subst (λ t. Read 0 t (symbol common_lisp n)) (ap (λ b. if b then n else codes "|" ++ with_backslashes is_escaped_in_bars n ++ codes "|") plain)
       (token_is_read limits packages functions sound room (printed_name n) (name_marks n) (symbol common_lisp n)
       (unqualified packages common_lisp_user n (printed_name n) (name_marks n) own common_lisp (lisp_resolved n listed))
       (omega (arith, short, name_count n)))

@@ -44,7 +44,7 @@ module _ (t : Table) where
   value_there (text characters) known = refl
   value_there (uninterned name) known = refl
 
-  module _ (sound : packages.IsSound t) where
+  module _ (sound : packages.AreSoundPackages t) where
     pub lisp_there : (n : Name) → IsTrue (list_any (bytes_eq n) common_lisp_names) → are_there t (symbol common_lisp n) ≡ true
     lisp_there n listed = there_alone common_lisp n (lisp_present t sound n listed)
 

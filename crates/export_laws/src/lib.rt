@@ -26,7 +26,7 @@ ghost use Rattle.package_table.specs.Table as packages;
 ghost use Rattle.package_table.specs.Table.{Name};
 ghost use Rattle.plist_state.specs.Changes.{with_property};
 ghost use Rattle.plist_state.specs.Properties.{Symbol};
-ghost use Rattle.plist_state.specs.Sound.{IsSound, IsSymbol};
+ghost use Rattle.plist_state.specs.Sound.{IsSoundWorldState, IsSymbol};
 ghost use Rattle.plist_state.specs.State.{WorldState, initial};
 ghost use Rattle.form_eval.specs.Acceptance.{accept};
 ghost use Rattle.snapshot_text.specs.Built.{with_packages_of, with_properties_of};
@@ -47,11 +47,11 @@ use plist_state::World;
 /// - `all`: all of them.
 pub fn properties_are_made()
     ensures one { (names : List Name) (s : WorldState) (x : Symbol) (p : Symbol × Object)
-        → packages.IsSound s.packages → IsSymbol s.packages x → IsSymbol s.packages p.0
+        → packages.AreSoundPackages s.packages → IsSymbol s.packages x → IsSymbol s.packages p.0
         → are_there s.packages p.1 ≡ true
         → accept names s (property_object x p) ≡ writes p.1 (with_property s x p.0 p.1) }
     ensures all { (names : List Name) (s now : WorldState)
-        → IsSound s → now.packages ≡ s.packages → now.properties ≡ finite.empty
+        → IsSoundWorldState s → now.packages ≡ s.packages → now.properties ≡ finite.empty
         → after_each names now (property_objects s)
         ≡ Some (record now { properties = s.properties }) }
 {}
@@ -72,7 +72,7 @@ pub fn properties_of_a_world(world: &World)
 /// the property lists of the sound one.
 pub fn property_lines_are_read()
     ensures { (functions : Functions) (s now : WorldState) (rest : List ℕ)
-        → IsSound s → left_out_lines s ≡ [] → now.packages ≡ s.packages
+        → IsSoundWorldState s → left_out_lines s ≡ [] → now.packages ≡ s.packages
         → now.properties ≡ finite.empty → ReadsAsExported now
         → Makes functions now (10 ∷ property_lines s ++ rest)
         (record now { properties = s.properties }) (10 ∷ rest) }
@@ -82,6 +82,6 @@ pub fn property_lines_are_read()
 /// accepted, whatever macro functions there are. They leave the first state with the packages and the property lists of this one, and
 /// with its package current. Only the last newline is left of the text.
 pub fn data_makes_a_world()
-    ensures { (functions : Functions) (s : WorldState) → IsSound s → left_out_lines s ≡ []
+    ensures { (functions : Functions) (s : WorldState) → IsSoundWorldState s → left_out_lines s ≡ []
         → Makes functions initial (forms s Data) (with_data_of s) (10 ∷ []) }
 {}

@@ -3,10 +3,10 @@ use Rattle.std.proofs.Common.{◌≡◌, ◌⊎◌, inl, inr, ℕ, List, [], ◌
 use Rattle.std.specs.List.{AllByRecursion}
 use Rattle.disk_trait.specs.Disk.{Image, State, IsHonest}
 use Rattle.gate_log.specs.Layout.{LogRecord}
-use Rattle.feeding_laws.specs.Feeding.{AreHanded, ArePlaced, FeedsAgain, FrameHanding, IsFirst, account_after_frames, request_of, rounds_of_frames}
+use Rattle.feeding_laws.specs.Feeding.{FramesAreHanded, ArePlaced, FeedsAgain, FrameHanding, IsFirst, account_after_frames, request_of, rounds_of_frames}
 use Rattle.feeding_laws.proofs.Stands.{Stands, alike, fed_later, first_stands, stands_after}
 use Rattle.message_frames.specs.Frames.{IsFrame, Sent}
-use Rattle.message_session.specs.Account.{Account, AreLogged, AreNext, AreStored, AreUnderWay, round_after, with_frames}
+use Rattle.message_session.specs.Account.{MessageAccount, FramesAreLogged, AreNext, AnswersAreStored, FramesAreUnderWay, round_after, with_frames}
 use Rattle.message_session.specs.Answers.{each_frame}
 use Rattle.message_session.specs.Sessions.{text_limit}
 use Rattle.message_session.proofs.Rounds.{same_rounds}
@@ -17,7 +17,7 @@ use Rattle.prevalence_store.specs.calls.Store.{StoreView}
 use Rattle.messages.specs.declared.request.Request.{Request}
 use Rattle.prevalence_store.specs.meaning.Acceptance.{after}
 use Rattle.prevalence_store.specs.meaning.Files.{MeansWorld}
-use Rattle.messages.specs.Answers.{Round, answered, first_round, closed}
+use Rattle.messages.specs.Answers.{Round, round_after_requests, first_round, with_its_position}
 use Rattle.messages.specs.Calls.{entries_by, left_after}
 use Rattle.prevalence_store.proofs.Surviving.{one_world}
 use Rattle.store_laws.specs.Rounds.{Place, after_rounds, begun_from, with_round}
@@ -28,23 +28,23 @@ all_last : (P : Sent → Type 0) (xs ys : List Sent) → AllByRecursion P (xs ++
 all_last P [] ys all = all
 all_last P (x ∷ xs) ys all = all_last P xs ys all.1
 
-each_next : {D : Type 0} (account : Account D) (frames : List Sent) → AreNext account frames → AllByRecursion (IsFrame text_limit) frames
+each_next : {D : Type 0} (account : MessageAccount D) (frames : List Sent) → AreNext account frames → AllByRecursion (IsFrame text_limit) frames
 each_next account frames next = all_last (IsFrame text_limit) account.answered frames next.parts.each
 
 -- the world after frames that come next, and their records
-abbrev left_at : Functions → {D : Type 0} → Account D → List Sent → WorldState
+abbrev left_at : Functions → {D : Type 0} → MessageAccount D → List Sent → WorldState
 left_at functions account frames = left_after (round_after functions account frames).wrote account.now (round_after functions account frames).left
 
-abbrev records_at : Functions → {D : Type 0} → Account D → List Sent → List LogRecord
+abbrev records_at : Functions → {D : Type 0} → MessageAccount D → List Sent → List LogRecord
 records_at functions account frames = entries_by (round_after functions account frames).wrote (round_after functions account frames).entries
 
 module _ (functions : Functions) {D : Type 0} where
-  round_at : (place : Place) (account : Account D) → ArePlaced place account → (frames : List Sent) → answered functions (begun_from place) (map request_of frames) ≡ round_after functions account frames
+  round_at : (place : Place) (account : MessageAccount D) → ArePlaced place account → (frames : List Sent) → round_after_requests functions (begun_from place) (map request_of frames) ≡ round_after functions account frames
   round_at place account placed frames =
-      ap closed (same_rounds functions (map request_of frames) frames (begun_from place) (alike frames)) ∙ (λ i. closed (each_frame functions (first_round (placed.last i) (placed.world i)) frames))
+      ap with_its_position (same_rounds functions (map request_of frames) frames (begun_from place) (alike frames)) ∙ (λ i. with_its_position (each_frame functions (first_round (placed.last i) (placed.world i)) frames))
 
 -- How it stands with an account: the frames that were answered, and what a crash leaves.
-pub record IsAt (functions : Functions) {D : Type 0} (state : D → State) (first_last : ℕ) (first : WorldState) (account : Account D) : Type 0 where
+pub record IsAt (functions : Functions) {D : Type 0} (state : D → State) (first_last : ℕ) (first : WorldState) (account : MessageAccount D) : Type 0 where
   pub stands : Stands functions first_last first account.answered account.last account.now
   pub honest : IsHonest (state account.disk)
   pub keeps : Keeps functions (state account.disk) account.now
@@ -52,7 +52,7 @@ pub record IsAt (functions : Functions) {D : Type 0} (state : D → State) (firs
 module _ (functions : Functions) {D : Type 0} (state : D → State) where
   module _ (first_last : ℕ) (first : WorldState) where
     -- what an image means while these frames are under way
-    module _ (account : Account D) (at : IsAt functions state first_last first account) (frames : List Sent) (next : AreNext account frames) (made : after functions account.now (records_at functions account frames) ≡ Some (left_at functions account frames))
+    module _ (account : MessageAccount D) (at : IsAt functions state first_last first account) (frames : List Sent) (next : AreNext account frames) (made : after functions account.now (records_at functions account frames) ≡ Some (left_at functions account frames))
         (more : List Sent) (image : Image) (now : WorldState) (means : MeansWorld functions image now) where
       three : (account.answered ++ frames) ++ more ≡ account.answered ++ (frames ++ more)
       three = append_assoc account.answered frames more
@@ -75,7 +75,7 @@ module _ (functions : Functions) {D : Type 0} (state : D → State) where
           let both : Some (left_at functions account frames) ≡ Some all.0 = sym made ∙ all.1 in
           afterwards (one_world functions image now all.0 means all.2 ∙ (let same : left_at functions account frames ≡ all.0 = cc in sym same))
 
-  at_first : (account : Account D) → IsFirst account → IsHonest (state account.disk) → Keeps functions (state account.disk) account.now → IsAt functions state account.last account.now account
+  at_first : (account : MessageAccount D) → IsFirst account → IsHonest (state account.disk) → Keeps functions (state account.disk) account.now → IsAt functions state account.last account.now account
   at_first account first honest keeps = record {
     stands = subst (λ fs. Stands functions account.last account.now fs account.last account.now) (sym first.none) (first_stands functions account first);
     honest = honest;
@@ -85,12 +85,12 @@ module _ (functions : Functions) {D : Type 0} (state : D → State) where
 module _ (functions : Functions) {D R : Type 0} (state : D → State) where
   -- ---- one more
 
-  pub handed_further : (handings : List (FrameHanding D R)) (account : Account D) (last : FrameHanding D R) → AreHanded functions state account handings
-      → AreStored functions state (account_after_frames functions account handings) last.store last.frames last.bytes → AreHanded functions state account (handings ++ last ∷ [])
+  pub handed_further : (handings : List (FrameHanding D R)) (account : MessageAccount D) (last : FrameHanding D R) → FramesAreHanded functions state account handings
+      → AnswersAreStored functions state (account_after_frames functions account handings) last.store last.frames last.bytes → FramesAreHanded functions state account (handings ++ last ∷ [])
   handed_further [] account last handed stored = (stored, tt)
   handed_further (one ∷ more) account last handed stored = (handed.0, handed_further more (with_frames functions one.frames one.store account) last handed.1 stored)
 
-  pub account_further : (handings : List (FrameHanding D R)) (account : Account D) (last : FrameHanding D R)
+  pub account_further : (handings : List (FrameHanding D R)) (account : MessageAccount D) (last : FrameHanding D R)
       → account_after_frames functions account (handings ++ last ∷ []) ≡ with_frames functions last.frames last.store (account_after_frames functions account handings)
   account_further [] account last = refl
   account_further (one ∷ more) account last = account_further more (with_frames functions one.frames one.store account) last
@@ -98,12 +98,12 @@ module _ (functions : Functions) {D R : Type 0} (state : D → State) where
   -- ---- as rounds
 
   -- the world of an account after frames that were stored
-  now_after : (account : Account D) (one : FrameHanding D R) → AreStored functions state account one.store one.frames one.bytes
+  now_after : (account : MessageAccount D) (one : FrameHanding D R) → AnswersAreStored functions state account one.store one.frames one.bytes
       → (with_frames functions one.frames one.store account).now ≡ left_at functions account one.frames
   now_after account one stored = ap (λ o. unwrap_or o account.now) stored.known
 
-  one_placed : (place : Place) (account : Account D) → ArePlaced place account → (one : FrameHanding D R) → AreStored functions state account one.store one.frames one.bytes
-      → ArePlaced (with_round place (answered functions (begun_from place) (map request_of one.frames))) (with_frames functions one.frames one.store account)
+  one_placed : (place : Place) (account : MessageAccount D) → ArePlaced place account → (one : FrameHanding D R) → AnswersAreStored functions state account one.store one.frames one.bytes
+      → ArePlaced (with_round place (round_after_requests functions (begun_from place) (map request_of one.frames))) (with_frames functions one.frames one.store account)
   one_placed place account placed one stored =
       let same = round_at functions place account placed one.frames in
       record {
@@ -111,17 +111,17 @@ module _ (functions : Functions) {D R : Type 0} (state : D → State) where
         last = ap (λ (r : Round). r.last) same;
       }
 
-  pub placed_after : (handings : List (FrameHanding D R)) (place : Place) (account : Account D) → ArePlaced place account → AreHanded functions state account handings
+  pub placed_after : (handings : List (FrameHanding D R)) (place : Place) (account : MessageAccount D) → ArePlaced place account → FramesAreHanded functions state account handings
       → ArePlaced (after_rounds functions place (rounds_of_frames handings)) (account_after_frames functions account handings)
   placed_after [] place account placed handed = placed
   placed_after (one ∷ more) place account placed handed =
-      placed_after more (with_round place (answered functions (begun_from place) (map request_of one.frames))) (with_frames functions one.frames one.store account)
+      placed_after more (with_round place (round_after_requests functions (begun_from place) (map request_of one.frames))) (with_frames functions one.frames one.store account)
       (one_placed place account placed one handed.0) handed.1
 
   -- ---- fed again
 
   module _ (first_last : ℕ) (first : WorldState) where
-    at_next : (account : Account D) → IsAt functions state first_last first account → (one : FrameHanding D R) → AreStored functions state account one.store one.frames one.bytes
+    at_next : (account : MessageAccount D) → IsAt functions state first_last first account → (one : FrameHanding D R) → AnswersAreStored functions state account one.store one.frames one.bytes
         → IsAt functions state first_last first (with_frames functions one.frames one.store account)
     at_next account at one stored =
         let survives = stored.stored.survives at.honest in
@@ -133,16 +133,16 @@ module _ (functions : Functions) {D R : Type 0} (state : D → State) where
           keeps = subst (Keeps functions (state one.store.disk)) (sym now) (survives.kept (left_at functions account one.frames) stored.known);
         }
 
-    at_after : (handings : List (FrameHanding D R)) (account : Account D) → IsAt functions state first_last first account → AreHanded functions state account handings → IsAt functions state first_last first (account_after_frames functions account handings)
+    at_after : (handings : List (FrameHanding D R)) (account : MessageAccount D) → IsAt functions state first_last first account → FramesAreHanded functions state account handings → IsAt functions state first_last first (account_after_frames functions account handings)
     at_after [] account at handed = at
     at_after (one ∷ more) account at handed = at_after more (with_frames functions one.frames one.store account) (at_next account at one handed.0) handed.1
 
-  module _ (account : Account D) (handings : List (FrameHanding D R)) (more : List Sent) (image : Image) (now : WorldState) (first : IsFirst account)
-      (honest : IsHonest (state account.disk)) (keeps : Keeps functions (state account.disk) account.now) (handed : AreHanded functions state account handings) where
+  module _ (account : MessageAccount D) (handings : List (FrameHanding D R)) (more : List Sent) (image : Image) (now : WorldState) (first : IsFirst account)
+      (honest : IsHonest (state account.disk)) (keeps : Keeps functions (state account.disk) account.now) (handed : FramesAreHanded functions state account handings) where
     here : IsAt functions state account.last account.now (account_after_frames functions account handings)
     here = at_after account.last account.now handings account (at_first functions state account first honest keeps) handed
 
-    pub while_stored : (one : FrameHanding D R) (stored : AreStored functions state (account_after_frames functions account handings) one.store one.frames one.bytes)
+    pub while_stored : (one : FrameHanding D R) (stored : AnswersAreStored functions state (account_after_frames functions account handings) one.store one.frames one.bytes)
         → (state one.store.disk).left_since (state (account_after_frames functions account handings).disk).moment image → MeansWorld functions image now
         → FeedsAgain functions account.last account.now ((account_after_frames functions account handings).answered ++ (one.frames ++ more)) now
     while_stored one stored left means =
@@ -151,7 +151,7 @@ module _ (functions : Functions) {D R : Type 0} (state : D → State) where
         ((stored.stored.survives here.honest).after_all (left_at functions far one.frames) stored.known) more image now means
         ((stored.stored.all_or_none here.honest).each image left)
 
-    pub while_ended : (store : StoreView D R) (since : AreUnderWay functions state (account_after_frames functions account handings) store)
+    pub while_ended : (store : StoreView D R) (since : FramesAreUnderWay functions state (account_after_frames functions account handings) store)
         → (state store.disk).left_since (state (account_after_frames functions account handings).disk).moment image → MeansWorld functions image now
         → FeedsAgain functions account.last account.now ((account_after_frames functions account handings).answered ++ (since.frames ++ more)) now
     while_ended store since left means =

@@ -11,11 +11,11 @@ use Rattle.feeding_laws.specs.Feeding.{is_over, over}
 use Rattle.message_frames.specs.Frames.{IsFrame, Sent}
 use Rattle.message_frames.specs.declared.frame.Kind.{Kind}
 use Rattle.message_frames.specs.declared.frame.Kind.TheVariants.{Do, Ask}
-use Rattle.message_laws.specs.Near.{Near}
+use Rattle.message_laws.specs.NearRounds.{Near}
 use Rattle.message_laws.proofs.Tidy.{out_twice}
 use Rattle.message_laws.proofs.Together.{More, cleared_last, cleared_left, cleared_tidy, near_itself, one_near}
 use Rattle.message_session.specs.Answers.{answers_to, each_frame, message_number, one_frame}
-use Rattle.messages.specs.Answers.{Round, by_number, cleared, with_asked, with_message, with_old}
+use Rattle.messages.specs.Answers.{Round, by_number, without_its_position, with_asked, with_message, with_old}
 use Rattle.messages.specs.Position.{position_symbol, without_position}
 use Rattle.user_macros.specs.Functions.{Functions}
 

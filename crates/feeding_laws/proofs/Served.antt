@@ -8,7 +8,7 @@ use Rattle.disk_trait.specs.Disk.{State}
 use Rattle.feeding_laws.specs.Feeding.{AreAnsweredAgain, FeedsAgain, is_over, over, told_position}
 use Rattle.message_frames.specs.Frames.{AreFrames, IsBegunFrame, IsFrame, Sent, answer_bytes, frame_bytes, position_bytes}
 use Rattle.message_frames.specs.Lists.{SplitsOneWay}
-use Rattle.message_laws.specs.Near.{Near}
+use Rattle.message_laws.specs.NearRounds.{Near}
 use Rattle.message_session.specs.Answers.{answers_of, each_frame, session_bytes}
 use Rattle.message_session.specs.Sessions.{EndsBy, MessagesBegin, ServesMessages, text_limit}
 use Rattle.message_session.specs.declared.ended.Ended.TheVariants.{End}

@@ -12,15 +12,15 @@ use Rattle.feeding_laws.specs.Feeding.{FeedsAgain, IsFirst, over, request_of, to
 use Rattle.feeding_laws.proofs.Over.{AreUpTo, Fed, are_up, bound_round, each_fed, each_least, none_over, none_told, over_append, up_both, up_to_round}
 use Rattle.message_frames.specs.Frames.{IsFrame, Sent}
 use Rattle.message_laws.specs.Batches.{BatchProgress}
-use Rattle.message_laws.specs.Near.{IsTidy, Near}
+use Rattle.message_laws.specs.NearRounds.{IsTidy, Near}
 use Rattle.message_laws.proofs.Tidy.{sound_tidy}
 use Rattle.message_laws.proofs.Together.{StandsAt, near_itself, one_stands, stands_first}
-use Rattle.message_session.specs.Account.{Account}
+use Rattle.message_session.specs.Account.{MessageAccount}
 use Rattle.message_session.specs.Answers.{AskAlike, answers_of, answers_to, each_frame, parts_of_frame}
 use Rattle.message_session.specs.Sessions.{text_limit}
 use Rattle.message_session.proofs.Rounds.{answers_append, both_rounds, same_rounds}
 use Rattle.plist_state.specs.State.{WorldState}
-use Rattle.messages.specs.Answers.{Round, first_round, closed, each_request}
+use Rattle.messages.specs.Answers.{Round, first_round, with_its_position, each_request}
 use Rattle.messages.specs.Calls.{left_after}
 use Rattle.messages.specs.Position.{number_of_object, position_property}
 use Rattle.store_laws.proofs.MessagesDone.{closed_at}
@@ -68,10 +68,10 @@ wrote_of : (b : Bool) (x y : Round) → x.wrote ≡ y.wrote → (if b then x els
 wrote_of true x y same = same
 wrote_of false x y same = refl
 
-closed_last : (round : Round) → (closed round).last ≡ round.last
+closed_last : (round : Round) → (with_its_position round).last ≡ round.last
 closed_last round = last_of round.wrote _ round refl
 
-closed_wrote : (round : Round) → (closed round).wrote ≡ round.wrote
+closed_wrote : (round : Round) → (with_its_position round).wrote ≡ round.wrote
 closed_wrote round = wrote_of round.wrote _ round refl
 
 module _ (functions : Functions) (first_last : ℕ) (first : WorldState) where
@@ -139,7 +139,7 @@ module _ (functions : Functions) (first_last : ℕ) (first : WorldState) where
     -- ---- they were answered together
 
     abbrev closing : Round
-    closing = closed (each_frame functions (first_round last now) more)
+    closing = with_its_position (each_frame functions (first_round last now) more)
 
     abbrev left : WorldState
     left = left_after closing.wrote now closing.left
@@ -151,8 +151,8 @@ module _ (functions : Functions) (first_last : ℕ) (first : WorldState) where
     same_begun = λ i. record { told = []; last = raised i; left = now; entries = []; wrote = false }
 
     record Closes (x y : Round) : Type 0 where
-      near : Near x (first_round (closed y).last (left_after (closed y).wrote now (closed y).left))
-      raised : (first_round (closed y).last (left_after (closed y).wrote now (closed y).left)).last ≡ (closed y).last
+      near : Near x (first_round (with_its_position y).last (left_after (with_its_position y).wrote now (with_its_position y).left))
+      raised : (first_round (with_its_position y).last (left_after (with_its_position y).wrote now (with_its_position y).left)).last ≡ (with_its_position y).last
 
     by_requests : Closes (each_request functions (all_of frames) (map request_of more)) (each_request functions (first_round (first_round last now).last now) (map request_of more))
     by_requests =
@@ -173,7 +173,7 @@ module _ (functions : Functions) (first_last : ℕ) (first : WorldState) where
         by_requests)
 
     module _ (each : AllByRecursion (IsFrame text_limit) more) where
-      small_after : (closed (each_frame functions (first_round last now) more)).last < 2 ^ 64
+      small_after : (with_its_position (each_frame functions (first_round last now) more)).last < 2 ^ 64
       small_after =
           omega (arith, closed_last (each_frame functions (first_round last now) more), bound_round functions text_limit more (first_round last now) each stands.small)
 
@@ -187,10 +187,10 @@ module _ (functions : Functions) (first_last : ℕ) (first : WorldState) where
       fed_written : (each_frame functions (first_round last now) more).wrote ≡ true → AreFed (frames ++ more) left
       fed_written wrote =
           let round = each_frame functions (first_round last now) more in
-          let here : (closed round).wrote ≡ true = closed_wrote round ∙ wrote in
-          let there : position_property left ≡ Some (integer (pos (closed round).last)) =
-          ap (λ b. position_property (left_after b now (closed round).left)) here ∙ closed_at round round.wrote refl here in
-          let told : told_position left ≡ (closed round).last = told_there (closed round).last small_after left there in
+          let here : (with_its_position round).wrote ≡ true = closed_wrote round ∙ wrote in
+          let there : position_property left ≡ Some (integer (pos (with_its_position round).last)) =
+          ap (λ b. position_property (left_after b now (with_its_position round).left)) here ∙ closed_at round round.wrote refl here in
+          let told : told_position left ≡ (with_its_position round).last = told_there (with_its_position round).last small_after left there in
           let up : AreUpTo functions (told_position left) (frames ++ more) = up_after (told_position left) (omega (arith, told, closed_last round)) in
           let none : over (told_position left) (frames ++ more) ≡ [] = none_over functions (told_position left) (frames ++ more) up in
           record {
@@ -208,14 +208,14 @@ module _ (functions : Functions) (first_last : ℕ) (first : WorldState) where
       fed_silent : (each_frame functions (first_round last now) more).wrote ≡ false → AreFed (frames ++ more) left
       fed_silent none =
           let round = each_frame functions (first_round last now) more in
-          subst (AreFed (frames ++ more)) (sym (ap (λ b. left_after b now (closed round).left) (closed_wrote round ∙ none))) fed_later
+          subst (AreFed (frames ++ more)) (sym (ap (λ b. left_after b now (with_its_position round).left) (closed_wrote round ∙ none))) fed_later
 
       fed_after : (wrote : Bool) → (each_frame functions (first_round last now) more).wrote ≡ wrote → AreFed (frames ++ more) left
       fed_after true is = fed_written is
       fed_after false is = fed_silent is
 
-      pub stands_after : Stands (frames ++ more) (closed (each_frame functions (first_round last now) more)).last
-          (left_after (closed (each_frame functions (first_round last now) more)).wrote now (closed (each_frame functions (first_round last now) more)).left)
+      pub stands_after : Stands (frames ++ more) (with_its_position (each_frame functions (first_round last now) more)).last
+          (left_after (with_its_position (each_frame functions (first_round last now) more)).wrote now (with_its_position (each_frame functions (first_round last now) more)).left)
       stands_after = record {
         small = omega (arith, closes.raised, small_after);
         near = closes.near;
@@ -224,7 +224,7 @@ module _ (functions : Functions) (first_last : ℕ) (first : WorldState) where
       }
 
 -- before the first frame
-pub first_stands : (functions : Functions) {D : Type 0} (account : Account D) → IsFirst account → Stands functions account.last account.now [] account.last account.now
+pub first_stands : (functions : Functions) {D : Type 0} (account : MessageAccount D) → IsFirst account → Stands functions account.last account.now [] account.last account.now
 first_stands functions account first =
     let tidy : IsTidy account.now.properties = sound_tidy account.now first.sound in
     record {

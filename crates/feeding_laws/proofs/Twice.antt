@@ -7,7 +7,7 @@ use Rattle.feeding_laws.proofs.Over.{over_false, over_true}
 use Rattle.message_frames.specs.Frames.{Sent}
 use Rattle.message_frames.specs.declared.frame.Kind.{Kind}
 use Rattle.message_frames.specs.declared.frame.Kind.TheVariants.{Do, Ask}
-use Rattle.message_laws.specs.Near.{Near}
+use Rattle.message_laws.specs.NearRounds.{Near}
 use Rattle.message_session.specs.Answers.{answers_of, each_frame}
 use Rattle.plist_state.specs.State.{WorldState}
 use Rattle.messages.specs.Answers.{Round, first_round}

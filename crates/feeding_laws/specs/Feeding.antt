@@ -5,10 +5,10 @@ use Rattle.disk_trait.specs.Disk.{State}
 use Rattle.message_frames.specs.Frames.{Sent, answer_bytes, position_bytes}
 use Rattle.message_frames.specs.declared.frame.Kind.{Kind}
 use Rattle.message_frames.specs.declared.frame.Kind.TheVariants.{Do, Ask}
-use Rattle.message_laws.specs.Near.{Near}
-use Rattle.message_session.specs.Account.{Account, AreStored, IsToldIn, with_frames}
+use Rattle.message_laws.specs.NearRounds.{Near}
+use Rattle.message_session.specs.Account.{MessageAccount, AnswersAreStored, IsToldIn, with_frames}
 use Rattle.message_session.specs.Answers.{answers_of, each_frame, message_number}
-use Rattle.plist_state.specs.Sound.{IsSound}
+use Rattle.plist_state.specs.Sound.{IsSoundWorldState}
 use Rattle.plist_state.specs.State.{WorldState}
 use Rattle.prevalence_store.specs.calls.Store.{StoreView}
 use Rattle.sessions.specs.Streams.{Writes}
@@ -27,21 +27,21 @@ pub record FrameHanding (D R : Type 0) : Type 0 where
   pub frames : List Sent
 
 -- the account after them
-abbrev pub account_after_frames : Functions → {D R : Type 0} → Account D → List (FrameHanding D R) → Account D
+abbrev pub account_after_frames : Functions → {D R : Type 0} → MessageAccount D → List (FrameHanding D R) → MessageAccount D
 account_after_frames functions account [] = account
 account_after_frames functions account (one ∷ more) = account_after_frames functions (with_frames functions one.frames one.store account) more
 
 -- each as the recipient asks
-abbrev pub AreHanded : Functions → {D R : Type 0} → (D → State) → Account D → List (FrameHanding D R) → Type 0
-AreHanded functions state account [] = Unit {0}
-AreHanded functions state account (one ∷ more) =
-    AreStored functions state account one.store one.frames one.bytes × AreHanded functions state (with_frames functions one.frames one.store account) more
+abbrev pub FramesAreHanded : Functions → {D R : Type 0} → (D → State) → MessageAccount D → List (FrameHanding D R) → Type 0
+FramesAreHanded functions state account [] = Unit {0}
+FramesAreHanded functions state account (one ∷ more) =
+    AnswersAreStored functions state account one.store one.frames one.bytes × FramesAreHanded functions state (with_frames functions one.frames one.store account) more
 
 -- an account as it begins with the position
-pub record IsFirst {D : Type 0} (account : Account D) : Type 0 where
+pub record IsFirst {D : Type 0} (account : MessageAccount D) : Type 0 where
   pub none : account.answered ≡ []
   pub told : IsToldIn account.last account.now
-  pub sound : IsSound account.now
+  pub sound : IsSoundWorldState account.now
 
 -- ---- as rounds of requests
 
@@ -53,7 +53,7 @@ abbrev pub rounds_of_frames : {D R : Type 0} → List (FrameHanding D R) → Lis
 rounds_of_frames handings = map (λ one. map request_of one.frames) handings
 
 -- the account tells of this place
-pub record ArePlaced {D : Type 0} (place : Place) (account : Account D) : Type 0 where
+pub record ArePlaced {D : Type 0} (place : Place) (account : MessageAccount D) : Type 0 where
   pub world : place.world ≡ account.now
   pub last : place.last ≡ account.last
 
@@ -64,7 +64,7 @@ abbrev pub is_over : ℕ → Kind → Bool
 is_over n (Do number) = nat_lt n number
 is_over n Ask = false
 
--- those that are, in order
+-- of these frames those of messages over this number, in order
 abbrev pub over : ℕ → List Sent → List Sent
 over n [] = []
 over n (one ∷ more) = if is_over n one.0 then one ∷ over n more else over n more

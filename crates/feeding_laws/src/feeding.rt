@@ -2,9 +2,9 @@
 ghost use Rattle.std.specs.Prelude.{◌≡◌, ℕ, List, [], ◌∷◌, ◌++◌, Option, Some};
 ghost use Rattle.std.specs.List.{AllByRecursion, flat_map};
 ghost use Rattle.disk_trait.specs.Disk.{Image, IsHonest};
-ghost use Rattle.feeding_laws.specs.Feeding.{AreAnsweredAgain, AreHanded, ArePlaced, FeedsAgain, FrameHanding, IsFirst, account_after_frames, over, rounds_of_frames, told_position};
+ghost use Rattle.feeding_laws.specs.Feeding.{AreAnsweredAgain, FramesAreHanded, ArePlaced, FeedsAgain, FrameHanding, IsFirst, account_after_frames, over, rounds_of_frames, told_position};
 ghost use Rattle.message_frames.specs.Frames.{IsFrame, Sent, frame_bytes};
-ghost use Rattle.message_session.specs.Account.{Account, AreStored, AreUnderWay, with_frames};
+ghost use Rattle.message_session.specs.Account.{MessageAccount, AnswersAreStored, FramesAreUnderWay, with_frames};
 ghost use Rattle.message_session.specs.Sessions.{ServesMessages, text_limit};
 ghost use Rattle.plist_state.specs.State.{WorldState};
 ghost use Rattle.prevalence_store.specs.Theorem.{Keeps};
@@ -18,7 +18,7 @@ use disk_trait::Disk;
 use message_frames::bytes_are_one_list;
 use message_session::Ended;
 
-/// Answers were handed to the recipient of a session, one time after the other (`AreHanded`), from its position on. Of an honest disk of
+/// Answers were handed to the recipient of a session, one time after the other (`FramesAreHanded`), from its position on. Of an honest disk of
 /// which each crash would have left its first world:
 ///
 /// - `further`: answers that are handed on last come after the others, and the account is that after all of them.
@@ -28,26 +28,32 @@ use message_session::Ended;
 ///   answers that they have among all frames, and then the last number and the world are those after all, but for the position.
 /// - `while_ended`: so it is at any moment up to the end of the session.
 pub fn feeding_again<D: Disk, R>()
-    ensures further { (functions : Functions) (account : Account D) (handings : List (FrameHanding D R)) (last : FrameHanding D R)
-        → AreHanded functions D.state account handings
-        → AreStored functions D.state (account_after_frames functions account handings) last.store last.frames last.bytes
-        → AreHanded functions D.state account (handings ++ last ∷ [])
+    ensures further { (functions : Functions) (account : MessageAccount D)
+        (handings : List (FrameHanding D R))
+        (last : FrameHanding D R)
+        → FramesAreHanded functions D.state account handings
+        → AnswersAreStored functions D.state (account_after_frames functions account handings) last.store last.frames last.bytes
+        → FramesAreHanded functions D.state account (handings ++ last ∷ [])
         × (account_after_frames functions account (handings ++ last ∷ []) ≡ with_frames functions last.frames last.store (account_after_frames functions account handings)) }
-    ensures in_rounds { (functions : Functions) (account : Account D) (handings : List (FrameHanding D R))
-        → AreHanded functions D.state account handings
+    ensures in_rounds { (functions : Functions) (account : MessageAccount D)
+        (handings : List (FrameHanding D R))
+        → FramesAreHanded functions D.state account handings
         → ArePlaced (after_rounds functions (place_at account.last account.now) (rounds_of_frames handings)) (account_after_frames functions account handings) }
-    ensures while_stored { (functions : Functions) (account : Account D) (handings : List (FrameHanding D R)) (one : FrameHanding D R)
+    ensures while_stored { (functions : Functions) (account : MessageAccount D)
+        (handings : List (FrameHanding D R)) (one : FrameHanding D R)
         → (more : List Sent) (image : Image) (now : WorldState)
         → IsFirst account → IsHonest (D.state account.disk) → Keeps functions (D.state account.disk) account.now
-        → AreHanded functions D.state account handings
-        → AreStored functions D.state (account_after_frames functions account handings) one.store one.frames one.bytes
+        → FramesAreHanded functions D.state account handings
+        → AnswersAreStored functions D.state (account_after_frames functions account handings) one.store one.frames one.bytes
         → (D.state one.store.disk).left_since (D.state (account_after_frames functions account handings).disk).moment image → MeansWorld functions image now
         → FeedsAgain functions account.last account.now ((account_after_frames functions account handings).answered ++ (one.frames ++ more)) now }
-    ensures while_ended { (functions : Functions) (account : Account D) (handings : List (FrameHanding D R)) (store : StoreView D R)
+    ensures while_ended { (functions : Functions) (account : MessageAccount D)
+        (handings : List (FrameHanding D R))
+        (store : StoreView D R)
         → (more : List Sent) (image : Image) (now : WorldState)
         → IsFirst account → IsHonest (D.state account.disk) → Keeps functions (D.state account.disk) account.now
-        → AreHanded functions D.state account handings
-        → (since : AreUnderWay functions D.state (account_after_frames functions account handings) store)
+        → FramesAreHanded functions D.state account handings
+        → (since : FramesAreUnderWay functions D.state (account_after_frames functions account handings) store)
         → (D.state store.disk).left_since (D.state (account_after_frames functions account handings).disk).moment image → MeansWorld functions image now
         → FeedsAgain functions account.last account.now ((account_after_frames functions account handings).answered ++ (since.frames ++ more)) now }
 {}
@@ -55,7 +61,8 @@ pub fn feeding_again<D: Disk, R>()
 /// A session over a store that has a position, whose input are the messages over it, of all these frames, and no more: where they may be fed
 /// again (`FeedsAgain`) and it comes to the end of its input, it writes the answers that were given, and leaves the world after all.
 pub fn fed_sessions<D: Disk, R>()
-    ensures { (functions : Functions) (old new : StoreView D R) (last position : ℕ) (first now : WorldState) (frames : List Sent)
+    ensures { (functions : Functions) (old new : StoreView D R) (last position : ℕ) (first now : WorldState)
+        (frames : List Sent)
         → (left held written : Option (List ℕ))
         → FeedsAgain functions last first frames now → told_in now ≡ Some position
         → AllByRecursion (IsFrame text_limit) frames

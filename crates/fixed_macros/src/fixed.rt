@@ -3,7 +3,7 @@ ghost use Rattle.std.specs.Prelude.{◌≡◌, refl, true};
 ghost use Rattle.std.specs.List.{list_all};
 ghost use Rattle.std.specs.Option.{option_map_or};
 ghost use Rattle.readtable_core.specs.Names.{is_among};
-ghost use Rattle.readtable_core.specs.Named.{functions_at};
+ghost use Rattle.readtable_core.specs.NamedFunctions.{functions_at};
 ghost use Rattle.user_macros.specs.Registry.{is_covered};
 
 use crate::Answering;

@@ -13,7 +13,7 @@ use Rattle.std.specs.Cmp.{both_ways}
 use Rattle.std.proofs.lemmas.Bool.{and_parts, and_from}
 use Rattle.std.proofs.lemmas.List.Elements.{All-nil, All-cons, All-head, All-tail}
 use Rattle.lisp_object.specs.Object.{Object, integer, rational, character, text, symbol, uninterned, pair, vector, AllAtoms}
-use Rattle.readtable_core.specs.Named.{functions_of}
+use Rattle.readtable_core.specs.NamedFunctions.{functions_of}
 use Rattle.package_table.specs.Symbols.{symbols}
 use Rattle.package_table.specs.Table.{Name, Present, Package, Table, IsPresent, keyword, entry_at}
 use Rattle.package_table.specs.Lookup.{is_external, is_symbol, is_used}
@@ -21,7 +21,7 @@ use Rattle.package_table.proofs.Found.{external_shows, shows_external}
 use Rattle.package_table.proofs.Frames.{name_cases}
 use Rattle.plist_state.specs.Properties.{Symbol, Plist}
 use Rattle.plist_state.specs.State.{WorldState}
-use Rattle.plist_state.specs.Sound.{IsSymbol, IsKnown, IsValue, IsPlist, IsSound}
+use Rattle.plist_state.specs.Sound.{IsSymbol, IsKnown, IsValue, IsPlist, IsSoundWorldState}
 use Rattle.plist_state.proofs.Soundness.{symbol_is, symbol_from}
 use Rattle.snapshot_text.proofs.PartFinds.{external_more}
 use Rattle.forgotten_names.specs.Needed.{stands_among, plist_symbols, is_needed}
@@ -97,7 +97,7 @@ module _ (held : List Symbol) (s : WorldState) where
       let was = present_was (is_kept held s) s.packages (kept_external held s) (kept_imported held s) x.0 x.1 x.0 there in
       (was.0, kept_is_needed held s x.0 x.1 was.0 was.1)
 
-  pub forgotten_sound : IsSound s → IsSound (forgotten held s)
+  pub forgotten_sound : IsSoundWorldState s → IsSoundWorldState (forgotten held s)
   forgotten_sound sound = record {
     packages = kept_sound (is_kept held s) s.packages (kept_external held s) (kept_imported held s) sound.packages;
     symbols = λ x there. symbol_stays x (sound.symbols x there) (needed_owner held s x there);

@@ -7,7 +7,7 @@ use Rattle.package_table.proofs.Frames.{name_cases}
 use Rattle.package_table.proofs.Keeping.{present_at_home}
 use Rattle.plist_state.specs.Properties.{Symbol}
 use Rattle.plist_state.specs.State.{WorldState}
-use Rattle.plist_state.specs.Sound.{IsSound}
+use Rattle.plist_state.specs.Sound.{IsSoundWorldState}
 use Rattle.snapshot_text.proofs.PartFinds.{finds_more}
 use Rattle.forgotten_names.specs.Needed.{is_needed}
 use Rattle.forgotten_names.specs.Forgotten.{is_kept, forgotten}
@@ -16,7 +16,7 @@ use Rattle.forgotten_names.proofs.KeptPackages.{uses_kept, kept_part}
 use Rattle.forgotten_names.proofs.KeptSound.{present_stays, external_stays}
 use Rattle.forgotten_names.proofs.ForgottenSound.{forgotten_sound, symbol_was}
 
-module _ (held : List Symbol) (s : WorldState) (sound : IsSound s) where
+module _ (held : List Symbol) (s : WorldState) (sound : IsSoundWorldState s) where
   abbrev left : Table
   left = (forgotten held s).packages
 

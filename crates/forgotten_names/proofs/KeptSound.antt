@@ -8,7 +8,7 @@ use Rattle.std.specs.Prelude.{option_map, option_and_then}
 use Rattle.std.specs.List.{list_any}
 use Rattle.std.specs.Ordering.{eq_by_cmp}
 use Rattle.std.specs.FinMap as finite
-use Rattle.package_table.specs.Table.{Name, name_cmp, Present, Package, Table, entry_at, IsPresent, IsExternal, IsJoined, HasFirst, IsWithin, IsSound, common_lisp, common_lisp_user, keyword, common_lisp_package, common_lisp_names}
+use Rattle.package_table.specs.Table.{Name, name_cmp, Present, Package, Table, entry_at, IsPresent, IsExternal, IsJoined, HasFirst, IsWithin, AreSoundPackages, common_lisp, common_lisp_user, keyword, common_lisp_package, common_lisp_names}
 use Rattle.package_table.proofs.Names.{same_some, none_some}
 use Rattle.package_table.proofs.Frames.{name_cases}
 use Rattle.package_table.proofs.First.{at_home, symbol_first}
@@ -91,5 +91,5 @@ module _ (keep : Name → Name → Bool) (t : Table)
     symbols = let fewer = symbols_part kept t (kept_part keep t) in let few = within.symbols in omega (arith, fewer, few);
   }
 
-  pub kept_sound : IsSound t → IsSound kept
+  pub kept_sound : AreSoundPackages t → AreSoundPackages kept
   kept_sound sound = record { joined = kept_joined sound.joined; first = kept_first sound.first; within = kept_within sound.within }

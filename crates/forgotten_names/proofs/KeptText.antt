@@ -9,10 +9,10 @@ use Rattle.package_table.specs.Table.{Name, Table, common_lisp, keyword, initial
 use Rattle.package_table.specs.Lookup.{is_present, is_symbol}
 use Rattle.package_table.specs.Readers.{package_names, own_names}
 use Rattle.plist_state.specs.Properties.{Symbol}
-use Rattle.plist_state.specs.Sound.{IsSound}
+use Rattle.plist_state.specs.Sound.{IsSoundWorldState}
 use Rattle.plist_state.specs.State.{WorldState}
 use Rattle.world_text.specs.KeptNames.{kept_names, kept_snapshot}
-use Rattle.world_text.specs.Snapshot.{texts, made_names, shown_names, imported_name, package_with, packages_with, packages_object, properties_object, tables_object, line, snapshot}
+use Rattle.world_text.specs.Snapshot.{texts, made_names, shown_names, imported_name, package_with, packages_with, packages_object, properties_object, tables_object, snapshot_line, snapshot}
 use Rattle.world_text.proofs.PlainLines.{plain_packages, plain_third}
 use Rattle.world_text.proofs.PlainObjects.{plain_printed}
 use Rattle.forgotten_names.specs.Needed.{is_needed}
@@ -55,14 +55,14 @@ module _ (held : List Symbol) (s : WorldState) where
     packages_same : packages_with t (kept_names keeps t) ≡ packages_object left
     packages_same = λ i. list_of (map (λ p. package_same p i) (filter (λ p. not (bytes_eq p common_lisp)) (sym (packages_kept (is_kept held s) t) i)))
 
-    pub kept_text : IsSound s → kept_snapshot keeps s ≡ snapshot (forgotten held s)
+    pub kept_text : IsSoundWorldState s → kept_snapshot keeps s ≡ snapshot (forgotten held s)
     kept_text sound =
         let here = sound.packages in
         let there = (forgotten_sound held s sound).packages in
-        let first : line t (packages_with t (kept_names keeps t)) ≡ line left (packages_object left) =
-        ap (line t) packages_same ∙ ap (λ b. b ++ 10 ∷ []) (plain_printed t left here there (packages_object left) (plain_packages left there)) in
-        let second : line t (properties_object s) ≡ line left (properties_object s) =
+        let first : snapshot_line t (packages_with t (kept_names keeps t)) ≡ snapshot_line left (packages_object left) =
+        ap (snapshot_line t) packages_same ∙ ap (λ b. b ++ 10 ∷ []) (plain_printed t left here there (packages_object left) (plain_packages left there)) in
+        let second : snapshot_line t (properties_object s) ≡ snapshot_line left (properties_object s) =
         ap (λ b. b ++ 10 ∷ []) (sym (printed_alike held s sound (properties_object s) (properties_needed held s here))) in
-        let third : line t (tables_object s) ≡ line left (tables_object s) =
+        let third : snapshot_line t (tables_object s) ≡ snapshot_line left (tables_object s) =
         ap (λ b. b ++ 10 ∷ []) (plain_printed t left here there (tables_object s) (plain_third s sound 2 (tables_object s) refl)) in
         λ i. first i ++ second i ++ third i

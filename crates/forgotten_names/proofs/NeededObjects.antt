@@ -23,7 +23,7 @@ use Rattle.canon_printer.proofs.Resolved.{is_home, nil_present}
 use Rattle.plist_state.specs.Changes.{plist}
 use Rattle.plist_state.specs.Properties.{Symbol, Plist, Properties, symbol_cmp, list_at}
 use Rattle.plist_state.specs.State.{WorldState}
-use Rattle.plist_state.specs.Sound.{IsSound}
+use Rattle.plist_state.specs.Sound.{IsSoundWorldState}
 use Rattle.plist_state.proofs.Orders.{symbol_tied}
 use Rattle.plist_state.proofs.Soundness.{symbol_is, symbol_from}
 use Rattle.snapshot_text.proofs.PartFinds.{present_entry}
@@ -79,7 +79,7 @@ module _ (held : List Symbol) (s : WorldState) where
 
   -- ---- what is written before the name of a symbol
 
-  module _ (sound : IsSound s) where
+  module _ (sound : IsSoundWorldState s) where
     accessible_same : (h n : Name) → Needs h n → is_accessible left common_lisp_user h n ≡ is_accessible s.packages common_lisp_user h n
     accessible_same h n needed = both_ways (has_home (found left common_lisp_user n) h) (has_home (found s.packages common_lisp_user n) h)
         (λ is. ap (λ o. has_home o h) (found_before held s sound common_lisp_user n h (is_home (found left common_lisp_user n) h is)).0 ∙ equal_itself h)
@@ -115,7 +115,7 @@ module _ (held : List Symbol) (s : WorldState) where
   )
   all_needed (vector xs) each = all_needed xs each
 
-  nil_needed : packages.IsSound s.packages → Needs common_lisp (codes "NIL")
+  nil_needed : packages.AreSoundPackages s.packages → Needs common_lisp (codes "NIL")
   nil_needed sound =
       let e = present_entry s.packages common_lisp (codes "NIL") common_lisp (nil_present s.packages sound) in
       needed_external held s (common_lisp, codes "NIL") (external_shows s.packages common_lisp (codes "NIL")
@@ -124,7 +124,7 @@ module _ (held : List Symbol) (s : WorldState) where
   abbrev beside : Plist → List Object
   beside ps = flat_map (λ (p : Symbol × Object). symbol_object p.0 ∷ p.1 ∷ []) ps
 
-  module _ (sound : packages.IsSound s.packages) where
+  module _ (sound : packages.AreSoundPackages s.packages) where
     abbrev own : Symbol × Object → List Symbol
     own p = p.0 ∷ symbols p.1
 

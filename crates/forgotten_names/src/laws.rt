@@ -5,14 +5,15 @@ ghost use Rattle.std.specs.FinMap as finite;
 ghost use Rattle.package_table.specs.Lookup.{found, is_external, is_used};
 ghost use Rattle.package_table.specs.Table.{Name};
 ghost use Rattle.plist_state.specs.Properties.{Symbol};
-ghost use Rattle.plist_state.specs.Sound.{IsSound, IsSymbol};
+ghost use Rattle.plist_state.specs.Sound.{IsSoundWorldState, IsSymbol};
 ghost use Rattle.plist_state.specs.State.{WorldState};
 ghost use Rattle.forgotten_names.specs.Forgotten.{forgotten, forgettable};
 ghost use Rattle.forgotten_names.specs.Needed.{is_needed};
 
 /// A sound state is sound without them: a world may have it, and a snapshot.
 pub fn forgotten_worlds_are_sound()
-    ensures { (held : List Symbol) (s : WorldState) → IsSound s → IsSound (forgotten held s) }
+    ensures { (held : List Symbol) (s : WorldState) → IsSoundWorldState s
+        → IsSoundWorldState (forgotten held s) }
 {}
 
 /// What is left is all needed: nothing more goes a second time.
@@ -36,7 +37,7 @@ pub fn needed_symbols_stay()
     ensures symbols { (held : List Symbol) (s : WorldState) (x : Symbol)
         → IsSymbol (forgotten held s).packages x
         ↔ (IsSymbol s.packages x × (is_needed held s x ≡ true)) }
-    ensures found { (held : List Symbol) (s : WorldState) (p n h : Name) → IsSound s
+    ensures found { (held : List Symbol) (s : WorldState) (p n h : Name) → IsSoundWorldState s
         → (found (forgotten held s).packages p n ≡ Some h)
         ↔ ((found s.packages p n ≡ Some h) × (is_needed held s (h, n) ≡ true)) }
 {}

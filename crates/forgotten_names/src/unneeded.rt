@@ -8,7 +8,7 @@ ghost use Rattle.package_table.specs.Readers.{imports, own_names, package_names}
 ghost use Rattle.plist_state.specs.Changes.{plist};
 ghost use Rattle.plist_state.specs.Lists.{symbols};
 ghost use Rattle.plist_state.specs.Readers.{borrowed_symbol, borrowed_symbols};
-ghost use Rattle.plist_state.specs.Shown.{property_of};
+ghost use Rattle.plist_state.specs.Views.{property_of};
 ghost use Rattle.forgotten_names.specs.Forgotten.{forgettable};
 ghost use Rattle.forgotten_names.specs.Marks.{AddsMarks, AreMarked, is_marked};
 ghost use Rattle.forgotten_names.specs.Needed.{plist_symbols};
@@ -200,7 +200,7 @@ pub fn forgettable<'a>(
     unmarked(alloc, packages, marks.as_slice())
 }
 
-/// How many these are.
+/// How many symbols the world does not need, where those of `held` stay in any case.
 pub fn forgettable_count(
     alloc: Global,
     world: &World,

@@ -14,7 +14,7 @@ use Rattle.form_reader.specs.declared.reader.Advance.{Advance}
 use Rattle.form_reader.specs.declared.reader.Advance.TheVariants.{More as AdvanceMore, Form as AdvanceForm, Refused as AdvanceRefused}
 use Rattle.form_reader.specs.declared.reader.ReadOutcome.{ReadOutcome}
 use Rattle.form_reader.specs.declared.reader.ReadOutcome.TheVariants as outcomes
-use Rattle.form_reader.specs.Reader.{begun, FeedsReader, HasBegun, IsAfter, IsOutcome, RefusesFrom, Steps, StepsBegun}
+use Rattle.form_reader.specs.Reader.{begun, FeedsReader, HasBegun, IsAfterBytes, IsOutcome, RefusesFrom, Steps, StepsBegun}
 use Rattle.form_check.specs.Checking.{IsBeginning, ending}
 use Rattle.form_check.specs.declared.begin.Beginning.TheVariants as begins
 
@@ -48,11 +48,11 @@ refusal_begins setting new text count step within feeds has number at is fit sta
 
 -- where all of the text was fed, it is after it
 pub whole_fed : (setting : Setting) (new : FormReader) (text : List ℕ) (count : ℕ) (step : Advance) → FeedsReader setting new [] text count step
-    → step ≡ AdvanceMore → count ≡ length text → IsAfter setting new text
+    → step ≡ AdvanceMore → count ≡ length text → IsAfterBytes setting new text
 whole_fed setting new text count step feeds is all =
     let steps : Steps setting new (take count text) AdvanceMore = subst (Steps setting new (take count text)) is feeds.steps in
     let same : take count text ≡ text = ap (λ n. take n text) all ∙ take-length text in
-    subst (IsAfter setting new) same steps.0
+    subst (IsAfterBytes setting new) same steps.0
 
 pub whole_begun : (setting : Setting) (new : FormReader) (text : List ℕ) (count : ℕ) (step : Advance) → StepsBegun setting new (take count text) step
     → step ≡ AdvanceMore → count ≡ length text → HasBegun setting new text

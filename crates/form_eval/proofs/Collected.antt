@@ -14,7 +14,7 @@ use Rattle.package_table.specs.declared.error.PackageError.{PackageError}
 use Rattle.package_table.specs.declared.error.PackageError.TheVariants.{NoPackage, NotExternal, LockedPackage, EmptyName, NoSuchPackage, PackageExists, PackageIsLocked, NameConflict, NotAccessible, Limit, OutOfMemory}
 use Rattle.package_table.specs.Table.{Name, Table, Package, Present, IsPresent, common_lisp, symbol_count}
 use Rattle.package_table.specs.Limits.{most_symbols, longest_symbol_name}
-use Rattle.package_table.specs.Changes.{Gives, intern_changes, with_new_symbol}
+use Rattle.package_table.specs.Changes.{AnswersPackages, intern_changes, with_new_symbol}
 use Rattle.package_table.proofs.Found.{present_found}
 use Rattle.package_table.specs.Symbols.{symbols}
 use Rattle.form_eval.specs.Acceptance.{table_of, after_symbol}
@@ -38,7 +38,7 @@ symbols_vector s items =
     append_assoc s (of_items items) (symbols nil) ∙ ap (λ xs. s ++ xs) (sym (symbols_pairs items nil) ∙ ap symbols (sym (object_of-Vector items)))
 
 -- what interning answers, of the packages alone
-pub interned_gives : {A : Type 0} (view : A → Name × Table) (e : PackageError) (r : Result (Name × Table) PackageError) → Gives view (Err e) r → Gives {A = Table} (λ t. t) (Err e) (table_of r)
+pub interned_gives : {A : Type 0} (view : A → Name × Table) (e : PackageError) (r : Result (Name × Table) PackageError) → AnswersPackages view (Err e) r → AnswersPackages {A = Table} (λ t. t) (Err e) (table_of r)
 interned_gives view NoPackage r h = ap table_of h
 interned_gives view NotExternal r h = ap table_of h
 interned_gives view LockedPackage r h = ap table_of h

@@ -12,7 +12,7 @@ use Rattle.lisp_operators.specs.Evaluation.{Evaluation, gives, writes, also, and
 use Rattle.lisp_operators.specs.Kinds.{an_integer}
 use Rattle.lisp_operators.specs.Properties.{set, is_in_range}
 use Rattle.lisp_operators.specs.Places.{parted}
-use Rattle.value_functions.specs.Answered.{FunctionValue}
+use Rattle.value_functions.specs.FunctionAnswers.{FunctionValue}
 use Rattle.value_functions.specs.Functions.{function_named}
 use Rattle.value_functions.specs.Lists.{car, cdr}
 use Rattle.evaluator.specs.Operators.{first, value_here}

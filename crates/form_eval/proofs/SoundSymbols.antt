@@ -23,7 +23,7 @@ use Rattle.package_table.proofs.KeptChanges.{kept_intern}
 use Rattle.plist_state.specs.Properties.{Symbol}
 use Rattle.plist_state.specs.State.{WorldState}
 use Rattle.plist_state.specs.Changes.{with_packages}
-use Rattle.plist_state.specs.Sound.{IsSymbol, IsKnown, IsValue, IsSound}
+use Rattle.plist_state.specs.Sound.{IsSymbol, IsKnown, IsValue, IsSoundWorldState}
 use Rattle.plist_state.proofs.Soundness.{sound_packages}
 use Rattle.lisp_operators.specs.Evaluation.{Done}
 use Rattle.lisp_operators.specs.Packages.{one_by_one, then_others}
@@ -54,12 +54,12 @@ interned_home u p n h v fits is =
     ] refl there
 
 record Step (u v : Table) (y : Symbol) : Type 0 where
-  sound : packages.IsSound v
+  sound : packages.AreSoundPackages v
   grows : Grows u v
   present : IsSymbol v y
   others : (z : Symbol) → CanIntern u z → CanIntern v z
 
-step : (u : Table) (y : Symbol) (v : Table) → packages.IsSound u → CanIntern u y → after_symbol u y ≡ Ok v → Step u v y
+step : (u : Table) (y : Symbol) (v : Table) → packages.AreSoundPackages u → CanIntern u y → after_symbol u y ≡ Ok v → Step u v y
 step u y v sound can is =
     elim (after_intern u y.0 y.1) as (λ r. after_intern u y.0 y.1 ≡ r → table_of r ≡ Ok v → Step u v y) [
       | Ok q ↦ λ made same. subst (λ w. Step u w y) (same_ok q.1 v same) (of_intern q.0 q.1 made)
@@ -87,7 +87,7 @@ step u y v sound can is =
         }
 
 pub record AllInterned (u v : Table) (ys : List Symbol) : Type 0 where
-  pub sound : packages.IsSound v
+  pub sound : packages.AreSoundPackages v
   pub grows : Grows u v
   pub present : All (IsSymbol v) ys
 
@@ -110,7 +110,7 @@ all_can u v (y ∷ ys) others all = All-cons (CanIntern v) y ys (others y (All-h
 abbrev pub changes : Table → Symbol → Bool
 changes u y = intern_changes u y.0 y.1
 
-pub all_interned : (u : Table) (wrote : Bool) (ys : List Symbol) → packages.IsSound u → All (CanIntern u) ys → InternedWhere u ys (one_by_one after_symbol changes u wrote ys)
+pub all_interned : (u : Table) (wrote : Bool) (ys : List Symbol) → packages.AreSoundPackages u → All (CanIntern u) ys → InternedWhere u ys (one_by_one after_symbol changes u wrote ys)
 all_interned u wrote [] sound all = record { sound = sound; grows = grows_same u; present = All-nil (IsSymbol u) }
 all_interned u wrote (y ∷ ys) sound all =
     elim (after_symbol u y) as (λ r. after_symbol u y ≡ r → InternedWhere u (y ∷ ys) (then_others r (λ later. one_by_one after_symbol changes later (wrote || changes u y) ys))) [
@@ -160,13 +160,13 @@ all_of_mapped P f [] all = All-nil (λ x. P (f x))
 all_of_mapped P f (x ∷ xs) all = All-cons (λ x. P (f x)) x xs (All-head P (f x) (map f xs) all) (all_of_mapped P f xs (All-tail P (f x) (map f xs) all))
 
 -- where the symbols of a form are interned, it can be evaluated
-pub form_may : (s : WorldState) (x : Object) (v : Table) (wrote : Bool) → packages.IsSound s.packages → IsForm s.packages x → with_symbols s.packages (symbols x) ≡ Ok (v, wrote) → IsValue v x
+pub form_may : (s : WorldState) (x : Object) (v : Table) (wrote : Bool) → packages.AreSoundPackages s.packages → IsForm s.packages x → with_symbols s.packages (symbols x) ≡ Ok (v, wrote) → IsValue v x
 form_may s x v wrote sound form is =
     let done : AllInterned s.packages v (symbols x) = subst (InternedWhere s.packages (symbols x)) is (all_interned s.packages false (symbols x) sound (symbols_can s.packages x form.object form.symbols)) in
     record { object = form.object; depth = form.depth; symbols = known_from s.packages v x form.symbols done.present }
 
 -- ---- whole forms
-module _ (names : List Name) (all : AreFunctionNames names) (s : WorldState) (x : Object) (sound : IsSound s) (form : IsForm s.packages x) where
+module _ (names : List Name) (all : AreFunctionNames names) (s : WorldState) (x : Object) (sound : IsSoundWorldState s) (form : IsForm s.packages x) where
   after_symbols : (r : Result (Table × Bool) PackageError) → InternedWhere s.packages (symbols x) r → Goods IsValue s (accepted_by true names s r x)
   after_symbols (Ok p) done =
       goods_also IsValue s p.1 (with_packages s p.0) (value names (with_packages s p.0) x) done.grows
@@ -179,7 +179,7 @@ module _ (names : List Name) (all : AreFunctionNames names) (s : WorldState) (x 
       after_symbols (with_symbols s.packages (symbols x))
       (all_interned s.packages false (symbols x) sound.packages (symbols_can s.packages x form.object form.symbols))
 
-pub accepted_sound : (names : List Name) (s : WorldState) (x : Object) (d : Done Object) → AreFunctionNames names → IsSound s → IsForm s.packages x → accept names s x ≡ Ok d → IsSoundAfter s d
+pub accepted_sound : (names : List Name) (s : WorldState) (x : Object) (d : Done Object) → AreFunctionNames names → IsSoundWorldState s → IsForm s.packages x → accept names s x ≡ Ok d → IsSoundAfter s d
 accepted_sound names s x d all sound form is =
     let good = (subst (Goods IsValue s) is (of_accepted names all s x sound form)).good in
     record { sound = good.sound; grows = good.grows; value = good.value }

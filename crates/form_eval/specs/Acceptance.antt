@@ -3,7 +3,7 @@ use Rattle.std.specs.Prelude.{Bool, true, false, List, Result, Ok, Err}
 use Rattle.lisp_object.specs.Object.{Object}
 use Rattle.package_table.specs.declared.error.PackageError.{PackageError}
 use Rattle.package_table.specs.Table.{Name, Table}
-use Rattle.package_table.specs.Errors.{package_error_number}
+use Rattle.package_table.specs.ErrorNumbers.{package_error_number}
 use Rattle.package_table.specs.Symbols.{symbols}
 use Rattle.package_table.specs.Changes.{after_intern, intern_changes}
 use Rattle.plist_state.specs.Properties.{Symbol}
@@ -42,7 +42,7 @@ accepted_over based table s (Err e) x = Err (package_error_number e)
 abbrev pub accept_over : Bool → OperatorTable → WorldState → Object → Evaluation Object
 accept_over based table s x = accepted_over based table s (with_symbols s.packages (symbols x)) x
 
--- by the operators there are, where these are the names of macro functions
+-- `accepted_over` by the operators that there are, where these are the names of the program's macro functions
 abbrev pub accepted_by : Bool → List Name → WorldState → Result (Table × Bool) PackageError → Object → Evaluation Object
 accepted_by based names = accepted_over based (operator_of names)
 

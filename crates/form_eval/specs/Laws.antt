@@ -9,7 +9,7 @@ use Rattle.package_table.specs.Lookup.{found}
 use Rattle.package_table.specs.Growth.{Grows}
 use Rattle.package_table.specs.Symbols.{are_there}
 use Rattle.plist_state.specs.State.{WorldState}
-use Rattle.plist_state.specs.Sound.{IsSound, IsValue}
+use Rattle.plist_state.specs.Sound.{IsSoundWorldState, IsValue}
 use Rattle.lisp_operators.specs.Evaluated.{IsProper}
 use Rattle.lisp_operators.specs.Evaluation.{Done}
 
@@ -34,6 +34,6 @@ pub record MayEvaluate (t : Table) (read : ReadForm) : Type 0 where
 
 -- a sound state, in which no package, no symbol, no external name and no use is lost, and a value that may be stored
 pub record IsSoundAfter (s : WorldState) (d : Done Object) : Type 0 where
-  pub sound : IsSound d.state
+  pub sound : IsSoundWorldState d.state
   pub grows : Grows s.packages d.state.packages
   pub value : IsValue d.state.packages d.value

@@ -2,9 +2,9 @@
 ghost use Rattle.std.specs.Prelude.{◌≡◌, ◌<◌, true, bytes_eq, All, IfErr, IfOk};
 ghost use Rattle.std.specs.List.{list_any};
 ghost use Rattle.package_table.specs.Table.{common_lisp, common_lisp_names};
-ghost use Rattle.package_table.specs.Changes.{Gives};
+ghost use Rattle.package_table.specs.Changes.{AnswersPackages};
 ghost use Rattle.plist_state.specs.Changes.{with_packages};
-ghost use Rattle.lisp_operators.specs.Evaluated.{Makes};
+ghost use Rattle.lisp_operators.specs.Evaluated.{MakesPackages};
 ghost use Rattle.plist_state.specs.Readers.{borrowed_symbol, borrowed_symbols};
 ghost use Rattle.form_eval.specs.Acceptance.{after_symbol, with_symbols, is_new};
 
@@ -50,7 +50,7 @@ fn is_always_there(home: &[u8], name: &[u8]) -> bool
 // A symbol is interned in its home, and whether it is new. One that is there is copied nowhere.
 fn intern_one(world: &mut World, symbol: &(&[u8], &[u8])) -> Result<bool, PackageError>
     requires { All (λ b. b < 128) symbol.now.1.now }
-    ensures gives { Gives (λ _. world.new.0.packages) result
+    ensures gives { AnswersPackages (λ _. world.new.0.packages) result
         (after_symbol world.old.0.packages (borrowed_symbol symbol.now)) }
     ensures is_new { IfOk result (λ b. b ≡ is_new world.old.0.packages (borrowed_symbol symbol.now)) }
     ensures rest { world.new ≡ (with_packages world.old.0 world.new.0.packages, world.old.1) }
@@ -75,7 +75,7 @@ pub(crate) fn intern_all(
     symbols: &[(&[u8], &[u8])],
 ) -> Result<bool, PackageError>
     requires { All (λ p. All (λ b. b < 128) p.1.now) symbols.now }
-    ensures gives { Makes result world.new.0.packages
+    ensures gives { MakesPackages result world.new.0.packages
         (with_symbols world.old.0.packages (borrowed_symbols symbols.now)) }
     ensures rest { world.new ≡ (with_packages world.old.0 world.new.0.packages, world.old.1) }
 {

@@ -4,13 +4,13 @@ ghost use Rattle.lisp_object.specs.Object.{Object, integer, pair, nil, list_of, 
 ghost use Rattle.package_table.specs.Table.{Name};
 ghost use Rattle.plist_state.specs.Properties.{Symbol};
 ghost use Rattle.plist_state.specs.State.{WorldState};
-ghost use Rattle.plist_state.specs.Sound.{IsSound};
+ghost use Rattle.plist_state.specs.Sound.{IsSoundWorldState};
 ghost use Rattle.lisp_operators.specs.Evaluation.{Done, also, gives};
 ghost use Rattle.lisp_operators.specs.Properties.{t};
 ghost use Rattle.evaluator.specs.Operators.{OperatorTable, AreOperatorsAmong, standard_operator_of};
 ghost use Rattle.evaluator.specs.EarlierOperators.{operators_before_deciding, operators_before_places};
 ghost use Rattle.evaluator.specs.Value.{value, are_clauses};
-ghost use Rattle.evaluator.specs.DecidingForms.{if_form, progn_form, and_form, or_form, cond_form, when_form, unless_form};
+ghost use Rattle.evaluator.specs.FormObjects.{if_form, progn_form, and_form, or_form, cond_form, when_form, unless_form};
 ghost use Rattle.form_eval.specs.Acceptance.{accept, accept_by, accept_over, asked};
 ghost use Rattle.lisp_operators.specs.Readtables.{AreCovered, AreFunctionNames};
 ghost use Rattle.form_eval.specs.Laws.{IsForm, IsSoundAfter};
@@ -29,7 +29,7 @@ pub fn silent_forms_change_nothing()
 /// at most 100 whose symbols fit the packages. For proofs: it does nothing.
 pub fn accepted_states_are_sound()
     ensures { (names : List Name) (s : WorldState) (x : Object) (d : Done Object)
-        → AreFunctionNames names → IsSound s → IsForm s.packages x → accept names s x ≡ Ok d → IsSoundAfter s d }
+        → AreFunctionNames names → IsSoundWorldState s → IsForm s.packages x → accept names s x ≡ Ok d → IsSoundAfter s d }
 {}
 
 /// Where the readtables of a state name no function but those of the standard readtable and these names of macro functions, a

@@ -29,7 +29,7 @@ use Rattle.form_reader.specs.State.{state_gives}
 use Rattle.form_reader.specs.EndOfText.{RefusesIn}
 use Rattle.form_reader.specs.declared.reader.ReadOutcome.{ReadOutcome}
 use Rattle.form_reader.specs.declared.reader.ReadOutcome.TheVariants.{Form as ReadForm, Empty as ReadEmpty, Refused as ReadRefused}
-use Rattle.form_reader.specs.Reader.{fed, begun, further, BeginsAt, HasBegun, StepsBegun, IsDecidedFrom, RefusesFrom, IsNew, IsBetween, IsAfter, IsAfterIn, Steps, Becomes}
+use Rattle.form_reader.specs.Reader.{fed, begun, further, BeginsAt, HasBegun, StepsBegun, IsDecidedFrom, RefusesFrom, IsNew, IsBetween, IsAfterBytes, IsAfterIn, Steps, Becomes}
 use Rattle.form_reader.proofs.Readers.{anew_between, between_reads, between_empty}
 use Rattle.form_reader.proofs.EndOfText.{ended_there}
 
@@ -155,7 +155,7 @@ refused_begins setting bytes from number offset begins is = (some (drop from byt
 
 -- ---- a reader
 
-pub between_begun : (setting : Setting) (reader : FormReader) (bytes : List ℕ) → IsAfter setting reader bytes → IsBetween reader
+pub between_begun : (setting : Setting) (reader : FormReader) (bytes : List ℕ) → IsAfterBytes setting reader bytes → IsBetween reader
     → ((cs : List ℕ) → decided_from setting (bytes ++ cs) ≡ start_of setting reader.start (state_gives setting reader.stack AtObject reader.at cs))
     → HasBegun setting reader bytes
 between_begun setting reader bytes after between decides =
@@ -176,7 +176,7 @@ first_decides : (setting : Setting) (cs : List ℕ) → decided_from setting cs 
 unfolding decided_from
 first_decides setting cs = decided_is setting 0 cs
 
-pub new_begun : (setting : Setting) (reader : FormReader) → IsNew reader → IsAfter setting reader [] → HasBegun setting reader []
+pub new_begun : (setting : Setting) (reader : FormReader) → IsNew reader → IsAfterBytes setting reader [] → HasBegun setting reader []
 new_begun setting reader new after =
     between_begun setting reader [] after (record { at = new.at; stack = new.stack; state = new.state })
     (λ cs. first_decides setting cs ∙ (λ i. start_of setting (sym new.start i) (state_gives setting (sym new.stack i) AtObject (sym new.at i) cs)))

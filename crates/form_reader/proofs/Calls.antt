@@ -27,10 +27,10 @@ use Rattle.form_reader.specs.declared.stack.Frame.{Frame}
 use Rattle.form_reader.specs.declared.stack.Part.{Part}
 use Rattle.form_reader.specs.declared.stack.Part.TheVariants.{Next as InNext, List as InList, Until as InUntil, Dotted as InDotted, Tailed as InTailed}
 use Rattle.lisp_reading.specs.Plans.{Plan, Read, then_plan, fault}
-use Rattle.lisp_reading.specs.Calls.{InvokedCall}
+use Rattle.lisp_reading.specs.InvokedCalls.{InvokedCall}
 use Rattle.lisp_reading.specs.Setting.{Setting}
 use Rattle.lisp_reading.specs.Reading.{closed, completed}
-use Rattle.form_reader.specs.Call.{plan_of, ComesTo}
+use Rattle.form_reader.specs.Call.{plan_of, CallComesTo}
 use Rattle.form_reader.specs.Stack.{call_in, plan_gives}
 use Rattle.form_reader.proofs.Dispatches.{given_refused}
 
@@ -123,7 +123,7 @@ module _ (setting : Setting) (stack : List Frame) (call : InvokedCall) (at : ℕ
 -- what the call gives, whether a token ends it or not
 pub call_ends : (setting : Setting) (stack : List Frame) (call : InvokedCall) (at : ℕ) (cs : List ℕ) (token : Bool) (material : Material) (depth : ℕ) (done : CallValue) (event : Event)
     → depth ≡ length stack → completed setting depth call token false material ≡ plan_of done
-    → ComesTo setting stack done at cs event → Brings setting stack at cs event (plan_gives setting stack (completed setting (length stack) call token false material) at cs)
+    → CallComesTo setting stack done at cs event → Brings setting stack at cs event (plan_gives setting stack (completed setting (length stack) call token false material) at cs)
 call_ends setting stack call at cs token material depth done event open_calls comes brings =
     let same : completed setting (length stack) call token false material ≡ plan_of done =
     ap (λ (n : ℕ). completed setting n call token false material) (sym open_calls) ∙ comes in

@@ -10,8 +10,8 @@ use Rattle.token_scan.specs.declared.mark.Mark.{Mark}
 use Rattle.token_scan.specs.declared.refusal.ScanRefusal.TheVariants.{InvalidCharacter}
 use Rattle.token_scan.specs.declared.stage.Stage.{Stage as ScanStage}
 use Rattle.token_scan.specs.declared.stage.Stage.TheVariants.{Outside, Inside, EscapedOutside, EscapedInside, Refused as ScanRefused}
-use Rattle.token_scan.specs.Tokens.{Scanned, fault_of_scan as scan_fault, with_front, one_more, quoted, kind, typed, outside, inside}
-use Rattle.token_scan.specs.Scans.{Scan, from_stage}
+use Rattle.token_scan.specs.Tokens.{Scanned, fault_of_scan as scan_fault, with_front, one_more, escaped_character, kind, typed, outside, inside}
+use Rattle.token_scan.specs.ByteByByte.{Scan, from_stage}
 use Rattle.readtable_core.specs.declared.characters.Syntax.TheVariants.{Invalid}
 use Rattle.token_scan.proofs.Steps.{outside_invalid, inside_invalid}
 use Rattle.lisp_reading.specs.declared.found.Found.{Found}
@@ -21,12 +21,12 @@ use Rattle.form_reader.specs.declared.state.State.{State}
 use Rattle.form_reader.specs.declared.state.State.TheVariants.{Object as AtObject, Token as AtToken, CallToken as AtCallToken, Text as AtText, Escaped as AtEscaped, Line as AtLine, Block as AtBlock, Number as AtNumber}
 use Rattle.lisp_reading.specs.declared.way.Keep.{Keep}
 use Rattle.lisp_reading.specs.Plans.{Plan, gives, refuses, takes, then_plan, character, next_byte, loop, Read, fault, within, run}
-use Rattle.lisp_reading.specs.Calls.{keep_of}
+use Rattle.lisp_reading.specs.InvokedCalls.{keep_of}
 use Rattle.lisp_reading.specs.Setting.{Setting}
 use Rattle.form_reader.specs.Token.{is_going, token_read, refused_number}
-use Rattle.form_reader.specs.Stack.{close_of, close_of_stack, next_item_in, call_in, outer_plan, between, token_goes_on}
+use Rattle.form_reader.specs.Stack.{close_of, close_of_stack, next_item_in, call_in, outer_plan, between_objects, token_goes_on}
 use Rattle.lisp_reading.specs.Gathering.{text_turn, kept, line_turn, block_turn}
-use Rattle.lisp_reading.specs.Reading.{Piece, Outcome, form, empty, refused, piece_of, closed, or_closed, next_item_turn, next_item, stands_alone, alone, inner, attempt, reads, number_after, sub_there, dispatched}
+use Rattle.lisp_reading.specs.Reading.{Piece, Outcome, form, empty, refused, piece_of, closed, or_closed, next_item_turn, next_item, stands_alone, alone, inner, attempt, reads, number_after, sub_there, dispatch_plan}
 use Rattle.form_reader.specs.State.{IsStateAt, inner_at, state_gives}
 use Rattle.form_reader.specs.Reader.{MayGoOn, DecideNothing}
 use Rattle.form_reader.specs.Step.{outcome_of, rest_of_attempt}
@@ -120,7 +120,7 @@ module _ (setting : Setting) (stack : List Frame) (at c : ℕ) where
     number_stops : (number : Option ℕ) → reading (number_after setting number) ≡ Ok (number, at, c ∷ [])
     number_stops number = number_ends setting.table setting.limits number at c [] le (no_digit c beyond)
 
-    number_fails : (character : ℕ) (number : Option ℕ) → Fails at (reading (outer_plan setting stack (dispatched setting (length stack) (inner_at setting (length stack)) character number)))
+    number_fails : (character : ℕ) (number : Option ℕ) → Fails at (reading (outer_plan setting stack (dispatch_plan setting (length stack) (inner_at setting (length stack)) character number)))
     number_fails character number =
         let sub = sub_there setting (length stack) (inner_at setting (length stack)) character number in
         let h : Fails at (reading sub) = next_fails setting.table setting.limits _ at c beyond in (
@@ -156,7 +156,7 @@ module _ (setting : Setting) (stack : List Frame) (at c : ℕ) where
 
 -- where the innermost call looks for this character
 between_fails : (setting : Setting) (stack : List Frame) (at c : ℕ) → at ≤ setting.limits.text → IsAlien setting (close_of_stack stack) c
-    → Fails at (run setting.table setting.limits (between setting stack) at (c ∷ []))
+    → Fails at (run setting.table setting.limits (between_objects setting stack) at (c ∷ []))
 between_fails setting [] at c le alien = attempt_fails setting [] at c le alien.beyond (alien_entry setting None c alien) setting.limits.nesting
 between_fails setting (f ∷ fs) at c le alien =
     gathering setting fs at c (next_item_in setting f fs) (λ p. call_in setting f fs p)
@@ -172,8 +172,8 @@ scan_fails : (table : Table) (c left at : ℕ) (stage : ScanStage) → IsTrue (i
 unfolding outside
 scan_fails table c left at Outside going beyond = (outside_invalid (typed table c) [] left at (no_kind table c beyond))
 scan_fails table c left at Inside going beyond = (inside_invalid (typed table c) [] left at (no_kind table c beyond))
-scan_fails table c left at EscapedOutside going beyond = (ap (λ b. if b then one_more left at (λ left. quoted c (outside left (at + 1) [])) else scan_fault InvalidCharacter at) (le-ltb c 128 beyond))
-scan_fails table c left at EscapedInside going beyond = (ap (λ b. if b then one_more left at (λ left. quoted c (inside left (at + 1) [])) else scan_fault InvalidCharacter at) (le-ltb c 128 beyond))
+scan_fails table c left at EscapedOutside going beyond = (ap (λ b. if b then one_more left at (λ left. escaped_character c (outside left (at + 1) [])) else scan_fault InvalidCharacter at) (le-ltb c 128 beyond))
+scan_fails table c left at EscapedInside going beyond = (ap (λ b. if b then one_more left at (λ left. escaped_character c (inside left (at + 1) [])) else scan_fault InvalidCharacter at) (le-ltb c 128 beyond))
 scan_fails table c left at (ScanRefused refusal) going beyond = cc
 
 token_fails : (setting : Setting) (stack : List Frame) (on : List Mark → Plan Found) (scan : Scan) (at c : ℕ) → IsTrue (is_going scan.stage) → at ≤ setting.limits.text → 128 ≤ c

@@ -4,7 +4,7 @@ use Rattle.std.specs.declared.alloc.AllocError.{AllocError}
 use Rattle.lisp_object.specs.declared.refusal.TheConstants.{TOO_DEEP, OUT_OF_PROFILE, FORM_TOO_LONG, INVALID_CHARACTER, NO_DISPATCH}
 use Rattle.token_scan.specs.declared.mark.Mark.{Mark}
 use Rattle.token_scan.specs.Tokens.{Scanned, ScannedBytes, with_front, typed_text, in_bytes, token, escaped_token}
-use Rattle.token_scan.specs.Scans.{Scan, first_scan, begun_escaped}
+use Rattle.token_scan.specs.ByteByByte.{Scan, first_scan, begun_escaped}
 use Rattle.std_macros.specs.Values.{marked, nothing as no_material}
 use Rattle.form_reader.specs.declared.call.CallValue.{CallValue}
 use Rattle.form_reader.specs.declared.call.CallValue.TheVariants.{Refused}
@@ -16,12 +16,12 @@ use Rattle.form_reader.specs.declared.state.Event.{Event}
 use Rattle.lisp_reading.specs.declared.way.Way.{Way}
 use Rattle.lisp_reading.specs.declared.way.Way.TheVariants.{Nothing, Next, List as AList, Until, Token, EscapedToken}
 use Rattle.lisp_reading.specs.Plans.{Plan, refuses, scans, Read, fault, limited, scanned, run}
-use Rattle.lisp_reading.specs.Calls.{InvokedCall}
+use Rattle.lisp_reading.specs.InvokedCalls.{InvokedCall}
 use Rattle.lisp_reading.specs.Setting.{Setting, way_in, function_of}
-use Rattle.lisp_reading.specs.Reading.{completed, gathered, gathered_by, called, attempt, inner, dispatched, macro_called, sub_called, sub_there, number_after}
+use Rattle.lisp_reading.specs.Reading.{completed, gathering_plan, gathered_by, called, attempt, inner, dispatch_plan, macro_called, sub_called, sub_there, number_after}
 use Rattle.form_reader.specs.Call.{plan_of}
 use Rattle.form_reader.specs.Token.{token_read, TokenFeeds}
-use Rattle.form_reader.specs.Stack.{outer_plan, between, plan_gives, token_goes_on}
+use Rattle.form_reader.specs.Stack.{outer_plan, between_objects, plan_gives, token_goes_on}
 use Rattle.form_reader.specs.State.{inner_at, Brings}
 use Rattle.form_reader.specs.Dispatch.{CallBegins, CallGathers, has_no_object, way_of_part}
 use Rattle.form_reader.proofs.Stacks.{given_moves, given_fault, list_is, until_is, gathering_ends}
@@ -52,13 +52,13 @@ unfolding run
 given_refused setting stack at cs code back = given_fault setting stack (refuses code back) at cs (record { number = code; at = at - back }) refl
 
 abbrev pub OpensWith : Setting → List Frame → InvokedCall → Way → Option (Plan Found) → ℕ → List ℕ → Read Found
-OpensWith setting stack call way may at cs = run setting.table setting.limits (outer_plan setting stack (gathered setting (length stack) may call way)) at cs
+OpensWith setting stack call way may at cs = run setting.table setting.limits (outer_plan setting stack (gathering_plan setting (length stack) may call way)) at cs
 
 module _ (setting : Setting) (stack : List Frame) (call : InvokedCall) (at : ℕ) (cs : List ℕ) where
   -- one that has read no object
   pub opens : (part : Part) → has_no_object part ≡ true → length stack < setting.limits.nesting → at ≤ setting.limits.text
       → OpensWith setting stack call (way_of_part part) (inner_at setting (length stack)) at cs
-      ≡ run setting.table setting.limits (between setting (record { call = call; part = part } ∷ stack)) at cs
+      ≡ run setting.table setting.limits (between_objects setting (record { call = call; part = part } ∷ stack)) at cs
   opens InNext e lt h = ap (λ may. OpensWith setting stack call Next may at cs) (inner_opens setting (length stack) lt)
   opens (InList []) e lt h =
       ap (λ may. OpensWith setting stack call AList may at cs) (inner_opens setting (length stack) lt) ∙ list_is setting stack call [] at cs h
@@ -174,7 +174,7 @@ module _ (setting : Setting) (stack : List Frame) (c at : ℕ) (cs : List ℕ) w
   named_gives : (name : List ℕ) → is_dispatch_name name ≡ false → macro_gives (Some name) ≡ call_gives (of_character (function_of name))
   named_gives name e =
       let by : Bool → Plan Found = λ b. elim b [
-        | true ↦ dispatched setting (length stack) (inner_at setting (length stack)) c None
+        | true ↦ dispatch_plan setting (length stack) (inner_at setting (length stack)) c None
         | false ↦ called setting (length stack) (inner_at setting (length stack)) (of_character (function_of name))
       ] in
       ap (λ (b : Bool). run setting.table setting.limits (outer_plan setting stack (by b)) at cs) e
@@ -243,9 +243,9 @@ pub number_ended : (setting : Setting) (stack after : List Frame) (character at 
     → run setting.table setting.limits (number_after setting old) at (c ∷ cs) ≡ Ok (new, at, c ∷ cs)
     → IfOk result (λ event. Brings setting after (at + 1) cs event (sub_gives setting stack character at c new cs))
     → IfOk result (λ event. Brings setting after (at + 1) cs event
-    (run setting.table setting.limits (outer_plan setting stack (dispatched setting (length stack) (inner_at setting (length stack)) character old)) at (c ∷ cs)))
+    (run setting.table setting.limits (outer_plan setting stack (dispatch_plan setting (length stack) (inner_at setting (length stack)) character old)) at (c ∷ cs)))
 number_ended setting stack after character at c old new cs result e brings =
-    let whole : run setting.table setting.limits (outer_plan setting stack (dispatched setting (length stack) (inner_at setting (length stack)) character old)) at (c ∷ cs)
+    let whole : run setting.table setting.limits (outer_plan setting stack (dispatch_plan setting (length stack) (inner_at setting (length stack)) character old)) at (c ∷ cs)
     ≡ sub_gives setting stack character at c new cs =
     gathering_ends setting stack (number_after setting old) (sub_there setting (length stack) (inner_at setting (length stack)) character) new at at (c ∷ cs) (c ∷ cs) e in
     subst (λ (r : Read Found). IfOk result (λ event. Brings setting after (at + 1) cs event r)) (sym whole) brings

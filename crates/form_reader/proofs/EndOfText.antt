@@ -4,7 +4,7 @@ use Rattle.std.specs.declared.alloc.AllocError.{AllocError}
 use Rattle.lisp_object.specs.declared.refusal.TheConstants.{END_OF_FILE, FORM_TOO_LONG}
 use Rattle.readtable_core.specs.Tables.{Table}
 use Rattle.token_scan.specs.declared.mark.Mark.{Mark}
-use Rattle.token_scan.specs.Scans.{Scan, from_stage, token_from}
+use Rattle.token_scan.specs.ByteByByte.{Scan, from_stage, token_from}
 use Rattle.lisp_reading.specs.declared.found.Found.{Found}
 use Rattle.lisp_reading.specs.declared.found.Found.TheVariants.{Nothing as nothing, TheEnd as the_end}
 use Rattle.form_reader.specs.declared.stack.Frame.{Frame}
@@ -21,9 +21,9 @@ use Rattle.form_reader.specs.Reader.{IsOutcome}
 use Rattle.lisp_reading.specs.Plans.{Plan, gives, then_plan, next_byte, loop, Read, fault, run, stands_below}
 use Rattle.lisp_reading.specs.Setting.{Setting}
 use Rattle.lisp_reading.specs.Gathering.{text_turn, line_turn, block_turn, number_turn}
-use Rattle.lisp_reading.specs.Reading.{Piece, without_space, empty, sub_there, dispatched}
+use Rattle.lisp_reading.specs.Reading.{Piece, without_space, empty, sub_there, dispatch_plan}
 use Rattle.form_reader.specs.Token.{token_read}
-use Rattle.form_reader.specs.Stack.{attempt_in, next_item_in, call_in, close_of, outer_plan, between, token_goes_on}
+use Rattle.form_reader.specs.Stack.{attempt_in, next_item_in, call_in, close_of, outer_plan, between_objects, token_goes_on}
 use Rattle.form_reader.specs.State.{inner_at, state_gives, Brings}
 use Rattle.form_reader.specs.EndOfText.{TokenStops, RefusesIn}
 use Rattle.form_reader.specs.Step.{outcome_of, Settles}
@@ -39,7 +39,7 @@ use Rattle.readtable_core.specs.Characters.{has_invalid_trait}
 use Rattle.token_scan.specs.declared.mark.Mark.TheVariants.{Plain, Quoted, Bar}
 use Rattle.token_scan.specs.declared.stage.Stage.{Stage as ScanStage}
 use Rattle.token_scan.specs.declared.stage.Stage.TheVariants.{Outside, Inside, EscapedOutside, EscapedInside, Refused as ScanRefused}
-use Rattle.token_scan.specs.Tokens.{TypedByte, Scanned, kind, is_character, with_front, quoted, escaped, outside, inside, escaped_outside, escaped_inside, typed, typed_text}
+use Rattle.token_scan.specs.Tokens.{TypedByte, Scanned, kind, is_character, with_front, escaped_character, after_single_escape, outside, inside, escaped_outside, escaped_inside, typed, typed_text}
 use Rattle.token_scan.specs.Spelling.{is_plain_syntax, ends_tokens}
 use Rattle.token_scan.proofs.Steps.{outside_ends, outside_plain, outside_escape, outside_bar, outside_invalid, inside_between, inside_escape, inside_bar, inside_invalid}
 use Rattle.token_scan.proofs.Forwards.{Forwards, forwards}
@@ -91,7 +91,7 @@ module _ (setting : Setting) (stack : List Frame) (at : ℕ) where
   block_fails levels on h = gathering_fails setting stack _ on (record { number = END_OF_FILE; at = at }) at [] (block_end setting.table setting.limits at levels h)
 
   pub number_fails : (c : ℕ) (number : Option ℕ) → at ≤ setting.limits.text
-      → at_end (dispatched setting (length stack) (inner_at setting (length stack)) c number) ≡ fault END_OF_FILE at
+      → at_end (dispatch_plan setting (length stack) (inner_at setting (length stack)) c number) ≡ fault END_OF_FILE at
   number_fails c number h =
       gathering_ends setting stack (loop setting.limits number_turn number) (sub_there setting (length stack) (inner_at setting (length stack)) c) number at at [] []
       (number_end setting.table setting.limits at number h)
@@ -115,12 +115,12 @@ module _ (setting : Setting) (stack : List Frame) (at : ℕ) where
 -- ---- where an object may begin
 
 pub none_waits : (setting : Setting) (stack : List Frame) (at : ℕ) → at ≤ setting.limits.text → length stack ≡ 0
-    → (run setting.table setting.limits (between setting stack) at [] ≡ Ok (the_end, at, [])) × (stack ≡ [])
+    → (run setting.table setting.limits (between_objects setting stack) at [] ≡ Ok (the_end, at, [])) × (stack ≡ [])
 none_waits setting [] at h e = ((attempt_ends setting _ _).rest at h, refl)
 none_waits setting (f ∷ fs) at h e = absurd (omega (arith, e))
 
 pub some_waits : (setting : Setting) (stack : List Frame) (at : ℕ) → at ≤ setting.limits.text → (length stack ≡ 0 → ⊥)
-    → run setting.table setting.limits (between setting stack) at [] ≡ fault END_OF_FILE at
+    → run setting.table setting.limits (between_objects setting stack) at [] ≡ fault END_OF_FILE at
 some_waits setting [] at h never = absurd (never refl)
 some_waits setting (f ∷ fs) at h never =
     let call = λ (p : Piece). call_in setting f fs p in
@@ -130,7 +130,7 @@ some_waits setting (f ∷ fs) at h never =
     (run_then setting.table setting.limits (next_item_in setting f fs) call at [] ∙ ap (and_then setting.table setting.limits call) none)
 
 no_space : (setting : Setting) (stack : List Frame) (at : ℕ) (token : Bool)
-    → run setting.table setting.limits (without_space setting.table token (between setting stack)) at [] ≡ run setting.table setting.limits (between setting stack) at []
+    → run setting.table setting.limits (without_space setting.table token (between_objects setting stack)) at [] ≡ run setting.table setting.limits (between_objects setting stack) at []
 unfolding run
 no_space setting stack at true = refl
 no_space setting stack at false = refl
@@ -151,10 +151,10 @@ module _ (setting : Setting) (stack : List Frame) (at : ℕ) where
   pub waits_last : (before : List Frame) (found : Found) (event : Event) (returned : Return) (token : Bool) (settled : Event) (read : Read Found) → event ≡ IsGiven found
       → Brings setting before at [] event read → returned ≡ Waits token
       → Returns setting stack at [] returned (run setting.table setting.limits (outer_plan setting before (gives found)) at [])
-      → Settles setting stack at [] settled (run setting.table setting.limits (between setting stack) at []) → Settles setting stack at [] settled read
+      → Settles setting stack at [] settled (run setting.table setting.limits (between_objects setting stack) at []) → Settles setting stack at [] settled read
   waits_last before found event returned token settled read e brings d delivers settles =
       let given_is : read ≡ run setting.table setting.limits (outer_plan setting before (gives found)) at [] = subst (λ (v : Event). Brings setting before at [] v read) e brings in
-      let waiting : run setting.table setting.limits (outer_plan setting before (gives found)) at [] ≡ run setting.table setting.limits (without_space setting.table token (between setting stack)) at []
+      let waiting : run setting.table setting.limits (outer_plan setting before (gives found)) at [] ≡ run setting.table setting.limits (without_space setting.table token (between_objects setting stack)) at []
       = subst (λ (v : Return). Returns setting stack at [] v (run setting.table setting.limits (outer_plan setting before (gives found)) at [])) d delivers in
       subst (λ (r : Read Found). Settles setting stack at [] settled r) (sym (given_is ∙ waiting ∙ no_space setting stack at token)) settles
 
@@ -232,7 +232,7 @@ module _ (x : TypedByte) (left at : ℕ) where
   inside_there Constituent e = between_there (ap (λ k. is_plain_syntax k || ends_tokens k) e)
   inside_there NonTerminatingMacro e = between_there (ap (λ k. is_plain_syntax k || ends_tokens k) e)
 
-  escaped_there : (more : ℕ → Scanned) (last : Scanned) → EndsThere at (quoted x.byte (more (left - 1))) last → EndsThere at (escaped x left at more) last
+  escaped_there : (more : ℕ → Scanned) (last : Scanned) → EndsThere at (escaped_character x.byte (more (left - 1))) last → EndsThere at (after_single_escape x left at more) last
   escaped_there more last h = chosen_there (is_character x) at _ _ last (chosen_there (left == 0) at _ _ last tt h) tt
 
   escaped_outside_there : (last : Scanned) → EndsThere at (escaped_outside left at (x ∷ [])) last
@@ -334,7 +334,7 @@ module _ (setting : Setting) (stack : List Frame) (at c : ℕ) (found : Found) w
       by (Err f) is e = cc
 
   pub ended_there : (state : State) → state_gives setting stack state at (c ∷ []) ≡ Ok (found, at, c ∷ []) → state_gives setting stack state at [] ≡ Ok (found, at, [])
-  ended_there AtObject e = plan_there setting.table setting.limits (between setting stack) at c found e
+  ended_there AtObject e = plan_there setting.table setting.limits (between_objects setting stack) at c found e
   ended_there (AtToken scan) e = goes_there _ scan e
   ended_there (AtCallToken call scan) e = goes_there _ scan e
   ended_there (AtText held) e = plan_there setting.table setting.limits _ at c found e

@@ -5,7 +5,7 @@ use Rattle.form_reader.specs.declared.reader.FormReader.{FormReader}
 use Rattle.form_reader.specs.declared.reader.Advance.{Advance}
 use Rattle.form_reader.specs.declared.reader.Advance.TheVariants.{More as AdvanceMore, Form as AdvanceForm, Refused as AdvanceRefused}
 use Rattle.lisp_reading.specs.Setting.{Setting}
-use Rattle.form_reader.specs.Reader.{fed, begun, DecideNothing, IsAfter, HasBegun, Steps, StepsBegun, BeginsLater, Counts, FeedsReader, Advances, is_more, IsSoundStep, IsOutcome}
+use Rattle.form_reader.specs.Reader.{fed, begun, DecideNothing, IsAfterBytes, HasBegun, Steps, StepsBegun, BeginsLater, CountsFedBytes, FeedsReader, AdvancesFed, is_more, IsSoundStep, IsOutcome}
 use Rattle.std.proofs.lemmas.List.{take-append-drop}
 use Rattle.std.specs.Prelude.{◌&&◌}
 use Rattle.std.specs.List.{list_all}
@@ -23,14 +23,14 @@ more_is (AdvanceRefused number offset) e = cc
 
 -- ---- how many bytes were fed, and where what is open began
 
-pub counts_more : (old new : FormReader) (step : Advance) → step ≡ AdvanceMore → Counts old new step → fed new ≡ fed old + 1
-counts_more old new step is counts = subst (λ (s : Advance). Counts old new s) is counts
+pub counts_more : (old new : FormReader) (step : Advance) → step ≡ AdvanceMore → CountsFedBytes old new step → fed new ≡ fed old + 1
+counts_more old new step is counts = subst (λ (s : Advance). CountsFedBytes old new s) is counts
 
 pub begins_more : (old new : FormReader) (step : Advance) → step ≡ AdvanceMore → BeginsLater old new step → (begun old ≤ begun new) × (begun new ≤ fed new)
 begins_more old new step is begins = subst (λ (s : Advance). BeginsLater old new s) is begins
 
-pub advances_last : (old middle new : FormReader) (k : ℕ) (step : Advance) → fed middle ≡ fed old + k → begun old ≤ begun middle → Counts middle new step → BeginsLater middle new step
-    → Advances old new (k + 1) step
+pub advances_last : (old middle new : FormReader) (k : ℕ) (step : Advance) → fed middle ≡ fed old + k → begun old ≤ begun middle → CountsFedBytes middle new step → BeginsLater middle new step
+    → AdvancesFed old new (k + 1) step
 advances_last old middle new k AdvanceMore so le counts begins = (omega (arith, so, counts), omega (arith, le, begins.0), begins.1)
 advances_last old middle new k (AdvanceForm datum start «end» next) so le counts begins = (counts, omega (arith, le, begins.0), begins.1)
 advances_last old middle new k (AdvanceRefused number offset) so le counts begins = omega (arith, le, begins.0)
@@ -38,28 +38,28 @@ advances_last old middle new k (AdvanceRefused number offset) so le counts begin
 -- ---- what the steps answer
 
 -- nothing was fed yet
-pub none_taken : (setting : Setting) (reader : FormReader) (before bytes : List ℕ) → IsAfter setting reader before → IsAfter setting reader (before ++ take 0 bytes)
-none_taken setting reader before bytes after = subst (λ (t : List ℕ). IsAfter setting reader t) (sym (append-nil before)) after
+pub none_taken : (setting : Setting) (reader : FormReader) (before bytes : List ℕ) → IsAfterBytes setting reader before → IsAfterBytes setting reader (before ++ take 0 bytes)
+none_taken setting reader before bytes after = subst (λ (t : List ℕ). IsAfterBytes setting reader t) (sym (append-nil before)) after
 
 pub none_begun : (setting : Setting) (reader : FormReader) (before bytes : List ℕ) → HasBegun setting reader before → HasBegun setting reader (before ++ take 0 bytes)
 none_begun setting reader before bytes has = subst (λ (t : List ℕ). HasBegun setting reader t) (sym (append-nil before)) has
 
 module _ (setting : Setting) (old middle new : FormReader) (bytes : List ℕ) (k c : ℕ) (step : Advance) (is : take (k + 1) bytes ≡ take k bytes ++ c ∷ [])
-    (after : (before : List ℕ) → IsAfter setting old before → IsAfter setting middle (before ++ take k bytes))
-    (steps : (before : List ℕ) → IsAfter setting middle before → Steps setting new (before ++ c ∷ []) step) where
+    (after : (before : List ℕ) → IsAfterBytes setting old before → IsAfterBytes setting middle (before ++ take k bytes))
+    (steps : (before : List ℕ) → IsAfterBytes setting middle before → Steps setting new (before ++ c ∷ []) step) where
   one_more : (before : List ℕ) → (before ++ take k bytes) ++ c ∷ [] ≡ before ++ take (k + 1) bytes
   one_more before = append_assoc before (take k bytes) (c ∷ []) ∙ ap (λ (t : List ℕ). before ++ t) (sym is)
 
-  then_steps : (before : List ℕ) → IsAfter setting old before → Steps setting new (before ++ take (k + 1) bytes) step
+  then_steps : (before : List ℕ) → IsAfterBytes setting old before → Steps setting new (before ++ take (k + 1) bytes) step
   then_steps before a = subst (λ (t : List ℕ). Steps setting new t step) (one_more before) (steps (before ++ take k bytes) (after before a))
 
   -- more bytes decide
-  pub steps_on : step ≡ AdvanceMore → (before : List ℕ) → IsAfter setting old before → Steps setting new (before ++ take (k + 1) bytes) AdvanceMore
+  pub steps_on : step ≡ AdvanceMore → (before : List ℕ) → IsAfterBytes setting old before → Steps setting new (before ++ take (k + 1) bytes) AdvanceMore
   steps_on more before a = subst (λ (s : Advance). Steps setting new (before ++ take (k + 1) bytes) s) more (then_steps before a)
 
   -- it is the last step
-  pub feeds_last : ((before : List ℕ) → IsAfter setting old before → 0 < k → Steps setting middle (before ++ take k bytes) AdvanceMore)
-      → (before : List ℕ) → IsAfter setting old before → FeedsReader setting new before bytes (k + 1) step
+  pub feeds_last : ((before : List ℕ) → IsAfterBytes setting old before → 0 < k → Steps setting middle (before ++ take k bytes) AdvanceMore)
+      → (before : List ℕ) → IsAfterBytes setting old before → FeedsReader setting new before bytes (k + 1) step
   feeds_last first before a = record {
     steps = then_steps before a;
     undecided = λ other lt.
@@ -69,18 +69,18 @@ module _ (setting : Setting) (old middle new : FormReader) (bytes : List ℕ) (k
   }
 
   -- where what is open then began
-  module _ (kept : (before : List ℕ) → IsAfter setting old before → HasBegun setting old before → HasBegun setting middle (before ++ take k bytes))
-      (begins : (before : List ℕ) → IsAfter setting middle before → HasBegun setting middle before → StepsBegun setting new (before ++ c ∷ []) step) where
-    pub begun_last : (before : List ℕ) → IsAfter setting old before → HasBegun setting old before → StepsBegun setting new (before ++ take (k + 1) bytes) step
+  module _ (kept : (before : List ℕ) → IsAfterBytes setting old before → HasBegun setting old before → HasBegun setting middle (before ++ take k bytes))
+      (begins : (before : List ℕ) → IsAfterBytes setting middle before → HasBegun setting middle before → StepsBegun setting new (before ++ c ∷ []) step) where
+    pub begun_last : (before : List ℕ) → IsAfterBytes setting old before → HasBegun setting old before → StepsBegun setting new (before ++ take (k + 1) bytes) step
     begun_last before a has = subst (λ (t : List ℕ). StepsBegun setting new t step) (one_more before) (begins (before ++ take k bytes) (after before a) (kept before a has))
 
-    pub begun_on : step ≡ AdvanceMore → (before : List ℕ) → IsAfter setting old before → HasBegun setting old before → HasBegun setting new (before ++ take (k + 1) bytes)
+    pub begun_on : step ≡ AdvanceMore → (before : List ℕ) → IsAfterBytes setting old before → HasBegun setting old before → HasBegun setting new (before ++ take (k + 1) bytes)
     begun_on more before a has = subst (λ (s : Advance). StepsBegun setting new (before ++ take (k + 1) bytes) s) more (begun_last before a has)
 
 -- all are taken, and more decide
 pub feeds_whole : (setting : Setting) (old new : FormReader) (bytes : List ℕ) (k : ℕ) → 0 < k
-    → ((before : List ℕ) → IsAfter setting old before → 0 < k → Steps setting new (before ++ take k bytes) AdvanceMore)
-    → (before : List ℕ) → IsAfter setting old before → FeedsReader setting new before bytes k AdvanceMore
+    → ((before : List ℕ) → IsAfterBytes setting old before → 0 < k → Steps setting new (before ++ take k bytes) AdvanceMore)
+    → (before : List ℕ) → IsAfterBytes setting old before → FeedsReader setting new before bytes k AdvanceMore
 feeds_whole setting old new bytes k some steps before a = record {
   steps = steps before a some;
   undecided = λ other lt. let never : true ≡ false = other in cc;
@@ -133,22 +133,22 @@ module _ (under : Limits → Setting) (held handed : Limits) (reader : FormReade
       ap (reads (under handed)) (sym (take-append-drop k bytes)) ∙ told.0 (drop k bytes)
 
   -- more bytes decide, and there are none
-  pub whole_after : step ≡ AdvanceMore → k ≡ length bytes → IsAfter (under handed) reader bytes
+  pub whole_after : step ≡ AdvanceMore → k ≡ length bytes → IsAfterBytes (under handed) reader bytes
   whole_after e all =
       let told : Steps (under handed) reader (take k bytes) AdvanceMore = subst (λ (s : Advance). Steps (under handed) reader (take k bytes) s) e steps_now in
       let whole : take k bytes ≡ bytes = take_all k bytes (omega (arith, all)) in
-      subst (λ (t : List ℕ). IsAfter (under handed) reader t) whole told.0
+      subst (λ (t : List ℕ). IsAfterBytes (under handed) reader t) whole told.0
 
 -- what the end of the text gives under the limits that the reader holds, it gives under those that it was handed
 pub finished_whole : (under : Limits → Setting) (held handed : Limits) (reader : FormReader) (bytes : List ℕ) (result : Result ReadOutcome AllocError) → held ≡ handed
-    → IsAfter (under handed) reader bytes → ((text : List ℕ) → IsAfter (under held) reader text → IfOk result (λ outcome. IsOutcome outcome (reads (under held) text)))
+    → IsAfterBytes (under handed) reader bytes → ((text : List ℕ) → IsAfterBytes (under held) reader text → IfOk result (λ outcome. IsOutcome outcome (reads (under held) text)))
     → IfOk result (λ outcome. IsOutcome outcome (reads (under handed) bytes))
 finished_whole under held handed reader bytes result same after gives =
-    subst (λ (l : Limits). IsAfter (under l) reader bytes → IfOk result (λ outcome. IsOutcome outcome (reads (under l) bytes))) same (gives bytes) after
+    subst (λ (l : Limits). IsAfterBytes (under l) reader bytes → IfOk result (λ outcome. IsOutcome outcome (reads (under l) bytes))) same (gives bytes) after
 
 -- the same where the text has no byte
 pub finished_none : (under : Limits → Setting) (held handed : Limits) (reader : FormReader) (bytes : List ℕ) (result : Result ReadOutcome AllocError) → held ≡ handed → bytes ≡ []
-    → IsAfter (under handed) reader [] → ((text : List ℕ) → IsAfter (under held) reader text → IfOk result (λ outcome. IsOutcome outcome (reads (under held) text)))
+    → IsAfterBytes (under handed) reader [] → ((text : List ℕ) → IsAfterBytes (under held) reader text → IfOk result (λ outcome. IsOutcome outcome (reads (under held) text)))
     → IfOk result (λ outcome. IsOutcome outcome (reads (under handed) bytes))
 finished_none under held handed reader bytes result same none after gives =
     subst (λ (t : List ℕ). IfOk result (λ outcome. IsOutcome outcome (reads (under handed) t))) (sym none) (finished_whole under held handed reader [] result same after gives)

@@ -8,7 +8,7 @@ use Rattle.std.proofs.Math.ListN.{get_or-eq_default}
 use Rattle.readtable_core.specs.declared.characters.Syntax.{Syntax}
 use Rattle.readtable_core.specs.declared.characters.Syntax.TheVariants.{Whitespace, TerminatingMacro, NonTerminatingMacro, Invalid, Constituent, SingleEscape, MultipleEscape}
 use Rattle.readtable_core.specs.Tables.{Table, CharacterEntry, entry_at, no_entry}
-use Rattle.token_scan.specs.Scans.{first_scan, Scan}
+use Rattle.token_scan.specs.ByteByByte.{first_scan, Scan}
 use Rattle.lisp_reading.specs.declared.limits.Limits.{Limits}
 use Rattle.lisp_reading.specs.declared.found.Found.{Found}
 use Rattle.form_reader.specs.declared.stack.Frame.{Frame}
@@ -17,7 +17,7 @@ use Rattle.lisp_reading.specs.Plans.{Plan, refuses, takes, scans, then_plan, Rea
 use Rattle.lisp_reading.specs.Setting.{Setting}
 use Rattle.lisp_reading.specs.Reading.{Piece, closed, piece_of, or_closed, next_item_turn, stands_alone, alone, token_found, attempt_by, attempt, is_whitespace, without_space, told_found}
 use Rattle.form_reader.specs.Token.{token_read, FirstFeeds}
-use Rattle.form_reader.specs.Stack.{close_of, close_of_stack, attempt_in, next_item_in, call_in, outer_plan, between, token_goes_on}
+use Rattle.form_reader.specs.Stack.{close_of, close_of_stack, attempt_in, next_item_in, call_in, outer_plan, between_objects, token_goes_on}
 use Rattle.form_reader.specs.State.{attempt_at, inner_at, Brings, state_gives, Moves}
 use Rattle.lisp_reading.proofs.Turns.{loop_is, next_item_guarded}
 use Rattle.form_reader.proofs.Stacks.{then_moves, given_moves, given_fault, ends_in}
@@ -32,7 +32,7 @@ use Rattle.form_reader.specs.declared.token.FirstByte.{FirstByte}
 use Rattle.lisp_reading.specs.declared.told.Told.{Told}
 use Rattle.lisp_reading.specs.declared.told.TellError.{TellError}
 use Rattle.lisp_reading.specs.declared.told.TellError.TheVariants.{Refused as TellRefused}
-use Rattle.lisp_reading.specs.Naming.{told, told_meaning, TellsMeaning}
+use Rattle.lisp_reading.specs.Naming.{token_meant, told_meaning, TellsMeaning}
 use Rattle.token_meaning.specs.Meanings.{meaning_of}
 use Rattle.token_meaning.specs.Folding.{folded}
 use Rattle.readtable_core.specs.declared.table.Case.{Case}
@@ -59,7 +59,7 @@ module _ (setting : Setting) (at c : ℕ) (cs : List ℕ) where
   placed f fs = then_plan (attempt_in setting fs) (λ found. piece_of setting.table (next_item_in setting f fs) found)
 
   between_is : (f : Frame) (fs : List Frame) → at ≤ setting.limits.text
-      → run setting.table setting.limits (between setting (f ∷ fs)) at (c ∷ cs)
+      → run setting.table setting.limits (between_objects setting (f ∷ fs)) at (c ∷ cs)
       ≡ run setting.table setting.limits (outer_plan setting fs (then_plan (or_closed (close_of f.part) (placed f fs)) (λ p. call_in setting f fs p))) at (c ∷ cs)
   between_is f fs h =
       given_moves setting fs _ _ at at (c ∷ cs) (c ∷ cs) (then_moves setting.table setting.limits (next_item_in setting f fs)
@@ -69,22 +69,22 @@ module _ (setting : Setting) (at c : ℕ) (cs : List ℕ) where
 
   -- the closing character that is looked for ends the call
   pub closes : (f : Frame) (fs stack : List Frame) (close : ℕ) → stack ≡ f ∷ fs → close_of f.part ≡ Some close → (c == close) ≡ true → at < setting.limits.text
-      → run setting.table setting.limits (between setting stack) at (c ∷ cs) ≡ run setting.table setting.limits (outer_plan setting fs (call_in setting f fs closed)) (at + 1) cs
+      → run setting.table setting.limits (between_objects setting stack) at (c ∷ cs) ≡ run setting.table setting.limits (outer_plan setting fs (call_in setting f fs closed)) (at + 1) cs
   unfolding then_plan
   closes f fs stack close is e same lt =
       let call = λ (p : Piece). call_in setting f fs p in
-      ap (λ (stack : List Frame). run setting.table setting.limits (between setting stack) at (c ∷ cs)) is
+      ap (λ (stack : List Frame). run setting.table setting.limits (between_objects setting stack) at (c ∷ cs)) is
       ∙ between_is f fs (omega arith)
       ∙ given_moves setting fs (then_plan (or_closed (close_of f.part) (placed f fs)) call) (call closed) at (at + 1) (c ∷ cs) cs
       (ap (λ (o : Option ℕ). run setting.table setting.limits (then_plan (or_closed o (placed f fs)) call) at (c ∷ cs)) e
       ∙ takes_is setting.table setting.limits (then_plan (placed f fs) call) (λ d. d == close) (λ d. call closed) at c cs lt same)
 
   pub closes_over : (f : Frame) (fs stack : List Frame) (close : ℕ) → stack ≡ f ∷ fs → close_of f.part ≡ Some close → (c == close) ≡ true → at ≤ setting.limits.text → setting.limits.text ≤ at
-      → run setting.table setting.limits (between setting stack) at (c ∷ cs) ≡ fault FORM_TOO_LONG at
+      → run setting.table setting.limits (between_objects setting stack) at (c ∷ cs) ≡ fault FORM_TOO_LONG at
   unfolding then_plan
   closes_over f fs stack close is e same h le =
       let call = λ (p : Piece). call_in setting f fs p in
-      ap (λ (stack : List Frame). run setting.table setting.limits (between setting stack) at (c ∷ cs)) is
+      ap (λ (stack : List Frame). run setting.table setting.limits (between_objects setting stack) at (c ∷ cs)) is
       ∙ between_is f fs h
       ∙ given_fault setting fs (then_plan (or_closed (close_of f.part) (placed f fs)) call) at (c ∷ cs) (record { number = FORM_TOO_LONG; at = at })
       (ap (λ (o : Option ℕ). run setting.table setting.limits (then_plan (or_closed o (placed f fs)) call) at (c ∷ cs)) e
@@ -101,7 +101,7 @@ module _ (setting : Setting) (at c : ℕ) (cs : List ℕ) where
       passes_is setting.table setting.limits (then_plan (placed f fs) call) (λ d. d == close) (λ d. call closed) at c cs (other close refl)
 
   pub attempts : (stack : List Frame) → at ≤ setting.limits.text → ((close : ℕ) → close_of_stack stack ≡ Some close → (c == close) ≡ false)
-      → run setting.table setting.limits (between setting stack) at (c ∷ cs) ≡ run setting.table setting.limits (outer_plan setting stack (attempt_at setting (length stack))) at (c ∷ cs)
+      → run setting.table setting.limits (between_objects setting stack) at (c ∷ cs) ≡ run setting.table setting.limits (outer_plan setting stack (attempt_at setting (length stack))) at (c ∷ cs)
   unfolding outer_plan
   attempts [] h other = let e : setting.limits.nesting ≡ setting.limits.nesting - 0 = omega arith in ap (λ (n : ℕ). run setting.table setting.limits (attempt setting n) at (c ∷ cs)) e
   attempts (f ∷ fs) h other =
@@ -220,24 +220,24 @@ first_told table limits at cs read fed known e h = subst (λ (f : FirstByte). Fi
 
 -- the number of its refusal
 pub refused_told : (setting : Setting) (letters : Case) (marks : List Mark) (e : TellError) (code : ℕ) → letters ≡ setting.table.letters → e ≡ TellRefused code
-    → TellsMeaning (Err e) (told_meaning setting.packages setting.current (meaning_of setting.base (folded letters marks))) → told setting marks ≡ Err code
+    → TellsMeaning (Err e) (told_meaning setting.packages setting.current (meaning_of setting.base (folded letters marks))) → token_meant setting marks ≡ Err code
 refused_told setting letters marks e code same is tells =
-    subst (λ (e : TellError). TellsMeaning (Err e) (told setting marks)) is
+    subst (λ (e : TellError). TellsMeaning (Err e) (token_meant setting marks)) is
     (subst (λ (letters : Case). TellsMeaning (Err e) (told_meaning setting.packages setting.current (meaning_of setting.base (folded letters marks)))) same tells)
 
 module _ (setting : Setting) (stack : List Frame) (at : ℕ) (cs : List ℕ) where
   abbrev comes : Plan Found → Read Found
   comes plan = run setting.table setting.limits (outer_plan setting stack plan) at cs
 
-  some_marks : (marks : List Mark) → 0 < length marks → token_found setting marks ≡ told_found (told setting marks)
+  some_marks : (marks : List Mark) → 0 < length marks → token_found setting marks ≡ told_found (token_meant setting marks)
   some_marks [] some = absurd (omega (arith, some))
   some_marks (m ∷ ms) some = refl
 
-  pub token_told : (marks : List Mark) (answer : Result Told ℕ) → 0 < length marks → told setting marks ≡ answer
+  pub token_told : (marks : List Mark) (answer : Result Told ℕ) → 0 < length marks → token_meant setting marks ≡ answer
       → comes (token_found setting marks) ≡ comes (told_found answer)
   token_told marks answer some same = ap comes (some_marks marks some ∙ ap told_found same)
 
-  pub token_fails : (marks : List Mark) (code : ℕ) → 0 < length marks → told setting marks ≡ Err code → comes (token_found setting marks) ≡ fault code at
+  pub token_fails : (marks : List Mark) (code : ℕ) → 0 < length marks → token_meant setting marks ≡ Err code → comes (token_found setting marks) ≡ fault code at
   token_fails marks code some same =
       token_told marks (Err code) some same ∙ given_refused setting stack at cs code 0
       ∙ (let e : at - 0 ≡ at = omega arith in ap (λ (n : ℕ). fault code n) e)
@@ -246,19 +246,19 @@ module _ (setting : Setting) (stack : List Frame) (at : ℕ) (cs : List ℕ) whe
 
 module _ (setting : Setting) (stack : List Frame) (at c : ℕ) (cs : List ℕ) where
   abbrev after : Read Found
-  after = run setting.table setting.limits (without_space setting.table true (between setting stack)) at (c ∷ cs)
+  after = run setting.table setting.limits (without_space setting.table true (between_objects setting stack)) at (c ∷ cs)
 
-  pub space_taken : at < setting.limits.text → is_whitespace setting.table c ≡ true → after ≡ run setting.table setting.limits (between setting stack) (at + 1) cs
-  space_taken lt e = takes_is setting.table setting.limits (between setting stack) (is_whitespace setting.table) (λ c. between setting stack) at c cs lt e
+  pub space_taken : at < setting.limits.text → is_whitespace setting.table c ≡ true → after ≡ run setting.table setting.limits (between_objects setting stack) (at + 1) cs
+  space_taken lt e = takes_is setting.table setting.limits (between_objects setting stack) (is_whitespace setting.table) (λ c. between_objects setting stack) at c cs lt e
 
   pub space_over : setting.limits.text ≤ at → is_whitespace setting.table c ≡ true → after ≡ fault FORM_TOO_LONG at
-  space_over le e = takes_over setting.table setting.limits (between setting stack) (is_whitespace setting.table) (λ c. between setting stack) at c cs le e
+  space_over le e = takes_over setting.table setting.limits (between_objects setting stack) (is_whitespace setting.table) (λ c. between_objects setting stack) at c cs le e
 
-  pub no_space_there : is_whitespace setting.table c ≡ false → after ≡ run setting.table setting.limits (between setting stack) at (c ∷ cs)
-  no_space_there e = passes_is setting.table setting.limits (between setting stack) (is_whitespace setting.table) (λ c. between setting stack) at c cs e
+  pub no_space_there : is_whitespace setting.table c ≡ false → after ≡ run setting.table setting.limits (between_objects setting stack) at (c ∷ cs)
+  no_space_there e = passes_is setting.table setting.limits (between_objects setting stack) (is_whitespace setting.table) (λ c. between_objects setting stack) at c cs e
 
   pub space_passed : (after_it : List Frame) (result : Result Event AllocError) → is_whitespace setting.table c ≡ false
-      → IfOk result (λ event. Brings setting after_it (at + 1) cs event (run setting.table setting.limits (between setting stack) at (c ∷ cs)))
+      → IfOk result (λ event. Brings setting after_it (at + 1) cs event (run setting.table setting.limits (between_objects setting stack) at (c ∷ cs)))
       → IfOk result (λ event. Brings setting after_it (at + 1) cs event after)
   space_passed after_it result e brings = subst (λ (r : Read Found). IfOk result (λ event. Brings setting after_it (at + 1) cs event r)) (sym (no_space_there e)) brings
 
@@ -266,7 +266,7 @@ module _ (setting : Setting) (stack : List Frame) (at c : ℕ) (cs : List ℕ) w
 
 module _ (setting : Setting) (at c : ℕ) (cs : List ℕ) where
   abbrev waiting : List Frame → Read Found
-  waiting stack = run setting.table setting.limits (between setting stack) at (c ∷ cs)
+  waiting stack = run setting.table setting.limits (between_objects setting stack) at (c ∷ cs)
 
   pub object_over : (f : Frame) (fs stack : List Frame) → stack ≡ f ∷ fs → close_of f.part ≡ Some c → at ≤ setting.limits.text → setting.limits.text ≤ at
       → waiting stack ≡ fault FORM_TOO_LONG at

@@ -21,7 +21,7 @@ use Rattle.form_reader.specs.Step.{Passes, outcome_of, rest_of_attempt, verdict_
 use Rattle.form_reader.specs.State.{state_gives, Brings}
 use Rattle.lisp_reading.specs.Setting.{Setting}
 use Rattle.lisp_reading.specs.Reading.{form, refused, reads, Outcome, empty, reads_at}
-use Rattle.form_reader.specs.Reader.{fed, begun, IsNew, IsAfter, IsAfterIn, Steps, Becomes, IsBetween, LeavesBetween}
+use Rattle.form_reader.specs.Reader.{fed, begun, IsNew, IsAfterBytes, IsAfterIn, Steps, Becomes, IsBetween, LeavesBetween}
 use Rattle.form_reader.proofs.Deciding.{may_go_on, decide_nothing}
 use Rattle.lisp_reading.proofs.Forms.{reads_is, stood}
 use Rattle.form_reader.specs.declared.state.Event.{Event}
@@ -34,7 +34,7 @@ pub new_rest : (setting : Setting) (stack : List Frame) → stack ≡ [] → (cs
 unfolding reads
 new_rest setting stack none cs = reads_is setting 0 cs ∙ ap (λ (fs : List Frame). rest_of_attempt setting fs AtObject 0 0 cs) (sym none)
 
-pub new_after : (setting : Setting) (reader : FormReader) → IsNew reader → IsAfter setting reader []
+pub new_after : (setting : Setting) (reader : FormReader) → IsNew reader → IsAfterBytes setting reader []
 new_after setting reader n =
     subst (λ (s : ReaderState). IsAfterIn setting reader s []) (sym n.state)
     (omega (arith, n.start, n.at), λ cs. new_rest setting reader.stack n.stack cs ∙ (λ i. rest_of_attempt setting reader.stack AtObject (sym n.start i) (sym n.at i) cs))
@@ -84,7 +84,7 @@ begins_from setting start (Ok (lone_dot, at, cs)) x from «end» next e = cc
 begins_from setting start (Ok (the_end, at, cs)) x from «end» next e = cc
 begins_from setting start (Err f) x from «end» next e = cc
 
-pub begun_first : (setting : Setting) (reader : FormReader) (bytes more : List ℕ) (x : Object) (start «end» next : ℕ) → IsAfter setting reader bytes
+pub begun_first : (setting : Setting) (reader : FormReader) (bytes more : List ℕ) (x : Object) (start «end» next : ℕ) → IsAfterBytes setting reader bytes
     → reads setting (bytes ++ more) ≡ form x start «end» next → begun reader ≤ start
 begun_first setting reader bytes more x start «end» next after e = by reader.state after
   where
@@ -96,7 +96,7 @@ begun_first setting reader bytes more x start «end» next after e = by reader.s
 
 -- ---- the end
 
-pub refused_finishes : (setting : Setting) (reader : FormReader) (bytes : List ℕ) (code offset : ℕ) → reader.state ≡ Refused code offset → IsAfter setting reader bytes
+pub refused_finishes : (setting : Setting) (reader : FormReader) (bytes : List ℕ) (code offset : ℕ) → reader.state ≡ Refused code offset → IsAfterBytes setting reader bytes
     → reads setting bytes ≡ refused code offset
 refused_finishes setting reader bytes code offset e a =
     let here : IsAfterIn setting reader (Refused code offset) bytes = subst (λ (s : ReaderState). IsAfterIn setting reader s bytes) e a in
@@ -153,18 +153,18 @@ ok_change change known e = cc
 
 -- ---- what is read where a reader is between forms
 
-between_rest : (setting : Setting) (reader : FormReader) (bytes more : List ℕ) → IsAfter setting reader bytes → IsBetween reader
+between_rest : (setting : Setting) (reader : FormReader) (bytes more : List ℕ) → IsAfterBytes setting reader bytes → IsBetween reader
     → reads setting (bytes ++ more) ≡ rest_of_attempt setting [] AtObject (length bytes) 0 more
 between_rest setting reader bytes more after between =
     let here : IsAfterIn setting reader (Open AtObject) bytes = subst (λ (s : ReaderState). IsAfterIn setting reader s bytes) between.state after in
     let start : reader.start ≡ length bytes = omega (arith, here.0, between.at) in
     here.1 more ∙ (λ i. rest_of_attempt setting (between.stack i) AtObject (start i) (between.at i) more)
 
-pub between_reads : (setting : Setting) (reader : FormReader) (bytes more : List ℕ) → IsAfter setting reader bytes → IsBetween reader
+pub between_reads : (setting : Setting) (reader : FormReader) (bytes more : List ℕ) → IsAfterBytes setting reader bytes → IsBetween reader
     → reads setting (bytes ++ more) ≡ reads_at setting (length bytes) more
 between_reads setting reader bytes more after between = between_rest setting reader bytes more after between ∙ sym (reads_is setting (length bytes) more)
 
-pub between_empty : (setting : Setting) (reader : FormReader) (bytes : List ℕ) → IsAfter setting reader bytes → IsBetween reader → reads setting bytes ≡ empty
+pub between_empty : (setting : Setting) (reader : FormReader) (bytes : List ℕ) → IsAfterBytes setting reader bytes → IsBetween reader → reads setting bytes ≡ empty
 between_empty setting reader bytes after between =
     ap (reads setting) (sym (append-nil bytes)) ∙ between_rest setting reader bytes [] after between
     ∙ ap (outcome_of setting (length bytes)) (none_waits setting [] 0 (omega arith) refl).0

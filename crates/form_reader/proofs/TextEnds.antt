@@ -10,7 +10,7 @@ use Rattle.lisp_object.specs.declared.refusal.TheConstants.{END_OF_FILE, DOT_CON
 use Rattle.readtable_core.specs.Tables.{Table}
 use Rattle.package_table.specs.declared.error.PackageError.{PackageError}
 use Rattle.package_table.specs.declared.error.PackageError.TheVariants.{NoPackage, NotExternal, LockedPackage}
-use Rattle.package_table.specs.Errors.{package_error_number}
+use Rattle.package_table.specs.ErrorNumbers.{package_error_number}
 use Rattle.package_table.specs.Lookup.{found, external_home}
 use Rattle.package_table.specs.Resolving.{Resolution, found_at, new_in, resolution, external_resolution, internal_resolution}
 use Rattle.package_table.specs.Table.{Name, Table as Packages, common_lisp, package_named}
@@ -19,7 +19,7 @@ use Rattle.token_scan.specs.declared.refusal.ScanRefusal.TheVariants.{EndOfFile}
 use Rattle.token_scan.specs.declared.stage.Stage.{Stage as ScanStage}
 use Rattle.token_scan.specs.declared.stage.Stage.TheVariants.{Outside, Inside, EscapedOutside, EscapedInside, Refused as ScanRefused}
 use Rattle.token_scan.specs.Tokens.{outside, with_front}
-use Rattle.token_scan.specs.Scans.{from_stage}
+use Rattle.token_scan.specs.ByteByByte.{from_stage}
 use Rattle.token_meaning.specs.declared.refusal.MeaningRefusal.{MeaningRefusal}
 use Rattle.token_meaning.specs.declared.refusal.MeaningRefusal.TheVariants.{DotsOnly, FloatToken, NumberRange, ZeroDenominator, PackageMarkers}
 use Rattle.token_meaning.specs.declared.token.TokenName.{TokenName}
@@ -44,14 +44,14 @@ use Rattle.lisp_reading.specs.declared.told.Told.TheVariants.{Object as told_obj
 use Rattle.lisp_reading.specs.declared.way.Function.{Function}
 use Rattle.lisp_reading.specs.declared.way.Function.TheVariants.{Standard as AStandard, User}
 use Rattle.lisp_reading.specs.Plans.{Plan, gives, refuses, then_plan, next_byte, Read, run}
-use Rattle.lisp_reading.specs.Calls.{InvokedCall, keep_of}
+use Rattle.lisp_reading.specs.InvokedCalls.{InvokedCall, keep_of}
 use Rattle.lisp_reading.specs.Setting.{Setting, macro_call}
 use Rattle.lisp_reading.specs.Gathering.{text_turn, line_turn, block_turn, number_turn}
-use Rattle.lisp_reading.specs.Naming.{symbol_in, symbol_at, named, told_meaning, told}
+use Rattle.lisp_reading.specs.Naming.{symbol_in, symbol_at, named, told_meaning, token_meant}
 use Rattle.lisp_reading.specs.Answering.{may_be_answered}
 use Rattle.form_reader.specs.Token.{is_going}
-use Rattle.form_reader.specs.Stack.{next_item_in, part_gives, call_in, outer_plan, between, token_goes_on}
-use Rattle.lisp_reading.specs.Reading.{Piece, item, dot, closed, is_whitespace, without_space, piece_of, or_closed, next_item_turn, next_item, Items, items_step, items_turn, items_after, undotted, after_tail, after_dot, list_end, bytes_back, finished, plan_after_answer, completed_by, completed, text_to, line_after, block_after, number_after, sub_there, dispatched, told_found, token_found, attempt, Outcome, form, empty, refused}
+use Rattle.form_reader.specs.Stack.{next_item_in, part_gives, call_in, outer_plan, between_objects, token_goes_on}
+use Rattle.lisp_reading.specs.Reading.{Piece, item, dot, closed, is_whitespace, without_space, piece_of, or_closed, next_item_turn, next_item, Items, items_step, items_turn, items_after, undotted, after_tail, after_dot, list_end, bytes_back, finished, plan_after_answer, completed_by, completed, text_to, line_after, block_after, number_after, sub_there, dispatch_plan, told_found, token_found, attempt, Outcome, form, empty, refused}
 use Rattle.form_reader.specs.State.{IsStateAt, inner_at, state_gives}
 use Rattle.form_reader.specs.Step.{outcome_of}
 use Rattle.form_reader.proofs.Tokens.{cut, refused_cut}
@@ -160,7 +160,7 @@ told_found_at_end (Err code) h = refuses_at_end Whatever code 0 h
 token_at_end : (setting : Setting) (marks : List Mark) → AtEnd Whatever (token_found setting marks)
 token_at_end setting [] = gives_at_end Whatever the_end tt
 token_at_end setting (m ∷ ms) =
-    told_found_at_end (told setting (m ∷ ms)) (told_blames setting.packages setting.current (meaning_of setting.base (folded setting.table.letters (m ∷ ms))))
+    told_found_at_end (token_meant setting (m ∷ ms)) (told_blames setting.packages setting.current (meaning_of setting.base (folded setting.table.letters (m ∷ ms))))
 
 -- ---- where an object may begin
 
@@ -247,7 +247,7 @@ module _ (setting : Setting) where
       (then_at_end Whatever Whatever plan (λ found. piece_of setting.table (next_item_in setting f fs) found) h (λ found none. found_at_end f fs found))
       (λ p none. part_at_end setting (length fs) _ f.call f.part p))
 
-  between_at_end : (stack : List Frame) → AtEnd Whatever (between setting stack)
+  between_at_end : (stack : List Frame) → AtEnd Whatever (between_objects setting stack)
   unfolding AtEnd
   between_at_end [] = tt
   between_at_end (f ∷ fs) =
@@ -278,7 +278,7 @@ module _ (setting : Setting) where
     token_last on (ScanRefused refusal) marks left all going = cc
 
     pub state_last : (state : State) → IsStateAt at state → LastRead Whatever (state_gives setting stack state at [])
-    state_last AtObject h = run_at_end Whatever setting.table setting.limits at le (between setting stack) (between_at_end stack)
+    state_last AtObject h = run_at_end Whatever setting.table setting.limits at le (between_objects setting stack) (between_at_end stack)
     state_last (AtToken scan) h = token_last (token_found setting) scan.stage scan.marks scan.left (token_at_end setting) h
     state_last (AtCallToken call scan) h =
         token_last (λ marks. completed setting (length stack) call true false (marked marks)) scan.stage scan.marks scan.left
@@ -294,7 +294,7 @@ module _ (setting : Setting) where
     state_last (AtBlock call levels) h =
         never (block_after setting levels) _ (loop_at_end Never setting.limits block_turn levels (λ more. next_byte_at_end Never _))
     state_last (AtNumber c argument) h =
-        last (dispatched setting (length stack) (inner_at setting (length stack)) c argument)
+        last (dispatch_plan setting (length stack) (inner_at setting (length stack)) c argument)
         (then_at_end Whatever Whatever (number_after setting argument) (sub_there setting (length stack) (inner_at setting (length stack)) c)
         (loop_at_end Whatever setting.limits number_turn argument (λ more. takes_at_end Whatever (gives argument) _ _ (gives_at_end Whatever argument tt)))
         (λ n none. next_byte_at_end Whatever _))

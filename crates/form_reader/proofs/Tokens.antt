@@ -11,7 +11,7 @@ use Rattle.token_scan.specs.declared.refusal.ScanRefusal.TheVariants.{EndOfFile,
 use Rattle.token_scan.specs.declared.scan.FedByte.{FedByte}
 use Rattle.token_scan.specs.declared.scan.FedByte.TheVariants.{More, Ended, Refused as FedRefused}
 use Rattle.token_scan.specs.Tokens.{TypedByte, met, Scanned, typed, typed_text, in_bytes, kind, is_character, fault_of_scan as token_fault, with_front, outside, inside}
-use Rattle.token_scan.specs.Scans.{Scan, token_from, fed_gives, from_stage}
+use Rattle.token_scan.specs.ByteByByte.{Scan, token_from, fed_gives, from_stage}
 use Rattle.token_scan.proofs.Standing.{bytes_typed}
 use Rattle.token_scan.proofs.Forwards.{forwards}
 use Rattle.token_meaning.specs.Results.{scan_refusal_number}

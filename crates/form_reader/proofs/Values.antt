@@ -13,12 +13,12 @@ use Rattle.form_reader.specs.declared.stack.Frame.{Frame}
 use Rattle.form_reader.specs.declared.stack.Part.{Part}
 use Rattle.form_reader.specs.declared.stack.Part.TheVariants.{Next as InNext, List as InList, Until as InUntil, Dotted as InDotted, Tailed as InTailed}
 use Rattle.lisp_reading.specs.Plans.{Plan, gives, refuses, then_plan, Read, fault, run}
-use Rattle.lisp_reading.specs.Calls.{InvokedCall}
+use Rattle.lisp_reading.specs.InvokedCalls.{InvokedCall}
 use Rattle.lisp_reading.specs.Setting.{Setting}
 use Rattle.lisp_reading.specs.Reading.{next_item, without_space, items_after, undotted, after_tail, list_end, completed}
 use Rattle.form_reader.specs.Call.{plan_of}
 use Rattle.form_reader.specs.Value.{AttemptTakes, Shortens, Returns}
-use Rattle.form_reader.specs.Stack.{attempt_in, next_item_in, call_in, outer_plan, between, next_item_gives, with_object, with_dot, with_found, calls_with, is_next, is_waiting, plan_gives}
+use Rattle.form_reader.specs.Stack.{attempt_in, next_item_in, call_in, outer_plan, between_objects, next_item_gives, with_object, with_dot, with_found, calls_with, is_next, is_waiting, plan_gives}
 use Rattle.form_reader.proofs.Stacks.{space_given, list_is, until_is}
 use Rattle.lisp_reading.proofs.Turns.{space_same}
 use Rattle.form_reader.proofs.Dispatches.{given_refused}
@@ -47,7 +47,7 @@ module _ (setting : Setting) (stack : List Frame) (call : InvokedCall) (at : ℕ
   returned part found = run setting.table setting.limits (outer_plan setting (framed_by call part ∷ stack) (gives found)) at cs
 
   abbrev waiting : Bool → Part → Read Found
-  waiting token part = run setting.table setting.limits (without_space setting.table token (between setting (framed_by call part ∷ stack))) at cs
+  waiting token part = run setting.table setting.limits (without_space setting.table token (between_objects setting (framed_by call part ∷ stack))) at cs
 
   -- only discarded text
   pub nothing_stays : (token : Bool) (part : Part) → returned part (nothing token) ≡ waiting token part
@@ -117,7 +117,7 @@ module _ (setting : Setting) (stack : List Frame) (call : InvokedCall) (at : ℕ
   one_in_list token xs ys x h e =
       space_given setting stack token (items_after setting 41 (attempt_in setting stack) (xs ++ x ∷ []))
       (list_end setting (attempt_in setting stack) (λ m. completed setting (length stack) call false false m)) at cs
-      ∙ space_moves setting token _ (between setting (framed_by call (InList (xs ++ x ∷ [])) ∷ stack)) at cs h
+      ∙ space_moves setting token _ (between_objects setting (framed_by call (InList (xs ++ x ∷ [])) ∷ stack)) at cs h
       (λ at2 cs2 le. list_is setting stack call (xs ++ x ∷ []) at2 cs2 le)
       ∙ ap (λ (ys : List Object). waiting token (InList ys)) (sym e)
 
@@ -127,7 +127,7 @@ module _ (setting : Setting) (stack : List Frame) (call : InvokedCall) (at : ℕ
   one_in_until token close xs ys x h e =
       space_given setting stack token (items_after setting close (attempt_in setting stack) (xs ++ x ∷ []))
       (undotted (λ m. completed setting (length stack) call false false m)) at cs
-      ∙ space_moves setting token _ (between setting (framed_by call (InUntil close (xs ++ x ∷ [])) ∷ stack)) at cs h
+      ∙ space_moves setting token _ (between_objects setting (framed_by call (InUntil close (xs ++ x ∷ [])) ∷ stack)) at cs h
       (λ at2 cs2 le. until_is setting stack call close (xs ++ x ∷ []) at2 cs2 le)
       ∙ ap (λ (ys : List Object). waiting token (InUntil close ys)) (sym e)
 

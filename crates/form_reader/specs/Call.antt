@@ -22,6 +22,6 @@ value_lookahead (Gives found) = lookahead found
 value_lookahead (Refused number back) = 0
 
 -- a call comes to this in these open calls
-abbrev pub ComesTo : Setting → List Frame → CallValue → ℕ → List ℕ → Event → Type 0
-ComesTo setting stack completed at cs event =
+abbrev pub CallComesTo : Setting → List Frame → CallValue → ℕ → List ℕ → Event → Type 0
+CallComesTo setting stack completed at cs event =
     Brings setting stack at cs event (plan_gives setting stack (plan_of completed) at cs)

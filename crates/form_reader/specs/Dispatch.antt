@@ -6,9 +6,9 @@ use Rattle.form_reader.specs.declared.stack.Frame.{Frame}
 use Rattle.form_reader.specs.declared.stack.Part.{Part}
 use Rattle.form_reader.specs.declared.stack.Part.TheVariants.{Next as InNext, List as InList, Until as InUntil, Dotted as InDotted, Tailed as InTailed}
 use Rattle.form_reader.specs.declared.state.Event.{Event}
-use Rattle.lisp_reading.specs.Calls.{InvokedCall}
+use Rattle.lisp_reading.specs.InvokedCalls.{InvokedCall}
 use Rattle.lisp_reading.specs.Setting.{Setting}
-use Rattle.lisp_reading.specs.Reading.{gathered, called}
+use Rattle.lisp_reading.specs.Reading.{gathering_plan, called}
 use Rattle.form_reader.specs.Stack.{plan_gives}
 use Rattle.form_reader.specs.State.{inner_at, Brings}
 
@@ -35,4 +35,4 @@ CallBegins setting after stack call at cs event =
 -- it gathers in this way
 abbrev pub CallGathers : Setting → List Frame → List Frame → InvokedCall → Way → ℕ → List ℕ → Event → Type 0
 CallGathers setting after stack call way at cs event =
-    Brings setting after at cs event (plan_gives setting stack (gathered setting (length stack) (inner_at setting (length stack)) call way) at cs)
+    Brings setting after at cs event (plan_gives setting stack (gathering_plan setting (length stack) (inner_at setting (length stack)) call way) at cs)

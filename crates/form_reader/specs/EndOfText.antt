@@ -1,7 +1,7 @@
 -- What the end of the text is to a token and to a call.
 use Rattle.std.specs.Prelude.{ℕ, ◌≡◌, ◌≤◌, [], Ok, Option, Some, None}
 use Rattle.readtable_core.specs.Tables.{Table}
-use Rattle.token_scan.specs.Scans.{Scan}
+use Rattle.token_scan.specs.ByteByByte.{Scan}
 use Rattle.token_scan.specs.declared.stage.Stage.TheVariants.{Outside}
 use Rattle.lisp_reading.specs.declared.limits.Limits.{Limits}
 use Rattle.form_reader.specs.declared.state.Event.{Event}

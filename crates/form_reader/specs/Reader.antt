@@ -41,8 +41,8 @@ abbrev pub IsOpenReader : FormReader → Type 0
 IsOpenReader reader = (state : State) × (reader.state ≡ Open state)
 
 -- it ran out of memory
-abbrev pub HasNoMemory : FormReader → Type 0
-HasNoMemory reader = reader.state ≡ OutOfMemory
+abbrev pub RanOutOfMemory : FormReader → Type 0
+RanOutOfMemory reader = reader.state ≡ OutOfMemory
 
 -- The outcome of a text that more bytes may change: it is empty, a form to the end of the text, or a refusal there.
 abbrev pub MayGoOn : List ℕ → Outcome → Type 0
@@ -83,8 +83,8 @@ IsAfterIn setting reader (Open state) bytes =
 IsAfterIn setting reader (Refused number offset) bytes = (cs : List ℕ) → reads setting (bytes ++ cs) ≡ refused number offset
 IsAfterIn setting reader OutOfMemory bytes = ⊥
 
-abbrev pub IsAfter : Setting → FormReader → List ℕ → Type 0
-IsAfter setting reader bytes = IsAfterIn setting reader reader.state bytes
+abbrev pub IsAfterBytes : Setting → FormReader → List ℕ → Type 0
+IsAfterBytes setting reader bytes = IsAfterIn setting reader reader.state bytes
 
 -- What a step answers, after which these bytes were fed: the reader is after them, and they decide nothing alone; or they begin
 -- with a form, or are refused, whatever follows them. Where the form's next is the number of bytes, the last byte was taken;
@@ -92,10 +92,10 @@ IsAfter setting reader bytes = IsAfterIn setting reader reader.state bytes
 -- to it then.
 abbrev pub Steps : Setting → FormReader → List ℕ → Advance → Type 0
 Steps setting reader bytes AdvanceMore =
-    IsAfter setting reader bytes × (fed reader ≡ length bytes) × MayGoOn bytes (reads setting bytes) × DecideNothing setting bytes
+    IsAfterBytes setting reader bytes × (fed reader ≡ length bytes) × MayGoOn bytes (reads setting bytes) × DecideNothing setting bytes
 Steps setting reader bytes (AdvanceForm datum start «end» next) =
     ((cs : List ℕ) → reads setting (bytes ++ cs) ≡ form (object_of datum) start «end» next)
-    × (is_proper datum ≡ true) × (next ≤ length bytes) × (length bytes ≤ next + 1) × IsNew reader × ((later : Setting) → IsAfter later reader [])
+    × (is_proper datum ≡ true) × (next ≤ length bytes) × (length bytes ≤ next + 1) × IsNew reader × ((later : Setting) → IsAfterBytes later reader [])
 Steps setting reader bytes (AdvanceRefused number offset) =
     ((cs : List ℕ) → reads setting (bytes ++ cs) ≡ refused number offset) × HasRefused reader number offset
 
@@ -153,10 +153,10 @@ RefusesFrom setting bytes from (ReadRefused number offset) = decided_from settin
 RefusesFrom setting bytes from _ = Unit {0}
 
 -- how many bytes it was fed after a step: one more, or as many as before where it refuses; after a form none
-abbrev pub Counts : FormReader → FormReader → Advance → Type 0
-Counts old new AdvanceMore = fed new ≡ fed old + 1
-Counts old new (AdvanceForm datum start «end» next) = fed new ≡ 0
-Counts old new (AdvanceRefused number offset) = fed new ≡ fed old
+abbrev pub CountsFedBytes : FormReader → FormReader → Advance → Type 0
+CountsFedBytes old new AdvanceMore = fed new ≡ fed old + 1
+CountsFedBytes old new (AdvanceForm datum start «end» next) = fed new ≡ 0
+CountsFedBytes old new (AdvanceRefused number offset) = fed new ≡ fed old
 
 -- of a form, the object is sound
 abbrev pub IsSoundStep : Advance → Type 0
@@ -187,7 +187,7 @@ pub record FeedsReader (setting : Setting) (reader : FormReader) (before bytes :
 
 -- how many bytes it was fed after so many steps, the last of which answers this, and where what is open then began: of a form, its
 -- object
-abbrev pub Advances : FormReader → FormReader → ℕ → Advance → Type 0
-Advances old new count AdvanceMore = (fed new ≡ fed old + count) × (begun old ≤ begun new) × (begun new ≤ fed new)
-Advances old new count (AdvanceForm datum start «end» next) = (fed new ≡ 0) × (begun old ≤ start) × (begun new ≡ 0)
-Advances old new count (AdvanceRefused number offset) = begun old ≤ begun new
+abbrev pub AdvancesFed : FormReader → FormReader → ℕ → Advance → Type 0
+AdvancesFed old new count AdvanceMore = (fed new ≡ fed old + count) × (begun old ≤ begun new) × (begun new ≤ fed new)
+AdvancesFed old new count (AdvanceForm datum start «end» next) = (fed new ≡ 0) × (begun old ≤ start) × (begun new ≡ 0)
+AdvancesFed old new count (AdvanceRefused number offset) = begun old ≤ begun new

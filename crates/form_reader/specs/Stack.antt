@@ -10,7 +10,7 @@ use Rattle.form_reader.specs.declared.stack.Frame.{Frame}
 use Rattle.form_reader.specs.declared.stack.Part.{Part}
 use Rattle.form_reader.specs.declared.stack.Part.TheVariants.{Next as InNext, List as InList, Until as InUntil, Dotted as InDotted, Tailed as InTailed}
 use Rattle.lisp_reading.specs.Plans.{Plan, then_plan, Read, run}
-use Rattle.lisp_reading.specs.Calls.{InvokedCall}
+use Rattle.lisp_reading.specs.InvokedCalls.{InvokedCall}
 use Rattle.lisp_reading.specs.Setting.{Setting}
 use Rattle.lisp_reading.specs.Reading.{Piece, piece_of, next_item, items_step, items_after, undotted, after_tail, after_dot, list_end, one_piece, completed, attempt, without_space}
 
@@ -105,9 +105,9 @@ outer_plan setting (f ∷ fs) plan =
     outer_plan setting fs (then_plan (then_plan plan (λ found. piece_of setting.table (next_item_in setting f fs) found)) (λ p. call_in setting f fs p))
 
 -- the same where an object may begin
-abbrev pub between : Setting → List Frame → Plan Found
-between setting [] = attempt setting setting.limits.nesting
-between setting (f ∷ fs) = outer_plan setting fs (then_plan (next_item_in setting f fs) (λ p. call_in setting f fs p))
+abbrev pub between_objects : Setting → List Frame → Plan Found
+between_objects setting [] = attempt setting setting.limits.nesting
+between_objects setting (f ∷ fs) = outer_plan setting fs (then_plan (next_item_in setting f fs) (λ p. call_in setting f fs p))
 
 -- ---- what is given on a text
 
@@ -117,7 +117,7 @@ plan_gives setting stack plan at cs = run setting.table setting.limits (outer_pl
 
 -- where an object may begin: where a token ended before it, one whitespace character is discarded first
 abbrev pub next_item_gives : Setting → Bool → List Frame → ℕ → List ℕ → Read Found
-next_item_gives setting token stack at cs = run setting.table setting.limits (without_space setting.table token (between setting stack)) at cs
+next_item_gives setting token stack at cs = run setting.table setting.limits (without_space setting.table token (between_objects setting stack)) at cs
 
 -- ---- a token, whose bytes are not kept: what is given where it has come to this
 

@@ -7,14 +7,14 @@ use Rattle.form_reader.specs.declared.state.State.{State}
 use Rattle.form_reader.specs.declared.state.State.TheVariants.{Object as AtObject, Token as AtToken, CallToken as AtCallToken, Text as AtText, Escaped as AtEscaped, Line as AtLine, Block as AtBlock, Number as AtNumber}
 use Rattle.form_reader.specs.declared.state.Event.{Event}
 use Rattle.form_reader.specs.declared.state.Event.TheVariants.{Open as IsAt, Gives as IsGiven, Refused as IsRefused}
-use Rattle.lisp_reading.specs.Calls.{keep_of}
+use Rattle.lisp_reading.specs.InvokedCalls.{keep_of}
 use Rattle.form_reader.specs.declared.state.Moved.{Moved}
 use Rattle.form_reader.specs.declared.state.Moved.TheVariants.{After as AfterByte, Before as BeforeByte}
 use Rattle.lisp_reading.specs.Plans.{Plan, gives, then_plan, next_byte, Read, fault, run}
 use Rattle.lisp_reading.specs.Setting.{Setting}
-use Rattle.lisp_reading.specs.Reading.{text_to, line_after, block_after, dispatched, completed, token_found, attempt, inner}
+use Rattle.lisp_reading.specs.Reading.{text_to, line_after, block_after, dispatch_plan, completed, token_found, attempt, inner}
 use Rattle.form_reader.specs.Token.{is_going, token_read}
-use Rattle.form_reader.specs.Stack.{between, plan_gives, token_goes_on}
+use Rattle.form_reader.specs.Stack.{between_objects, plan_gives, token_goes_on}
 use Rattle.lisp_reading.specs.declared.limits.Limits.{Limits}
 use Rattle.form_reader.specs.declared.reader.ReaderState.{ReaderState}
 use Rattle.form_reader.specs.declared.reader.ReaderState.TheVariants.{Open, Refused, OutOfMemory}
@@ -30,7 +30,7 @@ inner_at setting open_calls = inner setting (setting.limits.nesting - open_calls
 
 -- what the outermost attempt comes to, at an offset counted from where it began
 abbrev pub state_gives : Setting → List Frame → State → ℕ → List ℕ → Read Found
-state_gives setting stack AtObject at cs = run setting.table setting.limits (between setting stack) at cs
+state_gives setting stack AtObject at cs = run setting.table setting.limits (between_objects setting stack) at cs
 state_gives setting stack (AtToken scan) at cs =
     token_goes_on setting stack (token_found setting) (token_read setting.table setting.limits scan at cs)
 state_gives setting stack (AtCallToken call scan) at cs =
@@ -49,7 +49,7 @@ state_gives setting stack (AtBlock call levels) at cs =
     plan_gives setting stack (then_plan (block_after setting levels)
     (λ u. completed setting (length stack) call false false no_material)) at cs
 state_gives setting stack (AtNumber c number) at cs =
-    plan_gives setting stack (dispatched setting (length stack) (inner_at setting (length stack)) c number) at cs
+    plan_gives setting stack (dispatch_plan setting (length stack) (inner_at setting (length stack)) c number) at cs
 
 -- What holds of where it is, at this offset: a token is not refused, and each block inside a block took a byte.
 abbrev pub IsStateAt : ℕ → State → Type 0

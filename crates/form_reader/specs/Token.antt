@@ -6,7 +6,7 @@ use Rattle.token_scan.specs.declared.mark.Mark.{Mark}
 use Rattle.token_scan.specs.declared.refusal.ScanRefusal.{ScanRefusal}
 use Rattle.token_scan.specs.declared.refusal.ScanRefusal.TheVariants.{EndOfFile, InvalidCharacter, InvalidTrait, TokenTooLong}
 use Rattle.token_scan.specs.Tokens.{in_bytes, typed_text}
-use Rattle.token_scan.specs.Scans.{Scan, token_from}
+use Rattle.token_scan.specs.ByteByByte.{Scan, token_from}
 use Rattle.token_scan.specs.declared.stage.Stage.{Stage as ScanStage}
 use Rattle.token_scan.specs.declared.stage.Stage.TheVariants.{Refused as ScanRefused}
 use Rattle.form_reader.specs.declared.gather.LineByte.{LineByte}

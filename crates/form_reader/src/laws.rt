@@ -3,7 +3,7 @@ ghost use Rattle.std.specs.Prelude.{◌≡◌, ◌≤◌, ◌++◌, ℕ, List, l
 ghost use Rattle.lisp_object.specs.Object.{Object};
 ghost use Rattle.form_reader.specs.declared.reader.FormReader.{FormReader};
 ghost use Rattle.form_reader.specs.declared.reader.Advance.TheVariants.{More};
-ghost use Rattle.form_reader.specs.Reader.{IsAfter, IsBetween, Steps};
+ghost use Rattle.form_reader.specs.Reader.{IsAfterBytes, IsBetween, Steps};
 ghost use Rattle.lisp_reading.specs.Setting.{Setting};
 ghost use Rattle.lisp_reading.specs.Reading.{Outcome, form, empty, outcome, reads_at, reads};
 
@@ -18,9 +18,9 @@ pub fn what_is_decided_is_answered()
 /// there.
 pub fn texts_begin_between_forms()
     ensures discarded { (setting : Setting) (reader : FormReader) (bytes : List ℕ)
-        → IsAfter setting reader bytes → IsBetween reader → reads setting bytes ≡ empty }
+        → IsAfterBytes setting reader bytes → IsBetween reader → reads setting bytes ≡ empty }
     ensures begins { (setting : Setting) (reader : FormReader) (bytes more : List ℕ)
-        → IsAfter setting reader bytes → IsBetween reader
+        → IsAfterBytes setting reader bytes → IsBetween reader
         → reads setting (bytes ++ more) ≡ reads_at setting (length bytes) more }
 {}
 

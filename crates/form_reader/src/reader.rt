@@ -71,14 +71,14 @@ impl FormReader {
     ghost use Rattle.form_reader.specs.declared.reader.Advance.TheVariants.{More as AdvanceMore, Refused as AdvanceRefused};
     ghost use Rattle.form_reader.specs.declared.reader.ReadOutcome.TheVariants.{Empty as ReadEmpty, Refused as ReadRefused};
     ghost use Rattle.form_reader.specs.Step.{BeginsFrom, IsReadyChange};
-    ghost use Rattle.form_reader.specs.Reader.{limits_of, fed, begun, HasRefused, HasNoMemory, IsNew, IsBetween, LeavesBetween, IsAfter, Steps, Counts, BeginsLater, HasBegun, StepsBegun, RefusesFrom, IsSoundStep, Becomes, IsOutcome};
+    ghost use Rattle.form_reader.specs.Reader.{limits_of, fed, begun, HasRefused, RanOutOfMemory, IsNew, IsBetween, LeavesBetween, IsAfterBytes, Steps, CountsFedBytes, BeginsLater, HasBegun, StepsBegun, RefusesFrom, IsSoundStep, Becomes, IsOutcome};
 
     /// A reader that was fed nothing, between forms. It keeps `alloc` for what it gathers.
     pub fn new(alloc: Global, limits: Limits) -> FormReader
         ensures new { IsNew result }
         ensures limits { limits_of result ≡ limits }
         ensures begun { begun result ≡ 0 }
-        ensures after { (setting : Setting) → IsAfter setting result [] }
+        ensures after { (setting : Setting) → IsAfterBytes setting result [] }
         ensures between { IsBetween result }
         ensures has_begun { (setting : Setting) → HasBegun setting result [] }
     {
@@ -98,7 +98,7 @@ impl FormReader {
         ensures value { result ≡ begun self.now }
         ensures within { result ≤ fed self.now }
         ensures form { (setting : Setting) (bytes more : List ℕ) (x : Object) (start end next : ℕ)
-            → IsAfter setting self.now bytes → reads setting (bytes ++ more) ≡ form x start end next → result ≤ start }
+            → IsAfterBytes setting self.now bytes → reads setting (bytes ++ more) ≡ form x start end next → result ≤ start }
     {
         let FormReader { start, .. } = self;
         *start
@@ -124,7 +124,7 @@ impl FormReader {
         requires count { fed self.old < 2 ^ 63 }
 
         // What the byte comes to is what the whole text comes to: a form, a refusal, or that more bytes decide.
-        ensures steps { (bytes : List ℕ) → IsAfter
+        ensures steps { (bytes : List ℕ) → IsAfterBytes
             (setting_of (limits_of self.old) readtable.now base packages.now.0 current.now
             (R.functions macros.now))
             self.old bytes → IfOk result (Steps
@@ -133,9 +133,9 @@ impl FormReader {
             self.new (bytes ++ byte ∷ [])) }
         ensures limits { limits_of self.new ≡ limits_of self.old }
 
-        // How many bytes the reader has, and from where on they are still needed.
+        // It counts the byte unless it refuses it, and what is open began no earlier than before; a form that it gives is sound.
         ensures fed { fed self.new ≤ fed self.old + 1 }
-        ensures counts { IfOk result (Counts self.old self.new) }
+        ensures counts { IfOk result (CountsFedBytes self.old self.new) }
         ensures begun { IfOk result (BeginsLater self.old self.new) }
         ensures sound { IfOk result IsSoundStep }
 
@@ -143,11 +143,11 @@ impl FormReader {
         ensures refused { (number offset : ℕ) → HasRefused self.old number offset
             → (result ≡ Ok (AdvanceRefused number offset)) × HasRefused self.new number offset }
         ensures unchanged { (number offset : ℕ) → HasRefused self.old number offset → self.new ≡ self.old }
-        ensures memory { OnErr result (HasNoMemory self.new) }
-        ensures spent { HasNoMemory self.old → IsErr result }
+        ensures memory { OnErr result (RanOutOfMemory self.new) }
+        ensures spent { RanOutOfMemory self.old → IsErr result }
         ensures stays { (number offset : ℕ)
             → (HasRefused self.old number offset → fed self.new ≡ fed self.old)
-            × (HasNoMemory self.old → fed self.new ≡ fed self.old) }
+            × (RanOutOfMemory self.old → fed self.new ≡ fed self.old) }
 
         // Between forms whitespace leaves the reader there.
         ensures between { IsBetween self.old → is_whitespace readtable.now byte ≡ true
@@ -156,8 +156,8 @@ impl FormReader {
         ensures nothing_open { result ≡ Ok AdvanceMore
             → begun self.new ≡ fed self.new → IsBetween self.new }
 
-        // Where the form that is open began.
-        ensures has_begun { (bytes : List ℕ) → IsAfter
+        // If it knew where the form began that is open, it still does.
+        ensures has_begun { (bytes : List ℕ) → IsAfterBytes
             (setting_of (limits_of self.old) readtable.now base packages.now.0 current.now
             (R.functions macros.now))
             self.old bytes → HasBegun
@@ -247,10 +247,10 @@ impl FormReader {
         // After a refusal, and after it ran out of memory, it answers the same again.
         ensures refused { (number offset : ℕ) → HasRefused self number offset
             → result ≡ Ok (ReadRefused number offset) }
-        ensures spent { HasNoMemory self → IsErr result }
+        ensures spent { RanOutOfMemory self → IsErr result }
 
         // The outcome is that of the whole text.
-        ensures outcome { (bytes : List ℕ) → IsAfter
+        ensures outcome { (bytes : List ℕ) → IsAfterBytes
             (setting_of (limits_of self) readtable.now base packages.now.0 current.now
             (R.functions macros.now))
             self bytes → IfOk result (λ outcome. IsOutcome outcome (reads

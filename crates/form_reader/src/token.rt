@@ -2,7 +2,7 @@
 ghost use Rattle.std.specs.Prelude.{◌≡◌, ◌≤◌, ◌<◌, ℕ, List, ◌∷◌, IfOk, IsTrue, IsFalse, Ok, nat_lt, if◌then◌else◌, ◌+◌, length, true, false};
 ghost use Rattle.token_scan.specs.Tokens.{kind, typed};
 ghost use Rattle.token_scan.specs.Spelling.{ends_tokens};
-ghost use Rattle.token_scan.specs.Scans.{Scan, first_scan, has_begun};
+ghost use Rattle.token_scan.specs.ByteByByte.{Scan, first_scan, has_begun};
 ghost use Rattle.form_reader.specs.Token.{TokenFeeds, is_going, token_read, BegunFeeds, FirstFeeds, IsBegunByte, refused_number};
 ghost use Rattle.form_reader.specs.declared.gather.LineByte.TheVariants.{Ended as LineEnded, More as LineMore};
 ghost use Rattle.form_reader.specs.declared.token.BegunByte.TheVariants.{More as BegunMore};
@@ -42,7 +42,7 @@ pub struct BegunScan {
 
 impl Model for BegunScan {
     ghost use Rattle.std.specs.Prelude.{IsTrue};
-    ghost use Rattle.token_scan.specs.Scans.{Scan, has_begun};
+    ghost use Rattle.token_scan.specs.ByteByByte.{Scan, has_begun};
 
     ghost Value = { Scan };
 

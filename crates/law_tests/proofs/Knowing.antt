@@ -6,7 +6,7 @@ use Rattle.form_reader.specs.Reader.{IsOutcome}
 use Rattle.lisp_object.specs.Datum.{object_of}
 use Rattle.lisp_object.specs.Object.{Object}
 use Rattle.lisp_object.specs.declared.refusal.TheConstants.{END_OF_FILE, OUT_OF_PROFILE}
-use Rattle.lisp_reading.specs.Discarding.{IsDiscarded}
+use Rattle.lisp_reading.specs.DiscardedText.{IsDiscarded}
 use Rattle.lisp_reading.specs.Reading.{empty, form, reads, reads_at, refused}
 use Rattle.lisp_reading.specs.Setting.{Setting}
 use Rattle.law_tests.specs.Known.{IsFormThere, IsKnownOutcome}

@@ -6,7 +6,7 @@ use Rattle.lisp_object.specs.Datum.{object_of}
 use Rattle.lisp_object.specs.Object.{Object, object_depth}
 use Rattle.lisp_object.specs.declared.refusal.TheConstants.{END_OF_FILE, OUT_OF_PROFILE}
 use Rattle.lisp_reading.specs.Deciding.{decided_from}
-use Rattle.lisp_reading.specs.Discarding.{IsDiscarded}
+use Rattle.lisp_reading.specs.DiscardedText.{IsDiscarded}
 use Rattle.lisp_reading.specs.Reading.{form, reads}
 use Rattle.lisp_reading.specs.Setting.{Setting}
 

@@ -9,7 +9,7 @@ ghost use Rattle.lisp_operators.specs.Evaluated.{IsArgument, done};
 ghost use Rattle.lisp_operators.specs.Evaluation.{Done, also};
 ghost use Rattle.lisp_operators.specs.Readtables.{AreCovered, AreFunctionNames};
 ghost use Rattle.package_table.specs.Growth.{Grows};
-ghost use Rattle.plist_state.specs.Sound.{IsSound};
+ghost use Rattle.plist_state.specs.Sound.{IsSoundWorldState};
 
 use evaluator::evaluate;
 use evaluator::laws::{
@@ -83,7 +83,7 @@ fn evaluated(
 ) -> Result<Evaluated, EvaluationError>
     requires names { AreFunctionNames names.now }
     requires form { IsArgument world.old.0.packages form.now }
-    ensures sound { IfOk result (λ _. IsSound world.new.0 × Grows world.old.0.packages world.new.0.packages) }
+    ensures sound { IfOk result (λ _. IsSoundWorldState world.new.0 × Grows world.old.0.packages world.new.0.packages) }
     ensures covered { IfOk result (λ _. AreCovered names.now world.old.0.readtables
         → AreCovered names.now world.new.0.readtables) }
     ensures silent { IfOk result (λ e. e.wrote ≡ false → world.new.0 ≡ world.old.0) }

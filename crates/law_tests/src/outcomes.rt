@@ -1,7 +1,7 @@
 //! What the laws of reading say of what was read.
 ghost use Rattle.std.specs.Prelude.{◌≡◌, ◌≤◌, ◌<◌, ◌^◌, ◌∷◌, ◌++◌, [], ℕ, List, IfOk, IsTrue, Ok, length};
-ghost use Rattle.form_reader.specs.Reader.{IsAfter, IsBetween, IsOutcome, fed, limits_of};
-ghost use Rattle.lisp_reading.specs.Depending.{FindsSame};
+ghost use Rattle.form_reader.specs.Reader.{IsAfterBytes, IsBetween, IsOutcome, fed, limits_of};
+ghost use Rattle.lisp_reading.specs.SamePackages.{FindsSame};
 ghost use Rattle.lisp_reading.specs.Reading.{Outcome, attempt, empty, outcome, reads, reads_at};
 ghost use Rattle.lisp_reading.specs.Plans.{run};
 ghost use Rattle.lisp_reading.specs.Setting.{setting_of};
@@ -94,13 +94,13 @@ fn step_alone<R: MacroFunctions>(
     requires highest_base { base ≤ 36 }
     requires current { IsPackage packages.now.0 current.now }
     requires count { fed reader.old < 2 ^ 63 }
-    ensures undecided { (bytes : List ℕ) (whole : Outcome) → IsAfter
+    ensures undecided { (bytes : List ℕ) (whole : Outcome) → IsAfterBytes
         (setting_of (limits_of reader.old) readtable.now base packages.now.0 current.now (R.functions macros.now))
         reader.old bytes → result ≡ Ok Advance.More
         → ((more : List ℕ) → reads
         (setting_of (limits_of reader.old) readtable.now base packages.now.0 current.now (R.functions macros.now))
         ((bytes ++ byte ∷ []) ++ more) ≡ whole) → ⊥ }
-    ensures begins { (bytes more : List ℕ) → IsAfter
+    ensures begins { (bytes more : List ℕ) → IsAfterBytes
         (setting_of (limits_of reader.old) readtable.now base packages.now.0 current.now (R.functions macros.now))
         reader.old bytes → IsBetween reader.old
         → (reads

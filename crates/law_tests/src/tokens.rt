@@ -6,9 +6,9 @@ ghost use Rattle.package_table.specs.Table.{Finds, IsPresent};
 ghost use Rattle.token_meaning.specs.Grammar.{IsDigits, IsInteger};
 ghost use Rattle.token_meaning.specs.Meanings.{is_unescaped, number_or_name};
 ghost use Rattle.token_meaning.specs.Numbers.{integer_of, is_point};
-ghost use Rattle.token_meaning.specs.Results.{Gives, view_number};
+ghost use Rattle.token_meaning.specs.Results.{AnswersMeaning, view_number};
 ghost use Rattle.token_scan.specs.Marks.{are_ascii, characters};
-ghost use Rattle.token_scan.specs.Scans.{token_from};
+ghost use Rattle.token_scan.specs.ByteByByte.{token_from};
 ghost use Rattle.token_scan.specs.Spelling.{Spells, SpellsEscaped, Splits};
 ghost use Rattle.token_scan.specs.Tokens.{TypedByte};
 
@@ -66,7 +66,7 @@ fn meaning_of_token(alloc: Global, marks: &[Mark], base: u8) -> Result<TokenMean
     requires marks { 0 < length marks.now }
     ensures { (negative : Bool) (size : ℕ) → list_all is_unescaped marks.now ≡ true
         → list_all is_point (characters marks.now) ≡ false → IsInteger base (characters marks.now) negative size
-        → Gives result (number_or_name (Some (integer_of negative size)) marks.now) }
+        → AnswersMeaning result (number_or_name (Some (integer_of negative size)) marks.now) }
 {
     numbers_are_concatenations();
     meaning(alloc, marks, base)

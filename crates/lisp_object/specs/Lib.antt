@@ -1,6 +1,6 @@
 pub mod Ascii
 pub mod Datum
-mod Kept
+mod ByteStorage
 pub mod Lowest
 pub mod Object
 pub mod ObjectCode

@@ -5,7 +5,7 @@ ghost use Rattle.std.proofs.Common.{rules};
 ghost use Rattle.std.specs.Cmp.Lexicographic.{pointwise};
 ghost use Rattle.std.specs.Cmp.Rules.{comparing};
 ghost use Rattle.lisp_object.specs.Ascii.{is_ascii};
-ghost use Rattle.lisp_object.specs.Kept.{bytes_in};
+ghost use Rattle.lisp_object.specs.ByteStorage.{bytes_in};
 
 use crate::short_bytes::ShortBytes;
 use std::alloc::{AllocError, Global};
@@ -39,7 +39,7 @@ enum Kept {
 
 impl Model for Bytes {
     ghost use Rattle.std.specs.Prelude.{List, ℕ};
-    ghost use Rattle.lisp_object.specs.Kept.{bytes_in};
+    ghost use Rattle.lisp_object.specs.ByteStorage.{bytes_in};
 
     ghost Value = { List ℕ };
 

@@ -68,7 +68,8 @@ impl Datum {
     pub fn into_list(self) -> Result<(Items<Datum>, Option<Boxed<Datum>>), Datum>
         ensures list { IfOk result (λ parts. self ≡ Datum.List parts.0 parts.1) }
         ensures same { IfErr result (λ same. same ≡ self) }
-        ensures other { IfErr result (λ _. (items : List Datum) (tail : Option Datum) → self ≢ Datum.List items tail) }
+        ensures other { IfErr result (λ _. (items : List Datum) (tail : Option Datum)
+            → self ≢ Datum.List items tail) }
     {
         match self {
             Datum::List { items, tail } => Ok((items, tail)),

@@ -11,6 +11,12 @@
 //!   list in each vector.
 //! - `refusal` has the numbers that calls refuse with, and their names.
 //!
+//! # Modules
+//!
+//! - `datum`: `Datum`, and the functions that make one; `list`: lists of items; `ratio`: `Ratio`, in lowest terms
+//! - `copy`, `depth`, `size`, `proper`: what is asked of data, each in a file of its name
+//! - `bytes`, `items`, `boxed`: the fields of a datum, each seen as what it holds; `short_bytes`: few bytes, in the value itself
+//!
 //! # Words for the crates above
 //!
 //! - specs/Object.antt: `Object`, `nil`, `pairs`, `list_of`; `object_is_list`, `is_proper_list`; `IsSound`; `AllAtoms P` and

@@ -21,7 +21,8 @@ impl Datum {
             → IfOk result (λ d. d ≡ unwrap_or tail (Datum.Symbol (codes "COMMON-LISP") (codes "NIL"))) }
         ensures list_tail { 0 < length items.items → (more : List Datum) (end : Option Datum)
             → tail ≡ Some (Datum.List more end) → IfOk result (λ d. d ≡ Datum.List (items.items ++ more) end) }
-        ensures nil_tail { 0 < length items.items → tail ≡ Some (Datum.Symbol (codes "COMMON-LISP") (codes "NIL"))
+        ensures nil_tail { 0 < length items.items
+            → tail ≡ Some (Datum.Symbol (codes "COMMON-LISP") (codes "NIL"))
             → IfOk result (λ d. d ≡ Datum.List items.items None) }
         ensures other_tail { 0 < length items.items → option_map_or is_list tail false ≡ false
             → IfOk result (λ d. d ≡ Datum.List items.items tail) }

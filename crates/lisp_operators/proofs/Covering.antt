@@ -11,10 +11,10 @@ use Rattle.std.specs.FinMap.{get-insert}
 use Rattle.std.proofs.lemmas.Bool.{and_parts, and_from}
 use Rattle.readtable_core.specs.declared.table.Case.{Case}
 use Rattle.readtable_core.specs.Names.{is_among, is_standard, is_dispatch_name}
-use Rattle.readtable_core.specs.Named.{functions_of}
+use Rattle.readtable_core.specs.NamedFunctions.{functions_of}
 use Rattle.readtable_core.specs.Tables as readtable
 use Rattle.readtable_core.specs.Tables.{entry_at}
-use Rattle.readtable_core.specs.Changes.{with_entry, macro_entry, dispatching_entry, with_function, dispatch_refusal}
+use Rattle.readtable_core.specs.Changes.{with_character_entry, macro_entry, dispatching_entry, with_function, dispatch_refusal}
 use Rattle.readtable_core.proofs.Named.{named_after, named_at, named_with_function}
 use Rattle.user_macros.specs.Registry.{is_covered}
 use Rattle.package_table.specs.Table.{Name, name_cmp}
@@ -22,7 +22,7 @@ use Rattle.package_table.proofs.Names.{name_total}
 use Rattle.plist_state.specs.declared.error.ReadtableError.{ReadtableError}
 use Rattle.plist_state.specs.declared.error.ReadtableError.TheVariants.{NoReadtable, StandardReadtable, Limit}
 use Rattle.plist_state.specs.State.{Readtables, WorldState, standard_name}
-use Rattle.plist_state.specs.Changes.{put_changed, with_changed, changed_readtable as changed_readtables, with_case, with_macro, with_dispatching, dispatched, refused_as, with_dispatch, with_syntax, with_copy}
+use Rattle.plist_state.specs.Changes.{put_changed, with_changed, changed_readtable as changed_readtables, with_case, with_macro, with_dispatching, with_sub_function, refused_as, with_dispatch, with_syntax, with_copy}
 use Rattle.lisp_operators.specs.Readtables.{AreCovered, is_function}
 use Rattle.lisp_operators.proofs.KeepingOperators as keeping
 use Rattle.lisp_operators.proofs.KeepingOperators.{Changes}
@@ -82,27 +82,27 @@ module _ (names : List Name) where
 
     macro_leaves : (c : ℕ) (f : Name) (non_terminating : Bool) → is_function names f ≡ true → Leaves m (with_macro m n c f non_terminating)
     macro_leaves c f non_terminating is =
-        changed_leaves (λ t. Ok (with_entry t c (macro_entry f non_terminating))) (λ all table good. named_after (is_covered names) table c (macro_entry f non_terminating) good (and_from (is_covered names f) true (may_be_named f is) refl))
+        changed_leaves (λ t. Ok (with_character_entry t c (macro_entry f non_terminating))) (λ all table good. named_after (is_covered names) table c (macro_entry f non_terminating) good (and_from (is_covered names f) true (may_be_named f is) refl))
 
     dispatching_leaves : (c : ℕ) (non_terminating : Bool) → Leaves m (with_dispatching m n c non_terminating)
-    dispatching_leaves c non_terminating = changed_leaves (λ t. Ok (with_entry t c (dispatching_entry non_terminating))) (λ all table good. named_after (is_covered names) table c (dispatching_entry non_terminating) good refl)
+    dispatching_leaves c non_terminating = changed_leaves (λ t. Ok (with_character_entry t c (dispatching_entry non_terminating))) (λ all table good. named_after (is_covered names) table c (dispatching_entry non_terminating) good refl)
 
-    dispatched_good : (c sub : ℕ) (f : Name) → is_covered names f ≡ true → (table : readtable.Table) → Good table → GoodAfter (dispatched table c sub f)
+    dispatched_good : (c sub : ℕ) (f : Name) → is_covered names f ≡ true → (table : readtable.Table) → Good table → GoodAfter (with_sub_function table c sub f)
     dispatched_good c sub f is table good =
-        elim (dispatch_refusal table c sub) as (λ o. GoodAfter (option_map_or (λ r. Err (refused_as r)) o (Ok (with_entry table c (with_function (entry_at table c) sub f))))) [
+        elim (dispatch_refusal table c sub) as (λ o. GoodAfter (option_map_or (λ r. Err (refused_as r)) o (Ok (with_character_entry table c (with_function (entry_at table c) sub f))))) [
           | Some refusal ↦ tt
           | None ↦ named_after (is_covered names) table c (with_function (entry_at table c) sub f) good (named_with_function (is_covered names) (entry_at table c) sub f (named_at (is_covered names) table c good) is)
         ]
 
     dispatch_leaves : (c sub : ℕ) (f : Name) → is_function names f ≡ true → Leaves m (with_dispatch m n c sub f)
-    dispatch_leaves c sub f is = changed_leaves (λ t. dispatched t c sub f) (λ all. dispatched_good c sub f (may_be_named f is))
+    dispatch_leaves c sub f is = changed_leaves (λ t. with_sub_function t c sub f) (λ all. dispatched_good c sub f (may_be_named f is))
 
     syntax_leaves : (c : ℕ) (o : Name) (d : ℕ) → Leaves m (with_syntax m n c o d)
     syntax_leaves c o d = from (finite.get m o) refl where
-      from : (found : Option readtable.Table) → finite.get m o ≡ found → Leaves m (option_map_or (λ z. changed_readtables m n (λ t. Ok (with_entry t c (entry_at z d)))) found (Err NoReadtable))
+      from : (found : Option readtable.Table) → finite.get m o ≡ found → Leaves m (option_map_or (λ z. changed_readtables m n (λ t. Ok (with_character_entry t c (entry_at z d)))) found (Err NoReadtable))
       from None there = tt
       from (Some z) there =
-          changed_leaves (λ t. Ok (with_entry t c (entry_at z d))) (λ all table good. named_after (is_covered names) table c (entry_at z d) good (named_at (is_covered names) z d (all o z there)))
+          changed_leaves (λ t. Ok (with_character_entry t c (entry_at z d))) (λ all table good. named_after (is_covered names) table c (entry_at z d) good (named_at (is_covered names) z d (all o z there)))
 
   copy_leaves : (m : Readtables) (o n : Name) → Leaves m (with_copy m o n)
   copy_leaves m o n = from (finite.get m o) refl where

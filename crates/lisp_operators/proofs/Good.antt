@@ -7,11 +7,11 @@ use Rattle.package_table.specs.Table as packages
 use Rattle.package_table.specs.Growth.{Grows}
 use Rattle.package_table.proofs.Growing.{grows_same, grows_both}
 use Rattle.plist_state.specs.State.{WorldState}
-use Rattle.plist_state.specs.Sound.{IsSound}
+use Rattle.plist_state.specs.Sound.{IsSoundWorldState}
 use Rattle.lisp_operators.specs.Evaluation.{Evaluation, Done, also, and_then, of_kind}
 
 pub record IsGood {A : Type 0} (P : packages.Table → A → Type 0) (s : WorldState) (d : Done A) : Type 0 where
-  pub sound : IsSound d.state
+  pub sound : IsSoundWorldState d.state
   pub grows : Grows s.packages d.state.packages
   pub value : P d.state.packages d.value
 
@@ -23,10 +23,10 @@ pub record Goods {A : Type 0} (P : packages.Table → A → Type 0) (s : WorldSt
   pub good : GoodWhere P s o
 
 module _ {A : Type 0} (P : packages.Table → A → Type 0) (s : WorldState) where
-  pub goods_here : (x : A) (wrote : Bool) → IsSound s → P s.packages x → Goods P s (Ok (record { value = x; state = s; wrote = wrote }))
+  pub goods_here : (x : A) (wrote : Bool) → IsSoundWorldState s → P s.packages x → Goods P s (Ok (record { value = x; state = s; wrote = wrote }))
   goods_here x wrote sound fits = record { good = record { sound = sound; grows = grows_same s.packages; value = fits } }
 
-  pub goods_state : (x : A) (t : WorldState) (wrote : Bool) → IsSound t → Grows s.packages t.packages → P t.packages x → Goods P s (Ok (record { value = x; state = t; wrote = wrote }))
+  pub goods_state : (x : A) (t : WorldState) (wrote : Bool) → IsSoundWorldState t → Grows s.packages t.packages → P t.packages x → Goods P s (Ok (record { value = x; state = t; wrote = wrote }))
   goods_state x t wrote sound grows fits = record { good = record { sound = sound; grows = grows; value = fits } }
 
   pub goods_also : (wrote : Bool) (t : WorldState) (o : Evaluation A) → Grows s.packages t.packages → Goods P t o → Goods P s (also wrote o)
@@ -46,7 +46,7 @@ module _ {A : Type 0} (P : packages.Table → A → Type 0) (s : WorldState) whe
   goods_option None on other each none = none
 
 pub goods_then : {A B : Type 0} (P : packages.Table → A → Type 0) (Q : packages.Table → B → Type 0) (s : WorldState) (o : Evaluation A) (next : A → WorldState → Evaluation B)
-    → Goods P s o → ((x : A) (t : WorldState) → IsSound t → Grows s.packages t.packages → P t.packages x → Goods Q t (next x t)) → Goods Q s (and_then o next)
+    → Goods P s o → ((x : A) (t : WorldState) → IsSoundWorldState t → Grows s.packages t.packages → P t.packages x → Goods Q t (next x t)) → Goods Q s (and_then o next)
 goods_then P Q s (Ok d) next before after =
     goods_also Q s d.wrote d.state (next d.value d.state) before.good.grows (after d.value d.state before.good.sound before.good.grows before.good.value)
 goods_then P Q s (Err code) next before after = record { good = tt }

@@ -10,7 +10,7 @@ use Rattle.lisp_object.specs.Datum.{object_of}
 use Rattle.lisp_object.specs.declared.refusal.TheConstants.{NO_SUCH_PACKAGE, PACKAGE_IS_LOCKED, NOT_ACCESSIBLE}
 use Rattle.package_table.specs.declared.error.PackageError.{PackageError}
 use Rattle.package_table.specs.declared.error.PackageError.TheVariants.{NoPackage, NotExternal, LockedPackage, EmptyName, NoSuchPackage, PackageExists, PackageIsLocked, NameConflict, NotAccessible, Limit, OutOfMemory as NoRoom}
-use Rattle.package_table.specs.Errors.{package_error_number}
+use Rattle.package_table.specs.ErrorNumbers.{package_error_number}
 use Rattle.package_table.specs.Table.{Name, Table, keyword, is_locked, package_named}
 use Rattle.package_table.specs.Changes.{finds_this}
 use Rattle.plist_state.specs.Properties.{Symbol}
@@ -23,7 +23,7 @@ use Rattle.lisp_operators.specs.Kinds.{a_symbol, a_name, one_or_each, given_or}
 use Rattle.lisp_operators.specs.Evaluation.{Evaluation, of_kind}
 use Rattle.lisp_operators.specs.Properties.{t}
 use Rattle.lisp_operators.specs.Packages.{export, import, use_package, use_all, in_package, unlocked, changed, after_exports, after_imports, after_uses, packages_named}
-use Rattle.lisp_operators.specs.Evaluated.{Answers, Makes, TellsPackageChange, done}
+use Rattle.lisp_operators.specs.Evaluated.{Answers, MakesPackages, TellsPackageChange, done}
 
 -- the first argument is of its kind, and the package is there
 opened : {A : Type 0} (on : A → Name → Evaluation Object) (s : WorldState) (rest : List Object) (o : Option A) (ys : A) (q p : Name) → o ≡ Some ys → given_or a_name s.current_package rest ≡ Some q → package_named s.packages q ≡ Some p
@@ -81,7 +81,7 @@ module _ (o : Evaluation Object) (s u : WorldState) (said : Result (Table × Boo
   ran_out : (error : EvaluationError) → error ≡ NoMemory → Answers done (Err error) u o
   ran_out error is = subst (λ (k : EvaluationError). Answers done (Err k) u o) (sym is) tt
 
-  pub told : (made : Result Bool PackageError) (r : Result Evaluated EvaluationError) → Makes made u.packages said → TellsPackageChange made r → Answers done r u o
+  pub told : (made : Result Bool PackageError) (r : Result Evaluated EvaluationError) → MakesPackages made u.packages said → TellsPackageChange made r → Answers done r u o
   told (Ok wrote) (Ok e) h tells = whole ∙ ap (changed s) h ∙ tells_value s u u.packages wrote e tells.0 tells.1 left
   told (Ok wrote) (Err error) h tells = ran_out error tells
   told (Err NoRoom) (Err error) h tells = ran_out error tells

@@ -20,7 +20,7 @@ use Rattle.package_table.proofs.Names.{name_total}
 use Rattle.plist_state.specs.Properties.{Symbol, Plist, value_at}
 use Rattle.plist_state.specs.State.{WorldState}
 use Rattle.plist_state.specs.Changes.{property}
-use Rattle.plist_state.specs.Sound.{IsSymbol, IsValue, IsSound}
+use Rattle.plist_state.specs.Sound.{IsSymbol, IsValue, IsSoundWorldState}
 use Rattle.lisp_operators.specs.declared.look_ups.LookUp.{LookUp}
 use Rattle.lisp_operators.specs.declared.look_ups.LookUp.TheVariants.{FindSymbol, ListAllPackages, SymbolsWith}
 use Rattle.lisp_operators.specs.Evaluation.{Evaluation}
@@ -52,7 +52,7 @@ look_up_silent SymbolsWith (x ∷ rest) s =
     list_silent (map (symbol p) (names_with s i p)) s)))
 
 -- ---- what they give may be stored
-found_value : (s : WorldState) (p n : Name) → IsSound s → IsValue s.packages (symbol_or_nil n (found s.packages p n))
+found_value : (s : WorldState) (p n : Name) → IsSoundWorldState s → IsValue s.packages (symbol_or_nil n (found s.packages p n))
 found_value s p n sound =
     elim (found s.packages p n) as (λ o. found s.packages p n ≡ o → IsValue s.packages (symbol_or_nil n o)) [
       | Some h ↦ λ e. symbol_is_value s.packages h n sound.packages (present_at_home s.packages p n h sound.packages.joined (found_finds s.packages n p h e))
@@ -63,14 +63,14 @@ pub package_there : (s : WorldState) → All (IsPackage s.packages) (package_nam
 package_there s =
     All-from_any (eq_by_cmp_equiv name_total) (IsPackage s.packages) (package_names s.packages) (λ q any. contains_key-keys s.packages q ∙ any)
 
-names_values : (s : WorldState) → IsSound s → AreValues s.packages (map text (package_names s.packages))
+names_values : (s : WorldState) → IsSoundWorldState s → AreValues s.packages (map text (package_names s.packages))
 names_values s sound =
     All-map (IsValue s.packages) text (package_names s.packages)
     (All-weaker (IsPackage s.packages) (λ p. IsValue s.packages (text p))
     (λ p there. text_value s.packages p (sound.packages.within.package_names p there).ascii) (package_names s.packages) (package_there s))
 
 -- a symbol that has a property is there
-pub owner_there : (s : WorldState) (x i : Symbol) → IsSound s → is_some (property s x i) ≡ true → IsSymbol s.packages x
+pub owner_there : (s : WorldState) (x i : Symbol) → IsSoundWorldState s → is_some (property s x i) ≡ true → IsSymbol s.packages x
 owner_there s x i sound has = sound.symbols x (has_list has)
   where
     has_list : is_some (property s x i) ≡ true → IsTrue (finite.contains_key s.properties x)
@@ -80,7 +80,7 @@ owner_there s x i sound has = sound.symbols x (has_list has)
           | Some ps ↦ λ _. refl
         ] some
 
-owners_values : (s : WorldState) (i : Symbol) (p : Name) → IsSound s → AreValues s.packages (map (symbol p) (names_with s i p))
+owners_values : (s : WorldState) (i : Symbol) (p : Name) → IsSoundWorldState s → AreValues s.packages (map (symbol p) (names_with s i p))
 owners_values s i p sound =
     All-map (IsValue s.packages) (symbol p) (names_with s i p)
     (All-weaker (λ n. is_some (property s (p, n) i) ≡ true) (λ n. IsValue s.packages (symbol p n))

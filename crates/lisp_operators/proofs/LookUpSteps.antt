@@ -22,7 +22,7 @@ use Rattle.package_table.specs.Resolving.{found_at, new_in, resolution}
 use Rattle.plist_state.specs.Properties.{Symbol}
 use Rattle.plist_state.specs.State.{WorldState}
 use Rattle.plist_state.specs.Changes.{property}
-use Rattle.plist_state.specs.Sound.{IsSound}
+use Rattle.plist_state.specs.Sound.{IsSoundWorldState}
 use Rattle.lisp_operators.specs.Evaluated.{IsAscii}
 use Rattle.lisp_operators.proofs.LookUpLaws.{owner_there, package_there}
 use Rattle.lisp_operators.proofs.PropertyRows.{ascii_home, ascii_name}
@@ -48,7 +48,7 @@ all_mapped P f (x ∷ xs) all = All-cons (λ y. P (f y)) x xs (All-head P (f x) 
 pub name_at : (ns : List (Bor Name)) (i : ℕ) (e : Bor Name) → i < length ns → All IsAscii (names_of ns) → IsAscii (get_or ns i e).now
 name_at ns i e within all = All-get_or (λ (b : Bor Name). IsAscii b.now) ns i e within (all_mapped IsAscii (λ (b : Bor Name). b.now) ns all)
 
-pub packages_ascii : (s : WorldState) (t : Table) (ns : List Name) → IsSound s → t ≡ s.packages → ns ≡ package_names t → All IsAscii ns
+pub packages_ascii : (s : WorldState) (t : Table) (ns : List Name) → IsSoundWorldState s → t ≡ s.packages → ns ≡ package_names t → All IsAscii ns
 packages_ascii s t ns sound same are =
     subst (All IsAscii) (sym (are ∙ ap package_names same))
     (All-weaker (IsPackage s.packages) IsAscii (λ p there. all_ascii p (sound.packages.within.package_names p there).ascii) (package_names s.packages) (package_there s))
@@ -85,7 +85,7 @@ pub some_mapped : {X Y : Type 0} (f : X → Y) (o : Option X) → is_some o ≡ 
 some_mapped f (Some x) = refl
 some_mapped f None = refl
 
-pub owner_ascii : (s : WorldState) (h n : Name) (i : Symbol) → IsSound s → is_some (property s (h, n) i) ≡ true → IsAscii h × IsAscii n
+pub owner_ascii : (s : WorldState) (h n : Name) (i : Symbol) → IsSoundWorldState s → is_some (property s (h, n) i) ≡ true → IsAscii h × IsAscii n
 owner_ascii s h n i sound has =
     let object = (symbol_is_value s.packages h n sound.packages (owner_there s (h, n) i sound has)).object in
     (ascii_home h n object, ascii_name h n object)

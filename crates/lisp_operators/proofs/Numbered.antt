@@ -10,17 +10,17 @@ use Rattle.readtable_core.specs.declared.refusal.DispatchRefusal.{DispatchRefusa
 use Rattle.readtable_core.specs.declared.refusal.DispatchRefusal.TheVariants.{NotDispatching as NoDispatch, DigitSubcharacter as Digit}
 use Rattle.readtable_core.specs.Tables as readtable
 use Rattle.readtable_core.specs.Tables.{entry_at}
-use Rattle.readtable_core.specs.Changes.{with_entry, macro_entry, dispatching_entry, dispatch_refusal}
+use Rattle.readtable_core.specs.Changes.{with_character_entry, macro_entry, dispatching_entry, dispatch_refusal}
 use Rattle.package_table.specs.declared.error.PackageError.{PackageError}
 use Rattle.package_table.specs.Table.{Name, Table, common_lisp, keyword, is_locked, package_named, symbol_count}
 use Rattle.package_table.specs.Limits.{most_packages, most_symbols, longest_package_name, longest_symbol_name}
 use Rattle.package_table.specs.Lookup.{found, is_used}
 use Rattle.package_table.specs.Changes.{after_make, after_intern, after_export, after_import, after_use, finds_this, finds_other, user_finds_other, finds_other_than_shown}
-use Rattle.package_table.specs.Errors as package_errors
+use Rattle.package_table.specs.ErrorNumbers as package_errors
 use Rattle.plist_state.specs.declared.error.ReadtableError.{ReadtableError}
-use Rattle.plist_state.specs.Refused as readtable_errors
+use Rattle.plist_state.specs.ErrorNumbers as readtable_errors
 use Rattle.plist_state.specs.State.{Readtables, WorldState, standard_name}
-use Rattle.plist_state.specs.Changes.{writable, put_changed, with_changed, changed_readtable, with_case, with_macro, with_dispatching, refused_as, dispatched, with_dispatch, with_syntax, with_copy}
+use Rattle.plist_state.specs.Changes.{writable, put_changed, with_changed, changed_readtable, with_case, with_macro, with_dispatching, refused_as, with_sub_function, with_dispatch, with_syntax, with_copy}
 use Rattle.lisp_operators.specs.Evaluation.{Evaluation, also, and_then, of_kind}
 
 -- a number of evaluation
@@ -130,10 +130,10 @@ module _ (m : Readtables) (n : Name) where
   numbered_case letters = changed_numbered m n (λ t. Ok (record t { letters = letters })) (λ t. tt)
 
   pub numbered_macro : (c : ℕ) (f : Name) (b : Bool) → IsReadtablesNumbered (with_macro m n c f b)
-  numbered_macro c f b = changed_numbered m n (λ t. Ok (with_entry t c (macro_entry f b))) (λ t. tt)
+  numbered_macro c f b = changed_numbered m n (λ t. Ok (with_character_entry t c (macro_entry f b))) (λ t. tt)
 
   pub numbered_dispatching : (c : ℕ) (b : Bool) → IsReadtablesNumbered (with_dispatching m n c b)
-  numbered_dispatching c b = changed_numbered m n (λ t. Ok (with_entry t c (dispatching_entry b))) (λ t. tt)
+  numbered_dispatching c b = changed_numbered m n (λ t. Ok (with_character_entry t c (dispatching_entry b))) (λ t. tt)
 
   refused_numbered : (r : DispatchRefusal) → IsReadtablesNumbered {A = readtable.Table} (Err (refused_as r))
   refused_numbered NoDispatch = (omega arith, omega arith)
@@ -141,11 +141,11 @@ module _ (m : Readtables) (n : Name) where
 
   pub numbered_dispatch : (c sub : ℕ) (f : Name) → IsReadtablesNumbered (with_dispatch m n c sub f)
   numbered_dispatch c sub f =
-      changed_numbered m n (λ t. dispatched t c sub f) (λ t. found_or readtable_errors.readtable_error_number (dispatch_refusal t c sub) _ _ refused_numbered tt)
+      changed_numbered m n (λ t. with_sub_function t c sub f) (λ t. found_or readtable_errors.readtable_error_number (dispatch_refusal t c sub) _ _ refused_numbered tt)
 
   pub numbered_syntax : (c : ℕ) (o : Name) (d : ℕ) → IsReadtablesNumbered (with_syntax m n c o d)
   numbered_syntax c o d =
-      found_or readtable_errors.readtable_error_number (finite.get m o) _ _ (λ z. changed_numbered m n (λ t. Ok (with_entry t c (entry_at z d))) (λ t. tt)) (omega arith, omega arith)
+      found_or readtable_errors.readtable_error_number (finite.get m o) _ _ (λ z. changed_numbered m n (λ t. Ok (with_character_entry t c (entry_at z d))) (λ t. tt)) (omega arith, omega arith)
 
   pub numbered_copy : (o : Name) → IsReadtablesNumbered (with_copy m o n)
   numbered_copy o =

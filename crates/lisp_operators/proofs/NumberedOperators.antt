@@ -20,7 +20,7 @@ use Rattle.lisp_operators.specs.Kinds.{a_symbol, a_name, a_text, an_integer, a_c
 use Rattle.lisp_operators.specs.Evaluation.{Evaluation, gives}
 use Rattle.lisp_operators.specs.Properties.{t, built, list, get, set, removed, remove, in_turn, symbol_plist, amount, is_in_range, increment, push}
 use Rattle.lisp_operators.specs.Packages.{then_others, one_by_one, in_package, made, make, enter, interned, intern, changed, unlocked, export, import, use_all, packages_named, use_package}
-use Rattle.lisp_operators.specs.Readtables.{after, in_readtable, changeable, is_function, a_function, readtable_case, set_case, copy_readtable, enter_readtable, after_first, set_syntax, set_macro, get_macro, make_dispatch, set_dispatch, get_dispatch}
+use Rattle.lisp_operators.specs.Readtables.{value_after, in_readtable, changeable, is_function, a_function, readtable_case, set_case, copy_readtable, enter_readtable, after_first, set_syntax, set_macro, get_macro, make_dispatch, set_dispatch, get_dispatch}
 use Rattle.lisp_operators.specs.ReadBase.{a_base, set_base}
 use Rattle.lisp_operators.proofs.Numbered.{Numbered, IsPackagesNumbered, IsReadtablesNumbered, numbered_if, numbered_kind, numbered_option, numbered_make, numbered_intern, numbered_export, numbered_import, numbered_use, numbered_case, numbered_macro, numbered_dispatching, numbered_dispatch, numbered_syntax, numbered_copy}
 
@@ -132,13 +132,13 @@ use_numbered (x ∷ rest) s =
     numbered_option (packages_named s.packages ns) _ (Err NO_SUCH_PACKAGE) (λ qs. in_package_numbered s q _ (λ p. use_all_numbered s p qs)) (record { number = (omega arith, omega arith) })))
 
 -- ---- readtables
-after_numbered : (s : WorldState) (x : Object) (r : Result Readtables ReadtableError) → IsReadtablesNumbered r → Numbered (after s x (in_state s r))
+after_numbered : (s : WorldState) (x : Object) (r : Result Readtables ReadtableError) → IsReadtablesNumbered r → Numbered (value_after s x (in_state s r))
 after_numbered s x (Ok m) is = record { number = tt }
 after_numbered s x (Err e) is = record { number = is }
 
-entered_numbered : (s : WorldState) (n : Name) (x : Object) → Numbered (after s x (after_in_readtable s n))
+entered_numbered : (s : WorldState) (n : Name) (x : Object) → Numbered (value_after s x (after_in_readtable s n))
 entered_numbered s n x =
-    elim (finite.contains_key s.readtables n) as (λ b. Numbered (after s x (cond b (Ok (record s { current_readtable = n })) (Err NoReadtable)))) [
+    elim (finite.contains_key s.readtables n) as (λ b. Numbered (value_after s x (cond b (Ok (record s { current_readtable = n })) (Err NoReadtable)))) [
       | true ↦ record { number = tt }
       | false ↦ record { number = (omega arith, omega arith) }
     ]

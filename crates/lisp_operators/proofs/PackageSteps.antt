@@ -6,9 +6,9 @@ use Rattle.std.proofs.lemmas.List.{map_more, map-append, take_all, take-append-d
 use Rattle.package_table.specs.declared.error.PackageError.{PackageError}
 use Rattle.package_table.specs.declared.error.PackageError.TheVariants.{NoPackage, NotExternal, LockedPackage, EmptyName, NoSuchPackage, PackageExists, PackageIsLocked, NameConflict, NotAccessible, Limit, OutOfMemory}
 use Rattle.package_table.specs.Table.{Table}
-use Rattle.package_table.specs.Changes.{Gives}
+use Rattle.package_table.specs.Changes.{AnswersPackages}
 use Rattle.lisp_operators.specs.Packages.{one_by_one, then_others}
-use Rattle.lisp_operators.specs.Evaluated.{Makes}
+use Rattle.lisp_operators.specs.Evaluated.{MakesPackages}
 
 -- what is from an index on
 from_index : {X Y : Type 0} (f : X → Y) (xs : List X) (i : ℕ) (x : X) → i < length xs → x ≡ get_or xs i x → map f (drop i xs) ≡ f x ∷ map f (drop (i + 1) xs)
@@ -61,7 +61,7 @@ module _ {A : Type 0} (change : Table → A → Result Table PackageError) (chan
 
     -- one of them is refused, or memory runs out
     pub stops : {B : Type 0} (view : B → Table) (e : PackageError) (u v z : Table) (w : Bool) (xs : List X) (i : ℕ) (x : X) → i < length xs → x ≡ get_or xs i x → one_by_one change changes u false (map f (take i xs)) ≡ Ok (v, w)
-        → Gives view (Err e) (change v (f x)) → Makes (Err e) z (one_by_one change changes u false (map f xs))
+        → AnswersPackages view (Err e) (change v (f x)) → MakesPackages (Err e) z (one_by_one change changes u false (map f xs))
     stops view NoPackage u v z w xs i x within is before h = refused_at u v w xs i x NoPackage within is before h
     stops view NotExternal u v z w xs i x within is before h = refused_at u v w xs i x NotExternal within is before h
     stops view LockedPackage u v z w xs i x within is before h = refused_at u v w xs i x LockedPackage within is before h

@@ -9,7 +9,7 @@ use Rattle.package_table.proofs.Names.{same_some, none_some}
 use Rattle.plist_state.specs.State.{WorldState}
 use Rattle.plist_state.specs.Properties.{Symbol}
 use Rattle.plist_state.specs.Changes.{property, with_property}
-use Rattle.plist_state.specs.Sound.{IsValue, IsSound}
+use Rattle.plist_state.specs.Sound.{IsValue, IsSoundWorldState}
 use Rattle.lisp_operators.specs.declared.places.PlaceChange.{PlaceChange}
 use Rattle.lisp_operators.specs.declared.places.PlaceChange.TheVariants.{Stepped, Popped}
 use Rattle.lisp_operators.specs.declared.places.Direction.{Direction}
@@ -44,7 +44,7 @@ change_silent (Stepped way) has_default xs s = step_silent way (with_default has
 change_silent Popped has_default xs s = pop_silent (with_default has_default xs) s
 
 -- ---- what they give and what they store may be stored
-pub parted_values : (u : packages.Table) (x : Object) (p : Object × Object) → packages.IsSound u → IsValue u x → parted x ≡ Some p → IsValue u p.0 × IsValue u p.1
+pub parted_values : (u : packages.Table) (x : Object) (p : Object × Object) → packages.AreSoundPackages u → IsValue u x → parted x ≡ Some p → IsValue u p.0 × IsValue u p.1
 parted_values u (pair a b) p sound is e = subst (λ q. IsValue u q.0 × IsValue u q.1) (same_some (a, b) p e) (value_parts u a b is)
 parted_values u (symbol h n) p sound is e =
     elim (is_nil h n) as (λ b. cond b (Some (nil, nil)) None ≡ Some p → IsValue u p.0 × IsValue u p.1) [
@@ -80,7 +80,7 @@ pop_safe (x ∷ i ∷ d ∷ []) s sound are =
     (grows_same s.packages) both.0)))
 pop_safe _ s sound are = refused s _
 
-nil_values : (s : WorldState) (xs : List Object) → IsSound s → AreValues s.packages xs → AreValues s.packages (with_nil xs)
+nil_values : (s : WorldState) (xs : List Object) → IsSoundWorldState s → AreValues s.packages xs → AreValues s.packages (with_nil xs)
 nil_values s [] sound are = are
 nil_values s (x ∷ []) sound are = are
 nil_values s (x ∷ i ∷ rest) sound are =
@@ -89,7 +89,7 @@ nil_values s (x ∷ i ∷ rest) sound are =
     (All-cons (IsValue s.packages) i (nil ∷ rest) (first_of s i rest others)
     (All-cons (IsValue s.packages) nil rest (nil_value s.packages sound.packages) (rest_of s i rest others)))
 
-default_values : (s : WorldState) (has_default : Bool) (xs : List Object) → IsSound s → AreValues s.packages xs → AreValues s.packages (with_default has_default xs)
+default_values : (s : WorldState) (has_default : Bool) (xs : List Object) → IsSoundWorldState s → AreValues s.packages xs → AreValues s.packages (with_default has_default xs)
 default_values s true xs sound are = are
 default_values s false xs sound are = nil_values s xs sound are
 

@@ -7,7 +7,7 @@ use Rattle.std.proofs.lemmas.List.Elements.{All-append, All-cons, All-take, All-
 use Rattle.lisp_object.specs.declared.datum.Datum.{Datum}
 use Rattle.lisp_object.specs.Object.{Object, integer, rational, character, text, symbol, uninterned, pair, vector, nil}
 use Rattle.lisp_object.specs.Datum.{object_of, is_proper}
-use Rattle.package_table.specs.Table.{Table, IsSound}
+use Rattle.package_table.specs.Table.{Table, AreSoundPackages}
 use Rattle.package_table.proofs.Names.{same_some, none_some}
 use Rattle.plist_state.specs.Properties.{Symbol}
 use Rattle.plist_state.specs.State.{WorldState, Worlds}
@@ -19,7 +19,7 @@ use Rattle.lisp_operators.specs.Places.{parted, popped_at}
 use Rattle.lisp_operators.specs.Evaluated.{IsArgument}
 use Rattle.lisp_operators.proofs.Storable.{nil_value}
 
-pub inserted_arguments : (u : Table) (xs : List Datum) (d : Datum) → IsSound u → object_of d ≡ nil → is_proper d ≡ true → All (IsArgument u) xs → All (IsArgument u) (insert xs 2 d)
+pub inserted_arguments : (u : Table) (xs : List Datum) (d : Datum) → AreSoundPackages u → object_of d ≡ nil → is_proper d ≡ true → All (IsArgument u) xs → All (IsArgument u) (insert xs 2 d)
 inserted_arguments u xs d sound is proper all =
     All-append (IsArgument u) (take 2 xs) (d ∷ drop 2 xs) (All-take (IsArgument u) 2 xs all)
     (All-cons (IsArgument u) d (drop 2 xs) (record { proper = proper; value = subst (IsValue u) (sym is) (nil_value u sound) }) (All-drop (IsArgument u) 2 xs all))

@@ -24,20 +24,20 @@ use Rattle.lisp_operators.specs.Kinds.{a_name, a_text}
 use Rattle.plist_state.specs.Properties.{Symbol, Plist}
 use Rattle.plist_state.specs.State.{WorldState}
 use Rattle.plist_state.specs.Changes.{plist, property}
-use Rattle.plist_state.specs.Sound.{IsSymbol, IsValue, IsSound}
+use Rattle.plist_state.specs.Sound.{IsSymbol, IsValue, IsSoundWorldState}
 use Rattle.lisp_operators.specs.Properties.{in_turn}
 use Rattle.lisp_operators.specs.Evaluated.{object_of_symbol}
 use Rattle.lisp_operators.proofs.Storable.{name_kind, text_kind, symbol_is_value, nil_value, pair_value}
 use Rattle.lisp_operators.proofs.SoundProperties.{property_value, held}
 
-pub pushed_value : (s : WorldState) (x i : Symbol) (v o : Object) → IsSound s → IsValue s.packages v → o ≡ pair v (unwrap_or (property s x i) nil)
+pub pushed_value : (s : WorldState) (x i : Symbol) (v o : Object) → IsSoundWorldState s → IsValue s.packages v → o ≡ pair v (unwrap_or (property s x i) nil)
     → nat_lt 100 (object_depth (pair v (unwrap_or (property s x i) nil))) ≡ false → IsValue s.packages o
 pushed_value s x i v o sound value is shallow =
     subst (IsValue s.packages) (sym is)
     (pair_value s.packages v (unwrap_or (property s x i) nil) value (property_value s x i nil sound (nil_value s.packages sound.packages))
     (ltb-false 100 (object_depth (pair v (unwrap_or (property s x i) nil))) shallow))
 
-pub indicators_sound : (s : WorldState) (x : Symbol) → IsSound s → All (λ p. object.IsSound (object_of_symbol p.0)) (plist s x)
+pub indicators_sound : (s : WorldState) (x : Symbol) → IsSoundWorldState s → All (λ p. object.IsSound (object_of_symbol p.0)) (plist s x)
 indicators_sound s x sound =
     All-weaker (λ (p : Symbol × Object). IsSymbol s.packages p.0) (λ p. object.IsSound (object_of_symbol p.0)) (λ p there. (symbol_is_value s.packages p.0.0 p.0.1 sound.packages there).object) (plist s x)
     (held s x sound).indicators
@@ -71,15 +71,15 @@ turn_proper vs k v all key value =
     let one : list_all is_proper (vs ++ k ∷ []) ≡ true = list_all-append is_proper vs (k ∷ []) ∙ and_from (list_all is_proper vs) (list_all is_proper (k ∷ [])) all (and_from (is_proper k) true key refl) in
     list_all-append is_proper (vs ++ k ∷ []) (v ∷ []) ∙ and_from (list_all is_proper (vs ++ k ∷ [])) (list_all is_proper (v ∷ [])) one (and_from (is_proper v) true value refl)
 
-pub package_ascii : (s : WorldState) (n : List ℕ) → IsSound s → n ≡ s.current_package → list_all is_ascii n ≡ true
+pub package_ascii : (s : WorldState) (n : List ℕ) → IsSoundWorldState s → n ≡ s.current_package → list_all is_ascii n ≡ true
 package_ascii s n sound is = ap (list_all is_ascii) is ∙ all_ascii s.current_package (sound.packages.within.package_names s.current_package sound.current_package).ascii
 
-pub readtable_ascii : (s : WorldState) (n : List ℕ) → IsSound s → n ≡ s.current_readtable → list_all is_ascii n ≡ true
+pub readtable_ascii : (s : WorldState) (n : List ℕ) → IsSoundWorldState s → n ≡ s.current_readtable → list_all is_ascii n ≡ true
 readtable_ascii s n sound is =
     ap (list_all is_ascii) is ∙ ascii_name keyword s.current_readtable (symbol_is_value s.packages keyword s.current_readtable sound.packages (sound.readtables.names s.current_readtable sound.current_readtable)).object
 
 -- a package that is there
-pub package_name_ascii : (s : WorldState) (u : Table) (n : List ℕ) → IsSound s → u ≡ s.packages → IsPackage u n → list_all is_ascii n ≡ true
+pub package_name_ascii : (s : WorldState) (u : Table) (n : List ℕ) → IsSoundWorldState s → u ≡ s.packages → IsPackage u n → list_all is_ascii n ≡ true
 package_name_ascii s u n sound is there = all_ascii n (sound.packages.within.package_names n (subst (λ t. IsPackage t n) is there)).ascii
 
 -- arguments
@@ -90,6 +90,6 @@ pub text_ascii : (u : Table) (x : Object) (n : List ℕ) → Some n ≡ a_text x
 text_ascii u x n e is = all_ascii n (text_kind u x n (sym e) is)
 
 -- the home of a symbol that a package finds
-pub home_ascii : (s : WorldState) (p n h : List ℕ) → IsSound s → found s.packages p n ≡ Some h → list_all is_ascii h ≡ true
+pub home_ascii : (s : WorldState) (p n h : List ℕ) → IsSoundWorldState s → found s.packages p n ≡ Some h → list_all is_ascii h ≡ true
 home_ascii s p n h sound e =
     all_ascii h ((symbol_is_value s.packages h n sound.packages (present_at_home s.packages p n h sound.packages.joined (found_finds s.packages n p h e))).object.0)

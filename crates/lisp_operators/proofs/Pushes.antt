@@ -11,7 +11,7 @@ use Rattle.lisp_object.specs.Object.{Object, integer, rational, character, text,
 use Rattle.plist_state.specs.Properties.{Symbol}
 use Rattle.plist_state.specs.State.{WorldState}
 use Rattle.plist_state.specs.Changes.{property}
-use Rattle.plist_state.specs.Sound.{IsSound}
+use Rattle.plist_state.specs.Sound.{IsSoundWorldState}
 use Rattle.plist_state.specs.Pushed.{holds_pair, pair_size, pushed}
 use Rattle.lisp_object.specs.declared.refusal.TheConstants.{VALUE_TOO_DEEP, LIMIT}
 use Rattle.lisp_operators.specs.Kinds.{is_pair}
@@ -70,12 +70,12 @@ pub pushed_size : (a : Object) (old : Option Object) (n : ℕ) → pair_size (So
 pushed_size a old n is = within_size (object_size (pushed a old)) n (ap (λ o. unwrap_or o n) is)
 
 -- the property of a sound state is within the depth of what may be stored
-pub list_within : (s : WorldState) (x i : Symbol) (list : Object) → IsSound s → Some list ≡ property s x i → object_depth list ≤ 100
+pub list_within : (s : WorldState) (x i : Symbol) (list : Object) → IsSoundWorldState s → Some list ≡ property s x i → object_depth list ≤ 100
 list_within s x i list sound is =
     subst (λ o. object_depth (unwrap_or o nil) ≤ 100) (sym is) ((property_value s x i nil sound (nil_value s.packages sound.packages)).depth)
 
 -- how deep the list is with a value more in front, where its size is known
-pub pushed_depth : (s : WorldState) (x i : Symbol) (v : Object) (n : ℕ) (deep : Bool) → IsSound s → pair_size (property s x i) ≡ Some n
+pub pushed_depth : (s : WorldState) (x i : Symbol) (v : Object) (n : ℕ) (deep : Bool) → IsSoundWorldState s → pair_size (property s x i) ≡ Some n
     → ((list : Object) → holds_pair (Some list) ≡ true → object_depth list ≤ 100 → deep ≡ nat_lt 100 (object_depth (pair v list)))
     → deep ≡ nat_lt 100 (object_depth (pushed v (property s x i)))
 pushed_depth s x i v n deep sound is before =

@@ -15,27 +15,27 @@ use Rattle.plist_state.specs.State.{WorldState, standard_name}
 use Rattle.plist_state.specs.Changes.{writable, with_macro, with_dispatching, with_dispatch, Refused}
 use Rattle.lisp_operators.specs.declared.error.EvaluationError.{EvaluationError}
 use Rattle.lisp_operators.specs.declared.evaluated.Evaluated.{Evaluated}
-use Rattle.lisp_operators.specs.Errors.{of_readtable}
+use Rattle.lisp_operators.specs.ErrorNumbers.{of_readtable}
 use Rattle.lisp_operators.specs.Evaluation.{Evaluation}
 use Rattle.lisp_operators.specs.Kinds.{a_character, a_keyword, given_or, given_or_nil, is_true}
 use Rattle.lisp_operators.specs.Properties.{t}
-use Rattle.lisp_operators.specs.Readtables.{after, with_readtables, changeable, is_function, a_function, after_first, set_macro, make_dispatch, set_dispatch}
+use Rattle.lisp_operators.specs.Readtables.{value_after, with_readtables, changeable, is_function, a_function, after_first, set_macro, make_dispatch, set_dispatch}
 use Rattle.lisp_operators.specs.Evaluated.{Answers, done}
 use Rattle.lisp_operators.proofs.KindSteps.{kind_is}
 
-pub told_made : (s new : WorldState) (said : Result WorldState ReadtableError) (e : Evaluated) → object_of e.value ≡ t → e.wrote ≡ true → said ≡ Ok new → after s t said ≡ Ok (done e new)
+pub told_made : (s new : WorldState) (said : Result WorldState ReadtableError) (e : Evaluated) → object_of e.value ≡ t → e.wrote ≡ true → said ≡ Ok new → value_after s t said ≡ Ok (done e new)
 told_made s new said e value wrote made =
-    ap (after s t) made ∙ (λ i. Ok (record { value = sym value i; state = new; wrote = sym wrote i }))
+    ap (value_after s t) made ∙ (λ i. Ok (record { value = sym value i; state = new; wrote = sym wrote i }))
 
-pub told_refused : (s new : WorldState) (said : Result WorldState ReadtableError) (cause : ReadtableError) (error : EvaluationError) → error ≡ of_readtable cause → Refused cause said → Answers done (Err error) new (after s t said)
-told_refused s new said cause error is refused = subst (λ e. Answers done (Err e) new (after s t said)) (sym is) (by cause said refused)
+pub told_refused : (s new : WorldState) (said : Result WorldState ReadtableError) (cause : ReadtableError) (error : EvaluationError) → error ≡ of_readtable cause → Refused cause said → Answers done (Err error) new (value_after s t said)
+told_refused s new said cause error is refused = subst (λ e. Answers done (Err e) new (value_after s t said)) (sym is) (by cause said refused)
   where
-    by : (cause : ReadtableError) (said : Result WorldState ReadtableError) → Refused cause said → Answers done (Err (of_readtable cause)) new (after s t said)
-    by NoReadtable said h = ap (after s t) h
-    by StandardReadtable said h = ap (after s t) h
-    by NotDispatching said h = ap (after s t) h
-    by DigitSubcharacter said h = ap (after s t) h
-    by Limit said h = ap (after s t) h
+    by : (cause : ReadtableError) (said : Result WorldState ReadtableError) → Refused cause said → Answers done (Err (of_readtable cause)) new (value_after s t said)
+    by NoReadtable said h = ap (value_after s t) h
+    by StandardReadtable said h = ap (value_after s t) h
+    by NotDispatching said h = ap (value_after s t) h
+    by DigitSubcharacter said h = ap (value_after s t) h
+    by Limit said h = ap (value_after s t) h
     by OutOfMemory said h = tt
 
 module _ (P : Evaluation Object → Type 0) (s : WorldState) where

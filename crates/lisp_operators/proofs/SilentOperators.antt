@@ -19,7 +19,7 @@ use Rattle.lisp_operators.specs.Kinds.{a_symbol, a_name, a_text, an_integer, a_c
 use Rattle.lisp_operators.specs.Evaluation.{Evaluation, gives}
 use Rattle.lisp_operators.specs.Properties.{t, built, list, get, set, removed, remove, in_turn, symbol_plist, amount, is_in_range, increment, push}
 use Rattle.lisp_operators.specs.Packages.{in_package, made, make, enter, interned, intern, changed, unlocked, export, import, use_all, packages_named, use_package}
-use Rattle.lisp_operators.specs.Readtables.{after, in_readtable, changeable, is_function, a_function, readtable_case, set_case, copy_readtable, enter_readtable, after_first, set_syntax, set_macro, get_macro, make_dispatch, set_dispatch, get_dispatch}
+use Rattle.lisp_operators.specs.Readtables.{value_after, in_readtable, changeable, is_function, a_function, readtable_case, set_case, copy_readtable, enter_readtable, after_first, set_syntax, set_macro, get_macro, make_dispatch, set_dispatch, get_dispatch}
 use Rattle.lisp_operators.specs.ReadBase.{a_base, set_base}
 use Rattle.lisp_operators.proofs.Silence.{Keeps, written, keeps_if, keeps_kind, keeps_option}
 use Rattle.lisp_operators.proofs.Unmoved.{IsUnmoved, intern_still, export_still, import_still, use_still, one_unmoved}
@@ -123,7 +123,7 @@ use_silent (x ∷ rest) s =
     keeps_option s (packages_named s.packages ns) _ (Err NO_SUCH_PACKAGE) (λ qs. in_package_silent s q _ (λ p. use_all_silent s p qs)) (record { same = tt })))
 
 -- ---- readtables: each of these writes
-after_silent : (s : WorldState) (x : Object) (r : Result WorldState ReadtableError) → Keeps s (after s x r)
+after_silent : (s : WorldState) (x : Object) (r : Result WorldState ReadtableError) → Keeps s (value_after s x r)
 after_silent s x (Ok later) = record { same = written }
 after_silent s x (Err e) = record { same = tt }
 

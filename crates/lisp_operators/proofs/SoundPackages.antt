@@ -18,7 +18,7 @@ use Rattle.package_table.proofs.KeptChanges.{kept_make, kept_intern, kept_export
 use Rattle.plist_state.specs.Properties.{Symbol}
 use Rattle.plist_state.specs.State.{WorldState}
 use Rattle.plist_state.specs.Changes.{with_packages}
-use Rattle.plist_state.specs.Sound.{IsSymbol, IsValue, IsSound}
+use Rattle.plist_state.specs.Sound.{IsSymbol, IsValue, IsSoundWorldState}
 use Rattle.plist_state.proofs.Soundness.{sound_packages, sound_in_package}
 use Rattle.lisp_operators.specs.Kinds.{a_symbol, a_name, a_text, one_or_each, given_or}
 use Rattle.lisp_operators.specs.Evaluation.{Evaluation}
@@ -40,7 +40,7 @@ pub in_package_safe : (s : WorldState) (n : Name) (on : Name → Evaluation Obje
 in_package_safe s n on each = goods_option IsValue s (package_named s.packages n) on (Err NO_SUCH_PACKAGE) (λ p e. each p (named_there s.packages n p e)) (refused s _)
 
 -- ---- MAKE-PACKAGE and IN-PACKAGE
-made_safe : (s : WorldState) (n : Name) (r : Result Table PackageError) → IsSound s → All (λ b. b < 128) n → after_make s.packages n ≡ r → Goods IsValue s (made s n r)
+made_safe : (s : WorldState) (n : Name) (r : Result Table PackageError) → IsSoundWorldState s → All (λ b. b < 128) n → after_make s.packages n ≡ r → Goods IsValue s (made s n r)
 made_safe s n (Ok u) sound ascii is =
     let kept = (kept_make s.packages n u sound.packages ascii is).0 in
     goods_state IsValue s (text n) (with_packages s u) true (sound_packages s u sound kept.sound kept.grows) kept.grows (text_value u n ascii)
@@ -50,14 +50,14 @@ pub make_safe : IsSafe make
 make_safe (x ∷ []) s sound are = goods_kind IsValue s (a_name x) _ (λ n e. made_safe s n (after_make s.packages n) sound (name_kind s.packages x n e (first_of s x [] are)) refl)
 make_safe _ s sound are = refused s _
 
-pub enter_safe : (x : Object) (s : WorldState) → IsSound s → Goods IsValue s (enter x s)
+pub enter_safe : (x : Object) (s : WorldState) → IsSoundWorldState s → Goods IsValue s (enter x s)
 enter_safe x s sound =
     goods_kind IsValue s (a_name x) _ (λ n _. in_package_safe s n _ (λ p there.
     goods_state IsValue s (text p) (record s { current_package = p }) true (sound_in_package s p sound there) (grows_same s.packages)
     (text_value s.packages p (sound.packages.within.package_names p there).ascii)))
 
 -- ---- INTERN
-interned_safe : (s : WorldState) (p n : Name) (changes : Bool) (r : Result (Name × Table) PackageError) → IsSound s → All (λ b. b < 128) n → after_intern s.packages p n ≡ r → Goods IsValue s (interned s n changes r)
+interned_safe : (s : WorldState) (p n : Name) (changes : Bool) (r : Result (Name × Table) PackageError) → IsSoundWorldState s → All (λ b. b < 128) n → after_intern s.packages p n ≡ r → Goods IsValue s (interned s n changes r)
 interned_safe s p n changes (Ok q) sound ascii is =
     let done = kept_intern s.packages p n sound.packages q.0 q.1 ascii is in
     goods_state IsValue s (symbol q.0 n) (with_packages s q.1) changes (sound_packages s q.1 sound done.kept.sound done.kept.grows) done.kept.grows
@@ -72,7 +72,7 @@ intern_safe (x ∷ rest) s sound are =
 
 -- ---- changes one after the other
 pub record Grown (u v : Table) : Type 0 where
-  pub sound : packages.IsSound v
+  pub sound : packages.AreSoundPackages v
   pub grows : Grows u v
 
 abbrev pub GrownWhere : Table → Result (Table × Bool) PackageError → Type 0
@@ -85,8 +85,8 @@ grown_since u v (Err e) grows later = tt
 
 module _ {A : Type 0} (change : Table → A → Result Table PackageError) (changes : Table → A → Bool) (Q : Table → A → Type 0)
     (still : (u v : Table) (x : A) → Grows u v → Q u x → Q v x)
-    (grown : (u : Table) (x : A) (v : Table) → packages.IsSound u → Q u x → change u x ≡ Ok v → Grown u v) where
-  pub one_grown : (u : Table) (wrote : Bool) (xs : List A) → packages.IsSound u → All (Q u) xs → GrownWhere u (one_by_one change changes u wrote xs)
+    (grown : (u : Table) (x : A) (v : Table) → packages.AreSoundPackages u → Q u x → change u x ≡ Ok v → Grown u v) where
+  pub one_grown : (u : Table) (wrote : Bool) (xs : List A) → packages.AreSoundPackages u → All (Q u) xs → GrownWhere u (one_by_one change changes u wrote xs)
   one_grown u wrote [] sound all = record { sound = sound; grows = grows_same u }
   one_grown u wrote (x ∷ xs) sound all =
       elim (change u x) as (λ r. change u x ≡ r → GrownWhere u (then_others r (λ later. one_by_one change changes later (wrote || changes u x) xs))) [
@@ -97,7 +97,7 @@ module _ {A : Type 0} (change : Table → A → Result Table PackageError) (chan
         | Err e ↦ λ _. tt
       ] refl
 
-changed_safe : (s : WorldState) (r : Result (Table × Bool) PackageError) → IsSound s → GrownWhere s.packages r → Goods IsValue s (changed s r)
+changed_safe : (s : WorldState) (r : Result (Table × Bool) PackageError) → IsSoundWorldState s → GrownWhere s.packages r → Goods IsValue s (changed s r)
 changed_safe s (Ok p) sound grown = goods_state IsValue s t (with_packages s p.0) p.1 (sound_packages s p.0 sound grown.sound grown.grows) grown.grows (t_value p.0 grown.sound)
 changed_safe s (Err e) sound grown = refused s _
 
@@ -107,13 +107,13 @@ unlocked_safe s p on safe = goods_if IsValue s (is_locked p) (Err PACKAGE_IS_LOC
 symbol_still : (u v : Table) (y : Symbol) → Grows u v → IsSymbol u y → IsSymbol v y
 symbol_still u v y grows is = grows.homes y.0 y.1 y.0 is
 
-export_grown : (p : Name) (u : Table) (y : Symbol) (v : Table) → packages.IsSound u → IsSymbol u y → after_export u p y.0 y.1 ≡ Ok v → Grown u v
+export_grown : (p : Name) (u : Table) (y : Symbol) (v : Table) → packages.AreSoundPackages u → IsSymbol u y → after_export u p y.0 y.1 ≡ Ok v → Grown u v
 export_grown p u y v sound is made = let kept = (kept_export u p y.1 sound y.0 v made).0 in record { sound = kept.sound; grows = kept.grows }
 
-import_grown : (p : Name) (u : Table) (y : Symbol) (v : Table) → packages.IsSound u → IsSymbol u y → after_import u p y.0 y.1 ≡ Ok v → Grown u v
+import_grown : (p : Name) (u : Table) (y : Symbol) (v : Table) → packages.AreSoundPackages u → IsSymbol u y → after_import u p y.0 y.1 ≡ Ok v → Grown u v
 import_grown p u y v sound is made = let kept = (kept_import u p y.1 sound y.0 v is made).0 in record { sound = kept.sound; grows = kept.grows }
 
-use_grown : (p : Name) (u : Table) (q : Name) (v : Table) → packages.IsSound u → Unit {0} → after_use u p q ≡ Ok v → Grown u v
+use_grown : (p : Name) (u : Table) (q : Name) (v : Table) → packages.AreSoundPackages u → Unit {0} → after_use u p q ≡ Ok v → Grown u v
 use_grown p u q v sound _ made = let kept = (kept_use u p q sound v made).0 in record { sound = kept.sound; grows = kept.grows }
 
 pub export_safe : IsSafe export
@@ -135,7 +135,7 @@ nothing_asked : (qs : List Name) → All (λ (_ : Name). Unit {0}) qs
 nothing_asked [] = All-nil (λ (_ : Name). Unit {0})
 nothing_asked (q ∷ qs) = All-cons (λ (_ : Name). Unit {0}) q qs tt (nothing_asked qs)
 
-use_all_safe : (s : WorldState) (p : Name) (qs : List Name) → IsSound s → Goods IsValue s (use_all s p qs)
+use_all_safe : (s : WorldState) (p : Name) (qs : List Name) → IsSoundWorldState s → Goods IsValue s (use_all s p qs)
 use_all_safe s p qs sound =
     goods_if IsValue s (is_locked p || list_any (bytes_eq keyword) qs) _ _ (λ _. refused s _)
     (λ _. changed_safe s _ sound (one_grown (λ u q. after_use u p q) (λ u q. use_changes u p q) (λ _ (_ : Name). Unit {0}) (λ _ _ _ _ _. tt) (use_grown p) s.packages false qs sound.packages (nothing_asked qs)))

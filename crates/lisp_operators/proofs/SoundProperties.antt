@@ -12,7 +12,7 @@ use Rattle.package_table.proofs.Growing.{grows_same}
 use Rattle.plist_state.specs.Properties.{Symbol, Plist, value_at, same_symbol}
 use Rattle.plist_state.specs.State.{WorldState}
 use Rattle.plist_state.specs.Changes.{plist, property, with_property, without_property}
-use Rattle.plist_state.specs.Sound.{IsSymbol, IsValue, IsSound}
+use Rattle.plist_state.specs.Sound.{IsSymbol, IsValue, IsSoundWorldState}
 use Rattle.plist_state.proofs.Soundness.{sound_put, sound_removed}
 use Rattle.lisp_operators.specs.Kinds.{a_symbol, an_integer, given_or_nil}
 use Rattle.lisp_operators.specs.Evaluation.{Evaluation, gives}
@@ -22,7 +22,7 @@ use Rattle.lisp_operators.proofs.Storable.{AreValues, symbol_is_value, t_value, 
 
 -- of values that may be stored, in a sound state
 abbrev pub IsSafe : (List Object → WorldState → Evaluation Object) → Type 0
-IsSafe function = (xs : List Object) (s : WorldState) → IsSound s → AreValues s.packages xs → Goods IsValue s (function xs s)
+IsSafe function = (xs : List Object) (s : WorldState) → IsSoundWorldState s → AreValues s.packages xs → Goods IsValue s (function xs s)
 
 pub refused : (s : WorldState) (code : ℕ) → Goods {A = Object} IsValue s (Err code)
 refused s code = record { good = tt }
@@ -32,7 +32,7 @@ pub record HasValues (u : packages.Table) (ps : Plist) : Type 0 where
   pub indicators : All (λ p. IsSymbol u p.0) ps
   pub values : All (λ p. IsValue u p.1) ps
 
-pub held : (s : WorldState) (x : Symbol) → IsSound s → HasValues s.packages (plist s x)
+pub held : (s : WorldState) (x : Symbol) → IsSoundWorldState s → HasValues s.packages (plist s x)
 held s x sound =
     elim (finite.get s.properties x) as (λ o. finite.get s.properties x ≡ o → HasValues s.packages (unwrap_or o [])) [
       | None ↦ λ _. record { indicators = All-nil (λ (p : Symbol × Object). IsSymbol s.packages p.0); values = All-nil (λ (p : Symbol × Object). IsValue s.packages p.1) }
@@ -47,10 +47,10 @@ value_held u (p ∷ ps) i x all is =
       | false ↦ value_held u ps i x (All-tail (λ p. IsValue u p.1) p ps all) is
     ]
 
-pub property_value : (s : WorldState) (x i : Symbol) (other : Object) → IsSound s → IsValue s.packages other → IsValue s.packages (unwrap_or (property s x i) other)
+pub property_value : (s : WorldState) (x i : Symbol) (other : Object) → IsSoundWorldState s → IsValue s.packages other → IsValue s.packages (unwrap_or (property s x i) other)
 property_value s x i other sound is = value_held s.packages (plist s x) i other (held s x sound).values is
 
-turn_values : (u : packages.Table) → packages.IsSound u → (ps : Plist) → All (λ p. IsSymbol u p.0) ps → All (λ p. IsValue u p.1) ps → AreValues u (in_turn ps)
+turn_values : (u : packages.Table) → packages.AreSoundPackages u → (ps : Plist) → All (λ p. IsSymbol u p.0) ps → All (λ p. IsValue u p.1) ps → AreValues u (in_turn ps)
 turn_values u sound [] indicators values = All-nil (IsValue u)
 turn_values u sound (p ∷ ps) indicators values =
     All-cons (IsValue u) (symbol p.0.0 p.0.1) (p.1 ∷ in_turn ps) (symbol_is_value u p.0.0 p.0.1 sound (All-head (λ p. IsSymbol u p.0) p ps indicators))
@@ -74,7 +74,7 @@ module _ (s : WorldState) where
   pub rest_of : (x : Object) (xs : List Object) → AreValues s.packages (x ∷ xs) → AreValues s.packages xs
   rest_of x xs are = All-tail (IsValue s.packages) x xs are
 
-  pub given_value : (xs : List Object) → IsSound s → AreValues s.packages xs → IsValue s.packages (given_or_nil xs)
+  pub given_value : (xs : List Object) → IsSoundWorldState s → AreValues s.packages xs → IsValue s.packages (given_or_nil xs)
   given_value [] sound are = nil_value s.packages sound.packages
   given_value (x ∷ xs) sound are = first_of x xs are
 
@@ -86,7 +86,7 @@ get_safe (x ∷ i ∷ rest) s sound are =
     goods_here IsValue s (unwrap_or (property s x' i') (given_or_nil rest)) false sound
     (property_value s x' i' (given_or_nil rest) sound (given_value s rest sound (rest_of s i rest (rest_of s x (i ∷ rest) are))))))
 
-pub put_safe : (s : WorldState) (x i : Symbol) (v : Object) → IsSound s → IsSymbol s.packages x → IsSymbol s.packages i → IsValue s.packages v
+pub put_safe : (s : WorldState) (x i : Symbol) (v : Object) → IsSoundWorldState s → IsSymbol s.packages x → IsSymbol s.packages i → IsValue s.packages v
     → Goods IsValue s (Ok (record { value = v; state = with_property s x i v; wrote = true }))
 put_safe s x i v sound at_home indicator is = goods_state IsValue s v (with_property s x i v) true (sound_put s x i v sound at_home indicator is) (grows_same s.packages) is
 
@@ -97,7 +97,7 @@ set_safe (x ∷ i ∷ v ∷ []) s sound are =
     put_safe s x' i' v sound (symbol_kind s.packages x x' e (first_of s x (i ∷ v ∷ []) are)) (symbol_kind s.packages i i' f (first_of s i (v ∷ []) rest)) (first_of s v [] (rest_of s i (v ∷ []) rest))))
 set_safe _ s sound are = refused s _
 
-removed_safe : (o : Option Object) (s later : WorldState) → IsSound s → IsSound later → later.packages ≡ s.packages → Goods IsValue s (removed o s later)
+removed_safe : (o : Option Object) (s later : WorldState) → IsSoundWorldState s → IsSoundWorldState later → later.packages ≡ s.packages → Goods IsValue s (removed o s later)
 removed_safe None s later sound after same = goods_here IsValue s nil false sound (nil_value s.packages sound.packages)
 removed_safe (Some v) s later sound after same =
     goods_state IsValue s t later true after (subst (λ u. packages_grow s.packages u) (sym same) (grows_same s.packages)) (t_value later.packages after.packages)

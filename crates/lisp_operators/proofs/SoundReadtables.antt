@@ -15,7 +15,7 @@ use Rattle.readtable_core.specs.Tables as readtable
 use Rattle.readtable_core.specs.Tables.{entry_at, dispatch_at}
 use Rattle.readtable_core.specs.Names.{is_function_name, same_name, is_among, is_standard, standard_names, is_dispatch_name}
 use Rattle.readtable_core.specs.Cases.{case_name}
-use Rattle.readtable_core.specs.Changes.{with_entry, macro_entry, dispatching_entry}
+use Rattle.readtable_core.specs.Changes.{with_character_entry, macro_entry, dispatching_entry}
 use Rattle.readtable_core.specs.Sound.{is_dispatching}
 use Rattle.readtable_core.proofs.Named.{named_function, named_sub_function}
 use Rattle.package_table.specs.Table as packages
@@ -26,14 +26,14 @@ use Rattle.package_table.proofs.Growing.{grows_same}
 use Rattle.plist_state.specs.declared.error.ReadtableError.{ReadtableError}
 use Rattle.plist_state.specs.declared.error.ReadtableError.TheVariants.{NoReadtable}
 use Rattle.plist_state.specs.State.{Readtables, WorldState, standard_name}
-use Rattle.plist_state.specs.Changes.{after_in_readtable, with_case, with_macro, with_dispatching, dispatched, with_dispatch, with_syntax, with_copy, in_state}
-use Rattle.plist_state.specs.Sound.{IsSymbol, IsValue, IsSound}
+use Rattle.plist_state.specs.Changes.{after_in_readtable, with_case, with_macro, with_dispatching, with_sub_function, with_dispatch, with_syntax, with_copy, in_state}
+use Rattle.plist_state.specs.Sound.{IsSymbol, IsValue, IsSoundWorldState}
 use Rattle.plist_state.proofs.Soundness.{sound_in_readtable}
 use Rattle.plist_state.proofs.KeptWorld.{sound_changed, named_case, named_macro, named_dispatching, named_dispatched, sound_syntax, sound_copied, dispatch_there}
 use Rattle.lisp_operators.specs.Kinds.{a_character, a_keyword, a_source, a_case, given_or, given_or_nil, is_true}
 use Rattle.lisp_operators.specs.Evaluation.{Evaluation}
 use Rattle.lisp_operators.specs.Properties.{t}
-use Rattle.lisp_operators.specs.Readtables.{name_or_nil, after, in_readtable, changeable, is_function, a_function, readtable_case, set_case, copy_readtable, enter_readtable, after_first, set_syntax, set_macro, get_macro, make_dispatch, set_dispatch, get_dispatch}
+use Rattle.lisp_operators.specs.Readtables.{name_or_nil, value_after, in_readtable, changeable, is_function, a_function, readtable_case, set_case, copy_readtable, enter_readtable, after_first, set_syntax, set_macro, get_macro, make_dispatch, set_dispatch, get_dispatch}
 use Rattle.lisp_operators.specs.Readtables.{AreFunctionNames}
 use Rattle.lisp_operators.proofs.Good.{Goods, goods_here, goods_state, goods_if, goods_kind, goods_option}
 use Rattle.lisp_operators.proofs.Storable.{symbol_is_value, t_value, nil_value, keyword_kind, character_kind}
@@ -73,10 +73,10 @@ no_function names f all e =
     elim (is_function names f) as (λ b. is_function names f ≡ b → b ≡ false) [ true ↦ λ is. absurd (false≢true (sym e ∙ (function_named names f all is).1)) | false ↦ λ _. refl ] refl
 
 -- ---- values
-keyword_value : (s : WorldState) (n : Name) → IsSound s → IsSymbol s.packages (keyword, n) → IsValue s.packages (symbol keyword n)
+keyword_value : (s : WorldState) (n : Name) → IsSoundWorldState s → IsSymbol s.packages (keyword, n) → IsValue s.packages (symbol keyword n)
 keyword_value s n sound is = symbol_is_value s.packages keyword n sound.packages is
 
-case_value : (s : WorldState) (letters : Case) → IsSound s → IsValue s.packages (symbol keyword (case_name letters))
+case_value : (s : WorldState) (letters : Case) → IsSoundWorldState s → IsValue s.packages (symbol keyword (case_name letters))
 unfolding keyword_names
 case_value s Upcase sound = keyword_value s (case_name Upcase) sound (sound.packages.first.keywords (case_name Upcase) refl)
 case_value s Downcase sound = keyword_value s (case_name Downcase) sound (sound.packages.first.keywords (case_name Downcase) refl)
@@ -90,12 +90,12 @@ symbol_there u h n e =
       | Some k ↦ λ e. ap Some (equal_names k.home h e)
     ] e
 
-name_value : (s : WorldState) (o : Option Name) → IsSound s → ((f : Name) → o ≡ Some f → is_symbol s.packages keyword f ≡ true) → IsValue s.packages (name_or_nil o)
+name_value : (s : WorldState) (o : Option Name) → IsSoundWorldState s → ((f : Name) → o ≡ Some f → is_symbol s.packages keyword f ≡ true) → IsValue s.packages (name_or_nil o)
 name_value s None sound named = nil_value s.packages sound.packages
 name_value s (Some f) sound named = keyword_value s f sound (symbol_there s.packages keyword f (named f refl))
 
 -- ---- the operators
-after_safe : (s : WorldState) (x : Object) (r : Result Readtables ReadtableError) → ((v : Readtables) → r ≡ Ok v → IsSound (record s { readtables = v })) → IsValue s.packages x → Goods IsValue s (after s x (in_state s r))
+after_safe : (s : WorldState) (x : Object) (r : Result Readtables ReadtableError) → ((v : Readtables) → r ≡ Ok v → IsSoundWorldState (record s { readtables = v })) → IsValue s.packages x → Goods IsValue s (value_after s x (in_state s r))
 after_safe s x (Ok v) sound is = goods_state IsValue s x (record s { readtables = v }) true (sound v refl) (grows_same s.packages) is
 after_safe s x (Err e) sound is = refused s _
 
@@ -126,9 +126,9 @@ copy_safe (z ∷ k ∷ []) s sound are =
     goods_kind IsValue s (a_source z) _ (λ m _. goods_kind IsValue s (a_keyword k) _ (λ n e. after_safe s k (with_copy s.readtables m n) (sound_copied s m n sound (keyword_kind s.packages k n e is)) is))
 copy_safe _ s sound are = refused s _
 
-entered_safe : (s : WorldState) (n : Name) (x : Object) → IsSound s → IsValue s.packages x → Goods IsValue s (after s x (after_in_readtable s n))
+entered_safe : (s : WorldState) (n : Name) (x : Object) → IsSoundWorldState s → IsValue s.packages x → Goods IsValue s (value_after s x (after_in_readtable s n))
 entered_safe s n x sound is =
-    elim (finite.contains_key s.readtables n) as (λ b. finite.contains_key s.readtables n ≡ b → Goods IsValue s (after s x (cond b (Ok (record s { current_readtable = n })) (Err NoReadtable)))) [
+    elim (finite.contains_key s.readtables n) as (λ b. finite.contains_key s.readtables n ≡ b → Goods IsValue s (value_after s x (cond b (Ok (record s { current_readtable = n })) (Err NoReadtable)))) [
       | true ↦ λ there. goods_state IsValue s x (record s { current_readtable = n }) true (sound_in_readtable s n sound there) (grows_same s.packages) is
       | false ↦ λ _. refused s _
     ] refl
@@ -153,7 +153,7 @@ set_macro_safe names all (c ∷ f ∷ rest) s sound are =
     goods_kind IsValue s (a_character c) _ (λ at e. goods_kind IsValue s (a_keyword f) _ (λ function g.
     goods_kind IsValue s (given_or a_keyword s.current_readtable (after_first rest)) _ (λ n _. changeable_safe s n _
     (function_safe s names function _ all (λ other fits. after_safe s t (with_macro s.readtables n at function non_terminating)
-    (sound_changed s n (λ table. Ok (with_entry table at (macro_entry function non_terminating))) sound
+    (sound_changed s n (λ table. Ok (with_character_entry table at (macro_entry function non_terminating))) sound
     (λ u v named made. named_macro s.packages at function non_terminating u v (character_kind s.packages c at e (first_of s c (f ∷ rest) are)) other fits
     (keyword_kind s.packages f function g (first_of s f rest (rest_of s c (f ∷ rest) are))) named made))
     (t_value s.packages sound.packages))))))
@@ -171,7 +171,7 @@ make_dispatch_safe (c ∷ rest) s sound are =
     let non_terminating : Bool = is_true (given_or_nil rest) in
     goods_kind IsValue s (a_character c) _ (λ at e. goods_kind IsValue s (given_or a_keyword s.current_readtable (after_first rest)) _ (λ n _.
     after_safe s t (with_dispatching s.readtables n at non_terminating)
-    (sound_changed s n (λ table. Ok (with_entry table at (dispatching_entry non_terminating))) sound
+    (sound_changed s n (λ table. Ok (with_character_entry table at (dispatching_entry non_terminating))) sound
     (λ u v named made. named_dispatching s.packages at non_terminating u v (character_kind s.packages c at e (first_of s c rest are)) (dispatch_there s sound) named made))
     (t_value s.packages sound.packages)))
 
@@ -184,7 +184,7 @@ set_dispatch_safe names all (c ∷ d ∷ f ∷ rest) s sound are =
     goods_kind IsValue s (a_character c) _ (λ at e. goods_kind IsValue s (a_character d) _ (λ sub h. goods_kind IsValue s (a_keyword f) _ (λ function g.
     goods_kind IsValue s (given_or a_keyword s.current_readtable rest) _ (λ n _. changeable_safe s n _
     (function_safe s names function _ all (λ other fits. after_safe s t (with_dispatch s.readtables n at sub function)
-    (sound_changed s n (λ table. dispatched table at sub function) sound
+    (sound_changed s n (λ table. with_sub_function table at sub function) sound
     (λ u v named made. named_dispatched s.packages at sub function u v (character_kind s.packages c at e (first_of s c (d ∷ f ∷ rest) are)) (character_kind s.packages d sub h (first_of s d (f ∷ rest) others)) other fits
     (keyword_kind s.packages f function g (first_of s f rest (rest_of s d (f ∷ rest) others))) named made))
     (t_value s.packages sound.packages)))))))

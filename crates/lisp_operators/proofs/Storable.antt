@@ -25,15 +25,15 @@ use Rattle.lisp_operators.specs.Properties.{t}
 at_home : Present
 at_home = record { home = common_lisp; external = true }
 
-lisp_present : (u : packages.Table) → packages.IsSound u → (n : Name) → option_map (λ (e : Present). e.home) (finite.get common_lisp_package.symbols n) ≡ Some common_lisp → IsPresent u common_lisp n common_lisp
+lisp_present : (u : packages.Table) → packages.AreSoundPackages u → (n : Name) → option_map (λ (e : Present). e.home) (finite.get common_lisp_package.symbols n) ≡ Some common_lisp → IsPresent u common_lisp n common_lisp
 lisp_present u sound n there =
     ap (λ (o : Option Package). option_map (λ (e : Present). e.home) (option_and_then (λ (k : Package). finite.get k.symbols n) o)) sound.first.fixed ∙ there
 
-t_present : (u : packages.Table) → packages.IsSound u → IsPresent u common_lisp (codes "T") common_lisp
+t_present : (u : packages.Table) → packages.AreSoundPackages u → IsPresent u common_lisp (codes "T") common_lisp
 unfolding common_lisp_package common_lisp_names
 t_present u sound = lisp_present u sound (codes "T") (ap (option_map (λ (e : Present). e.home)) (get-from_entries name_total (map (λ n. (n, record { home = common_lisp; external = true })) common_lisp_names) (codes "T")))
 
-pub nil_present : (u : packages.Table) → packages.IsSound u → IsPresent u common_lisp (codes "NIL") common_lisp
+pub nil_present : (u : packages.Table) → packages.AreSoundPackages u → IsPresent u common_lisp (codes "NIL") common_lisp
 unfolding common_lisp_package common_lisp_names
 nil_present u sound = lisp_present u sound (codes "NIL") (ap (option_map (λ (e : Present). e.home)) (get-from_entries name_total (map (λ n. (n, record { home = common_lisp; external = true })) common_lisp_names) (codes "NIL")))
 
@@ -41,17 +41,17 @@ present_package : (o : Option Package) (n h : Name) → option_map (λ (e : Pres
 present_package None n h e = absurd (none_some h e)
 present_package (Some k) n h e = refl
 
-pub symbol_is_value : (u : packages.Table) (h n : Name) → packages.IsSound u → IsPresent u h n h → IsValue u (symbol h n)
+pub symbol_is_value : (u : packages.Table) (h n : Name) → packages.AreSoundPackages u → IsPresent u h n h → IsValue u (symbol h n)
 symbol_is_value u h n sound there = record {
   object = ((sound.within.package_names h (present_package (finite.get u h) n h there)).ascii, (sound.within.symbol_names h n h there).ascii);
   depth = omega arith;
   symbols = there;
 }
 
-pub t_value : (u : packages.Table) → packages.IsSound u → IsValue u t
+pub t_value : (u : packages.Table) → packages.AreSoundPackages u → IsValue u t
 t_value u sound = symbol_is_value u common_lisp (codes "T") sound (t_present u sound)
 
-pub nil_value : (u : packages.Table) → packages.IsSound u → IsValue u nil
+pub nil_value : (u : packages.Table) → packages.AreSoundPackages u → IsValue u nil
 nil_value u sound = symbol_is_value u common_lisp (codes "NIL") sound (nil_present u sound)
 
 pub text_value : (u : packages.Table) (n : Name) → All (λ b. b < 128) n → IsValue u (text n)
@@ -104,11 +104,11 @@ list_sound : (u : packages.Table) (xs : List Object) → AreValues u xs → obje
 list_sound u [] are = sound_nil
 list_sound u (x ∷ xs) are = ((All-head (IsValue u) x xs are).object, list_sound u xs (All-tail (IsValue u) x xs are))
 
-list_known : (u : packages.Table) → packages.IsSound u → (xs : List Object) → AreValues u xs → AllAtoms (IsKnown u) (list_of xs)
+list_known : (u : packages.Table) → packages.AreSoundPackages u → (xs : List Object) → AreValues u xs → AllAtoms (IsKnown u) (list_of xs)
 list_known u sound [] are = nil_present u sound
 list_known u sound (x ∷ xs) are = ((All-head (IsValue u) x xs are).symbols, list_known u sound xs (All-tail (IsValue u) x xs are))
 
-pub list_value : (u : packages.Table) → packages.IsSound u → (xs : List Object) → AreValues u xs → object_depth (list_of xs) ≤ 100 → IsValue u (list_of xs)
+pub list_value : (u : packages.Table) → packages.AreSoundPackages u → (xs : List Object) → AreValues u xs → object_depth (list_of xs) ≤ 100 → IsValue u (list_of xs)
 list_value u sound xs are within = record { object = list_sound u xs are; depth = within; symbols = list_known u sound xs are }
 
 pub pair_value : (u : packages.Table) (a b : Object) → IsValue u a → IsValue u b → object_depth (pair a b) ≤ 100 → IsValue u (pair a b)

@@ -12,14 +12,14 @@ use Rattle.package_table.specs.Table.{Name, Table, is_locked}
 use Rattle.plist_state.specs.Properties.{Symbol}
 use Rattle.plist_state.specs.State.{WorldState, Worlds}
 use Rattle.plist_state.specs.Sound.{IsValue}
-use Rattle.plist_state.specs.Shown.{symbol_of}
+use Rattle.plist_state.specs.Views.{symbol_of}
 use Rattle.plist_state.specs.declared.symbol.Symbol.{Symbol as Stored}
 use Rattle.plist_state.specs.declared.error.ReadtableError.{ReadtableError}
-use Rattle.plist_state.specs.Refused.{readtable_error_number}
+use Rattle.plist_state.specs.ErrorNumbers.{readtable_error_number}
 use Rattle.lisp_operators.specs.declared.error.EvaluationError.{EvaluationError}
 use Rattle.lisp_operators.specs.declared.error.EvaluationError.TheVariants.{Refused, OutOfMemory}
 use Rattle.lisp_operators.specs.declared.evaluated.Evaluated.{Evaluated}
-use Rattle.lisp_operators.specs.Errors.{of_package}
+use Rattle.lisp_operators.specs.ErrorNumbers.{of_package}
 use Rattle.lisp_operators.specs.Members.{each_in}
 use Rattle.plist_state.specs.Changes.{with_property}
 use Rattle.lisp_operators.specs.Evaluation.{Done, Evaluation, writes}
@@ -80,15 +80,15 @@ abbrev pub CarriesOut : (List Object → WorldState → Evaluation Object) → L
 CarriesOut function values old new result = Answers done result new (function (objects values) old)
 
 -- the value of a property is told, which the second state has in place of the first
-abbrev pub Stores : WorldState → Symbol → Symbol → Object → WorldState → Result Evaluated EvaluationError → Type 0
-Stores old x i v new result = Answers done result new (writes v (with_property old x i v))
+abbrev pub StoresProperty : WorldState → Symbol → Symbol → Object → WorldState → Result Evaluated EvaluationError → Type 0
+StoresProperty old x i v new result = Answers done result new (writes v (with_property old x i v))
 
 -- Changes of the packages answer what the definition says: the packages that they leave, and whether these are others; or the
 -- refusal. Where memory ran out it says nothing.
-abbrev pub Makes : Result Bool PackageError → Table → Result (Table × Bool) PackageError → Type 0
-Makes (Ok wrote) u said = said ≡ Ok (u, wrote)
-Makes (Err NoRoom) u said = Unit {0}
-Makes (Err e) u said = said ≡ Err e
+abbrev pub MakesPackages : Result Bool PackageError → Table → Result (Table × Bool) PackageError → Type 0
+MakesPackages (Ok wrote) u said = said ≡ Ok (u, wrote)
+MakesPackages (Err NoRoom) u said = Unit {0}
+MakesPackages (Err e) u said = said ≡ Err e
 
 -- T, and whether the packages changed; or the refusal of the changes. T takes memory.
 abbrev pub TellsPackageChange : Result Bool PackageError → Result Evaluated EvaluationError → Type 0

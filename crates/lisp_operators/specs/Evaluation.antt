@@ -4,11 +4,13 @@ use Rattle.std.specs.Prelude.{ℕ, Bool, true, false, ◌||◌, Option, Some, No
 use Rattle.lisp_object.specs.declared.refusal.TheConstants.{ARGUMENT_KIND}
 use Rattle.plist_state.specs.State.{WorldState}
 
+-- what was evaluated: its value, the state after it, and whether anything was written
 pub record Done (A : Type 0) : Type 0 where
   pub value : A
   pub state : WorldState
   pub wrote : Bool
 
+-- that, or the number of the refusal
 abbrev pub Evaluation : Type 0 → Type 0
 Evaluation A = Result (Done A) ℕ
 

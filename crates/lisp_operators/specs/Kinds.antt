@@ -10,6 +10,7 @@ use Rattle.package_table.specs.Table.{Name, keyword}
 use Rattle.plist_state.specs.Properties.{Symbol}
 use Rattle.plist_state.specs.State.{standard_name}
 
+-- the symbol that an object is, if it is one with a home
 abbrev pub a_symbol : Object → Option Symbol
 a_symbol (symbol home name) = Some (home, name)
 a_symbol _ = None
@@ -20,14 +21,17 @@ a_name (text characters) = Some characters
 a_name (symbol home name) = Some name
 a_name _ = None
 
+-- the characters of a text
 abbrev pub a_text : Object → Option Name
 a_text (text characters) = Some characters
 a_text _ = None
 
+-- the number that an integer is
 abbrev pub an_integer : Object → Option ℤ
 an_integer (integer n) = Some n
 an_integer _ = None
 
+-- the code of a character
 abbrev pub a_character : Object → Option ℕ
 a_character (character c) = Some c
 a_character _ = None
@@ -51,6 +55,7 @@ case_named name =
     else (if bytes_eq name (case_name Invert) then Some Invert
     else None)))
 
+-- the case that a keyword names
 abbrev pub a_case : Object → Option Case
 a_case x = option_and_then case_named (a_keyword x)
 

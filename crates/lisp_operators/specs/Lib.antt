@@ -1,4 +1,4 @@
-pub mod Errors
+pub mod ErrorNumbers
 pub mod Evaluated
 pub mod Evaluation
 pub mod Kinds

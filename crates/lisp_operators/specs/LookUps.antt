@@ -63,6 +63,7 @@ most_of_look_up FindSymbol = 2
 most_of_look_up ListAllPackages = 0
 most_of_look_up SymbolsWith = 2
 
+-- what each of them gives
 abbrev pub looked_up : LookUp → List Object → WorldState → Evaluation Object
 looked_up FindSymbol xs s = find_symbol xs s
 looked_up ListAllPackages xs s = list_all_packages xs s

@@ -7,7 +7,7 @@ use Rattle.lisp_object.specs.Object.{Object, text, symbol}
 use Rattle.lisp_object.specs.declared.refusal.TheConstants.{ARGUMENT_KIND, NO_SUCH_PACKAGE, PACKAGE_IS_LOCKED, NOT_ACCESSIBLE}
 use Rattle.package_table.specs.declared.error.PackageError.{PackageError}
 use Rattle.package_table.specs.Table.{Name, Table, keyword, is_locked, package_named}
-use Rattle.package_table.specs.Errors.{package_error_number}
+use Rattle.package_table.specs.ErrorNumbers.{package_error_number}
 use Rattle.package_table.specs.Changes.{after_make, after_intern, after_export, after_import, after_use, finds_this, intern_changes, export_changes, import_changes, use_changes}
 use Rattle.plist_state.specs.Properties.{Symbol}
 use Rattle.plist_state.specs.State.{WorldState}
@@ -25,6 +25,7 @@ abbrev pub made : WorldState → Name → Result Table PackageError → Evaluati
 made s n (Ok packages) = writes (text n) (with_packages s packages)
 made s n (Err e) = Err (package_error_number e)
 
+-- MAKE-PACKAGE
 abbrev pub make : List Object → WorldState → Evaluation Object
 make (x ∷ []) s = of_kind (a_name x) (λ n. made s n (after_make s.packages n))
 make _ s = Err ARGUMENT_KIND
@@ -38,6 +39,7 @@ abbrev pub interned : WorldState → Name → Bool → Result (Name × Table) Pa
 interned s n changes (Ok p) = Ok (record { value = symbol p.0 n; state = with_packages s p.1; wrote = changes })
 interned s n changes (Err e) = Err (package_error_number e)
 
+-- INTERN
 abbrev pub intern : List Object → WorldState → Evaluation Object
 intern (x ∷ rest) s =
     of_kind (a_text x) (λ n. of_kind (given_or a_name s.current_package rest) (λ q.
@@ -51,6 +53,7 @@ then_others (Err e) on = Err e
 -- Changes of the packages for one after the other, up to the first that is refused; and whether one of them changes
 -- anything.
 module _ {A : Type 0} (change : Table → A → Result Table PackageError) (changes : Table → A → Bool) where
+  -- changes one after the other, and whether one of them changed anything; the first that is refused ends them
   abbrev pub one_by_one : Table → Bool → List A → Result (Table × Bool) PackageError
   one_by_one packages wrote [] = Ok (packages, wrote)
   one_by_one packages wrote (x ∷ xs) = then_others (change packages x) (λ later. one_by_one later (wrote || changes packages x) xs)
@@ -59,9 +62,11 @@ module _ {A : Type 0} (change : Table → A → Result Table PackageError) (chan
 abbrev pub after_exports : Table → Name → List Symbol → Result (Table × Bool) PackageError
 after_exports u p ys = one_by_one (λ v y. after_export v p y.0 y.1) (λ v y. export_changes v p y.1) u false ys
 
+-- these symbols are imported
 abbrev pub after_imports : Table → Name → List Symbol → Result (Table × Bool) PackageError
 after_imports u p ys = one_by_one (λ v y. after_import v p y.0 y.1) (λ v y. import_changes v p y.1) u false ys
 
+-- these packages are used
 abbrev pub after_uses : Table → Name → List Name → Result (Table × Bool) PackageError
 after_uses u p qs = one_by_one (λ v q. after_use v p q) (λ v q. use_changes v p q) u false qs
 
@@ -70,6 +75,7 @@ abbrev pub changed : WorldState → Result (Table × Bool) PackageError → Eval
 changed s (Ok p) = Ok (record { value = t; state = with_packages s p.0; wrote = p.1 })
 changed s (Err e) = Err (package_error_number e)
 
+-- what goes on where the package is not locked
 abbrev pub unlocked : {A : Type 0} → Name → Evaluation A → Evaluation A
 unlocked p on = if is_locked p then Err PACKAGE_IS_LOCKED else on
 
@@ -105,6 +111,7 @@ use_all s p qs =
     if is_locked p || list_any (bytes_eq keyword) qs then Err PACKAGE_IS_LOCKED
     else changed s (after_uses s.packages p qs)
 
+-- USE-PACKAGE
 abbrev pub use_package : List Object → WorldState → Evaluation Object
 use_package (x ∷ rest) s =
     of_kind (one_or_each a_name x) (λ ns. of_kind (given_or a_name s.current_package rest) (λ q.

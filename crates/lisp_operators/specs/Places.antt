@@ -77,6 +77,7 @@ abbrev pub with_default : Bool → List Object → List Object
 with_default true xs = xs
 with_default false xs = with_nil xs
 
+-- what an operator that changes a place does to the property
 abbrev pub changed_place : PlaceChange → List Object → WorldState → Evaluation Object
 changed_place (Stepped way) xs s = take_step way xs s
 changed_place Popped xs s = pop xs s

@@ -9,6 +9,7 @@ use Rattle.plist_state.specs.Changes.{plist, property, with_property, without_pr
 use Rattle.lisp_operators.specs.Evaluation.{Evaluation, gives, writes, of_kind}
 use Rattle.lisp_operators.specs.Kinds.{a_symbol, an_integer, given_or_nil}
 
+-- the symbol T
 abbrev pub t : Object
 t = symbol common_lisp (codes "T")
 
@@ -37,6 +38,7 @@ abbrev pub removed : Option Object → WorldState → WorldState → Evaluation 
 removed None old new = gives nil old
 removed (Some v) old new = writes t new
 
+-- REMPROP
 abbrev pub remove : List Object → WorldState → Evaluation Object
 remove (x ∷ i ∷ []) s =
     of_kind (a_symbol x) (λ x'. of_kind (a_symbol i) (λ i'. removed (property s x' i') s (without_property s x' i')))

@@ -6,7 +6,7 @@ use Rattle.lisp_object.specs.declared.refusal.TheConstants.{ARGUMENT_KIND, NO_RE
 use Rattle.readtable_core.specs.Tables as readtable
 use Rattle.readtable_core.specs.Tables.{entry_at, dispatch_at}
 use Rattle.readtable_core.specs.Names.{is_among, is_standard, is_dispatch_name, is_function_name}
-use Rattle.readtable_core.specs.Named.{functions_of}
+use Rattle.readtable_core.specs.NamedFunctions.{functions_of}
 use Rattle.user_macros.specs.Registry.{is_covered}
 use Rattle.std.specs.List.{list_all}
 use Rattle.readtable_core.specs.Cases.{case_name}
@@ -16,7 +16,7 @@ use Rattle.std.specs.Str.{bytes_eq}
 use Rattle.std.specs.FinMap as finite
 use Rattle.plist_state.specs.declared.error.ReadtableError.{ReadtableError}
 use Rattle.plist_state.specs.State.{Readtables, WorldState, standard_name}
-use Rattle.plist_state.specs.Refused.{readtable_error_number}
+use Rattle.plist_state.specs.ErrorNumbers.{readtable_error_number}
 use Rattle.plist_state.specs.Changes.{after_in_readtable, with_case, with_macro, with_dispatching, with_dispatch, with_syntax, with_copy, in_state}
 use Rattle.lisp_operators.specs.Evaluation.{Evaluation, gives, writes, of_kind}
 use Rattle.lisp_operators.specs.Kinds.{a_character, a_keyword, a_source, a_case, given_or, given_or_nil, is_true}
@@ -31,13 +31,13 @@ name_or_nil (Some name) = a_keyword_of name
 name_or_nil None = nil
 
 -- a value, in the state after a change
-abbrev pub after : WorldState → Object → Result WorldState ReadtableError → Evaluation Object
-after s x (Ok later) = writes x later
-after s x (Err e) = Err (readtable_error_number e)
+abbrev pub value_after : WorldState → Object → Result WorldState ReadtableError → Evaluation Object
+value_after s x (Ok later) = writes x later
+value_after s x (Err e) = Err (readtable_error_number e)
 
 -- a value, in the state with other readtables
 abbrev pub with_readtables : WorldState → Object → Result Readtables ReadtableError → Evaluation Object
-with_readtables s x tables = after s x (in_state s tables)
+with_readtables s x tables = value_after s x (in_state s tables)
 
 -- what goes on with the readtable of this name
 abbrev pub in_readtable : WorldState → Name → (readtable.Table → Evaluation Object) → Evaluation Object
@@ -51,6 +51,7 @@ changeable s n on = in_readtable s n (λ table. if bytes_eq n standard_name then
 abbrev pub is_function : List Name → Name → Bool
 is_function names f = not (is_dispatch_name f) && (is_standard f || is_among names f)
 
+-- what goes on where a readtable may name the function
 abbrev pub a_function : List Name → Name → Evaluation Object → Evaluation Object
 a_function names f on = if is_function names f then on else Err NO_MACRO
 
@@ -71,7 +72,7 @@ copy_readtable _ s = Err ARGUMENT_KIND
 
 -- IN-READTABLE
 abbrev pub enter_readtable : List Object → WorldState → Evaluation Object
-enter_readtable (r ∷ []) s = of_kind (a_keyword r) (λ n. after s r (after_in_readtable s n))
+enter_readtable (r ∷ []) s = of_kind (a_keyword r) (λ n. value_after s r (after_in_readtable s n))
 enter_readtable _ s = Err ARGUMENT_KIND
 
 -- what is given after the first of these

@@ -6,7 +6,7 @@ ghost use Rattle.plist_state.specs.Changes.{with_packages};
 ghost use Rattle.plist_state.specs.Sound.{IsSymbol};
 ghost use Rattle.lisp_operators.specs.Members.{symbol_of_member, name_in, symbols_in, packages_in};
 ghost use Rattle.lisp_operators.specs.Packages.{after_exports, after_imports, after_uses, finds_symbol};
-ghost use Rattle.lisp_operators.specs.Evaluated.{Makes, IsProper, AreProper};
+ghost use Rattle.lisp_operators.specs.Evaluated.{MakesPackages, IsProper, AreProper};
 
 use crate::either;
 use crate::lists::{name_in, symbol_in};
@@ -52,7 +52,7 @@ pub(crate) fn export_all(
     symbols: &[Datum],
 ) -> Result<bool, PackageError>
     requires { AreProper symbols.now }
-    ensures gives { Makes result world.new.0.packages
+    ensures gives { MakesPackages result world.new.0.packages
         (after_exports world.old.0.packages owner.now (symbols_in symbols.now)) }
     ensures rest { world.new ≡ (with_packages world.old.0 world.new.0.packages, world.old.1) }
 {
@@ -75,7 +75,7 @@ pub(crate) fn import_all(
 ) -> Result<bool, PackageError>
     requires proper { AreProper symbols.now }
     requires there { All (λ d. IsSymbol world.old.0.packages (symbol_of_member d)) symbols.now }
-    ensures gives { Makes result world.new.0.packages
+    ensures gives { MakesPackages result world.new.0.packages
         (after_imports world.old.0.packages owner.now (symbols_in symbols.now)) }
     ensures rest { world.new ≡ (with_packages world.old.0 world.new.0.packages, world.old.1) }
 {
@@ -97,7 +97,7 @@ pub(crate) fn use_each(
     used: &[Datum],
 ) -> Result<bool, PackageError>
     requires { AreProper used.now }
-    ensures gives { Makes result world.new.0.packages
+    ensures gives { MakesPackages result world.new.0.packages
         (after_uses world.old.0.packages owner.now (packages_in used.now)) }
     ensures rest { world.new ≡ (with_packages world.old.0 world.new.0.packages, world.old.1) }
 {

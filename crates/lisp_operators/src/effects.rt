@@ -4,7 +4,7 @@ ghost use Rattle.std.specs.Prelude.{◌≡◌, Some, IfErr};
 ghost use Rattle.lisp_object.specs.Datum.{object_of};
 ghost use Rattle.plist_state.specs.Changes.{property};
 ghost use Rattle.plist_state.specs.Pushed.{pair_size};
-ghost use Rattle.plist_state.specs.Shown.{symbol_of};
+ghost use Rattle.plist_state.specs.Views.{symbol_of};
 ghost use Rattle.plist_state.specs.Sound.{IsSymbol};
 ghost use Rattle.lisp_operators.specs.Properties.{get, set, push};
 ghost use Rattle.lisp_operators.specs.Effects.{IsTruth, Leaves, pushes};

@@ -38,7 +38,7 @@ impl<T: Drop> From<AllocFailed<T>> for EvaluationError {
 
 impl From<PackageError> for EvaluationError {
     ghost use Rattle.std.specs.Prelude.{◌≡◌};
-    ghost use Rattle.lisp_operators.specs.Errors.{of_package};
+    ghost use Rattle.lisp_operators.specs.ErrorNumbers.{of_package};
 
     ghost from_gives = { λ p e. e ≡ of_package p };
 
@@ -52,7 +52,7 @@ impl From<PackageError> for EvaluationError {
 
 impl From<ReadtableError> for EvaluationError {
     ghost use Rattle.std.specs.Prelude.{◌≡◌};
-    ghost use Rattle.lisp_operators.specs.Errors.{of_readtable};
+    ghost use Rattle.lisp_operators.specs.ErrorNumbers.{of_readtable};
 
     ghost from_gives = { λ r e. e ≡ of_readtable r };
 

@@ -26,7 +26,7 @@ pub enum ListBuilder {
 }
 
 impl ListBuilder {
-    /// No values.
+    /// Before the first value.
     pub fn new(alloc: Global) -> ListBuilder
         ensures { HoldsList [] result }
     {
@@ -36,7 +36,8 @@ impl ListBuilder {
         }
     }
 
-    /// These, and one more.
+    /// With one value more. Where that has too many levels, or all are too large together, none is held from then on. Only memory
+    /// may run out.
     pub fn with(self, value: Datum) -> Result<ListBuilder, AllocError>
         requires { IsProper value }
         ensures { (xs : List Object) → HoldsList xs self
@@ -52,7 +53,8 @@ impl ListBuilder {
         }
     }
 
-    /// LIST of them.
+    /// The list of the values so far. Refused with `VALUE_TOO_DEEP` if one of them has too many levels, and else with `LIMIT` if they are
+    /// too large together.
     pub fn list(self, alloc: Global) -> Result<Evaluated, EvaluationError>
         ensures { (xs : List Object) → HoldsList xs self → AnswersList xs result }
     {

@@ -46,7 +46,11 @@ fn unlocked(alloc: Global, world: &World, name: &[u8]) -> Result<Vec<u8>, Evalua
     Ok(Vec::from_slice(alloc, package)?)
 }
 
-/// EXPORT of a symbol or a list of them. That the package finds each is looked at before any conflict.
+/// EXPORT of a symbol or a list of them. Refused, in this order: a value of another kind, no such package, a locked one, a symbol
+/// that it does not find, and then, symbol by symbol, a conflict of names in a package that uses it.
+///
+/// The symbols before one that is refused stay external: after an error the world may have changed, but for its marks, and who
+/// calls it goes back to one.
 pub fn export(
     alloc: Global,
     world: &mut World,
@@ -69,7 +73,11 @@ pub fn export(
     changed(alloc, made)
 }
 
-/// IMPORT of a symbol or a list of them.
+/// IMPORT of a symbol or a list of them. Refused, in this order: a value of another kind, no such package, a locked one, and then,
+/// symbol by symbol, a conflict of names.
+///
+/// The symbols before one that is refused stay present: after an error the world may have changed, but for its marks, and who
+/// calls it goes back to one.
 pub fn import(
     alloc: Global,
     world: &mut World,
@@ -116,7 +124,11 @@ fn has_keyword(names: &[Datum]) -> bool
     false
 }
 
-/// USE-PACKAGE of a package or a list of them: each is there, then none is KEYWORD nor the user locked, before any conflict.
+/// USE-PACKAGE of a package or a list of them: each is there, then the user is there and not locked, and none of them is KEYWORD,
+/// before any conflict.
+///
+/// The packages before one that is refused stay used: after an error the world may have changed, but for its marks, and who
+/// calls it goes back to one.
 pub fn use_package(
     alloc: Global,
     world: &mut World,

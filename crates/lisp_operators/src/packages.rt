@@ -35,7 +35,8 @@ pub(crate) fn full_name(name: &[u8]) -> &[u8]
     name
 }
 
-/// MAKE-PACKAGE: the name.
+/// MAKE-PACKAGE: its name. Refused where a package has that name already, or there is no room for one more.
+/// After an error the world may have changed, but for its marks: who calls it goes back to one.
 pub fn make(
     alloc: Global,
     world: &mut World,
@@ -69,7 +70,8 @@ pub fn enter(alloc: Global, world: &mut World, name: &Datum) -> Result<Evaluated
     Ok(Evaluated { value, wrote: true })
 }
 
-/// INTERN: the symbol.
+/// INTERN: the symbol that the package finds by the name, or a new one. It wrote if the symbol is new.
+/// After an error the world may have changed, but for its marks: who calls it goes back to one.
 pub fn intern(
     alloc: Global,
     world: &mut World,

@@ -4,9 +4,9 @@ ghost use Rattle.std.specs.List.{list_all};
 ghost use Rattle.std.specs.Option.{option_map_or};
 ghost use Rattle.lisp_object.specs.Object.{pair, pairs, nil};
 ghost use Rattle.lisp_object.specs.Datum.{object_of, is_proper};
-ghost use Rattle.package_table.specs.Table.{Table, IsSound};
+ghost use Rattle.package_table.specs.Table.{Table, AreSoundPackages};
 ghost use Rattle.plist_state.specs.Changes.{property};
-ghost use Rattle.plist_state.specs.Shown.{symbol_of};
+ghost use Rattle.plist_state.specs.Views.{symbol_of};
 ghost use Rattle.lisp_operators.specs.Kinds.{an_integer};
 ghost use Rattle.lisp_operators.specs.Places.{change_named, most_of_change, with_default, place_changed, if_stepped, take_step, parted, pop, Pops, IsParted};
 ghost use Rattle.lisp_operators.specs.declared.error.EvaluationError.TheVariants.{OutOfMemory};
@@ -74,7 +74,7 @@ fn with_default(
     has_default: bool,
 ) -> Result<Vec<Datum>, AllocError>
     ensures value { IfOk result (λ v. objects v.items ≡ with_default has_default (objects values.items)) }
-    ensures arguments { (u : Table) → IsSound u → All (IsArgument u) values.items
+    ensures arguments { (u : Table) → AreSoundPackages u → All (IsArgument u) values.items
         → IfOk result (λ v. All (IsArgument u) v.items) }
 {
     if !has_default && values.len() >= 2 {

@@ -5,11 +5,11 @@ ghost use Rattle.lisp_object.specs.Object.{IsSound, pair};
 ghost use Rattle.lisp_object.specs.Datum.{object_of, is_proper};
 ghost use Rattle.plist_state.specs.Changes.{property};
 ghost use Rattle.plist_state.specs.Pushed.{holds_pair};
-ghost use Rattle.plist_state.specs.Shown.{symbol_of};
+ghost use Rattle.plist_state.specs.Views.{symbol_of};
 ghost use Rattle.plist_state.specs.Sound.{IsSymbol};
 ghost use Rattle.lisp_operators.specs.Kinds.{a_symbol};
 ghost use Rattle.lisp_operators.specs.Properties.{get, set, remove, in_turn, symbol_plist, amount, increment, push};
-ghost use Rattle.lisp_operators.specs.Evaluated.{IsOfKind, IsPropertyKey, object_of_symbol, or_nil, IsProper, AreProper, IsProperValue, AreArgumentsOf, CarriesOut, IsArgument, Stores, objects};
+ghost use Rattle.lisp_operators.specs.Evaluated.{IsOfKind, IsPropertyKey, object_of_symbol, or_nil, IsProper, AreProper, IsProperValue, AreArgumentsOf, CarriesOut, IsArgument, StoresProperty, objects};
 
 use crate::EvaluationError::Refused;
 use crate::arguments::given_or_nil;
@@ -73,7 +73,7 @@ fn store(
     requires symbol { IsSymbol world.old.0.packages (symbol_of symbol.now) }
     requires indicator { IsSymbol world.old.0.packages (symbol_of indicator) }
     requires value { IsArgument world.old.0.packages value }
-    ensures gives { Stores world.old.0 (symbol_of symbol.now) (symbol_of indicator)
+    ensures gives { StoresProperty world.old.0 (symbol_of symbol.now) (symbol_of indicator)
         (object_of value) world.new.0 result }
     ensures proper { IfOk result IsProperValue }
     ensures unchanged { IfErr result (λ _. world.new ≡ world.old) }
@@ -101,7 +101,8 @@ pub fn set(
     store(alloc, world, &symbol, indicator, value)
 }
 
-/// REMPROP: whether the symbol had the property.
+/// REMPROP: T if the symbol had the property, which is gone then; else NIL, and nothing is written.
+/// After an error the world may have changed, but for its marks: who calls it goes back to one.
 pub fn remove(
     alloc: Global,
     world: &mut World,

@@ -23,7 +23,8 @@ fn base(number: i128) -> Result<u8, EvaluationError>
     }
 }
 
-/// SETF of `*READ-BASE*`: the new base.
+/// SETF of `*READ-BASE*`: the new base, from 2 to 36.
+/// After an error the world may have changed, but for its marks: who calls it goes back to one.
 pub fn set_base(world: &mut World, values: &[Datum]) -> Result<Evaluated, EvaluationError>
     requires { AreArgumentsOf world.old values.now }
     ensures gives { CarriesOut set_base values.now world.old.0 world.new.0 result }

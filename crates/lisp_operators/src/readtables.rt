@@ -5,9 +5,9 @@ ghost use Rattle.lisp_object.specs.Datum.{object_of};
 ghost use Rattle.readtable_core.specs.Names.{is_among};
 ghost use Rattle.plist_state.specs.State.{WorldState};
 ghost use Rattle.plist_state.specs.declared.error.ReadtableError.{ReadtableError};
-ghost use Rattle.plist_state.specs.Changes.{writable, Gives as Tells};
+ghost use Rattle.plist_state.specs.Changes.{writable, AnswersReadtables as Tells};
 ghost use Rattle.lisp_operators.specs.Properties.{t};
-ghost use Rattle.lisp_operators.specs.Readtables.{after, name_or_nil, is_function, readtable_case, set_case, copy_readtable, enter_readtable, set_syntax, set_macro, get_macro, make_dispatch, set_dispatch, get_dispatch};
+ghost use Rattle.lisp_operators.specs.Readtables.{value_after, name_or_nil, is_function, readtable_case, set_case, copy_readtable, enter_readtable, set_syntax, set_macro, get_macro, make_dispatch, set_dispatch, get_dispatch};
 ghost use Rattle.lisp_operators.specs.Readtables.{AreFunctionNames};
 ghost use Rattle.lisp_operators.specs.Evaluated.{IsReadtableOr, IsFunctionOr, IsWritableOr, Answers, done, IsProper, IsProperValue, AreArgumentsOf, CarriesOut};
 
@@ -77,7 +77,7 @@ fn is_among(names: &[FnName], function: FnName) -> bool
 // What a change of the readtables gives: T.
 fn changed(alloc: Global, made: Result<(), ReadtableError>) -> Result<Evaluated, EvaluationError>
     ensures gives { (s later : WorldState) (said : Result WorldState ReadtableError)
-        → Tells (λ _. later) made said → Answers done result later (after s t said) }
+        → Tells (λ _. later) made said → Answers done result later (value_after s t said) }
     ensures proper { IfOk result IsProperValue }
 {
     match made {
@@ -106,7 +106,8 @@ pub fn readtable_case(
     })
 }
 
-/// SETF of a readtable's case: the case.
+/// SETF of a readtable's case: the case. Refused where there is no such readtable, or it is the standard one.
+/// After an error the world may have changed, but for its marks: who calls it goes back to one.
 pub fn set_case(
     alloc: Global,
     world: &mut World,
@@ -125,7 +126,8 @@ pub fn set_case(
     })
 }
 
-/// COPY-READTABLE: the name of the copy.
+/// COPY-READTABLE: the name of the copy, which takes the place of a readtable of that name. None takes that of the standard one.
+/// After an error the world may have changed, but for its marks: who calls it goes back to one.
 pub fn copy_readtable(
     alloc: Global,
     world: &mut World,
@@ -144,7 +146,8 @@ pub fn copy_readtable(
     })
 }
 
-/// IN-READTABLE: the name of the readtable that becomes current.
+/// IN-READTABLE: the name of the readtable that becomes current. Refused where there is none of that name.
+/// After an error the world may have changed, but for its marks: who calls it goes back to one.
 pub fn enter_readtable(
     alloc: Global,
     world: &mut World,
@@ -163,7 +166,9 @@ pub fn enter_readtable(
     })
 }
 
-/// SET-SYNTAX-FROM-CHAR, to the current readtable and from the standard one where no other are given.
+/// SET-SYNTAX-FROM-CHAR, to the current readtable and from the standard one where no other are given. That both are there is
+/// looked at first, and then that the first is not the standard one.
+/// After an error the world may have changed, but for its marks: who calls it goes back to one.
 pub fn set_syntax(
     alloc: Global,
     world: &mut World,
@@ -186,7 +191,9 @@ pub fn set_syntax(
     changed(alloc, made)
 }
 
-/// SET-MACRO-CHARACTER, in the current readtable where no other is given.
+/// SET-MACRO-CHARACTER, in the current readtable where no other is given. Refused, in this order: a value of
+/// another kind, no such readtable, the standard one, a function that is neither standard nor of the program (`names`).
+/// After an error the world may have changed, but for its marks: who calls it goes back to one.
 pub fn set_macro(
     alloc: Global,
     world: &mut World,
@@ -240,7 +247,9 @@ pub fn get_macro(
     })
 }
 
-/// MAKE-DISPATCH-MACRO-CHARACTER, in the current readtable where no other is given.
+/// MAKE-DISPATCH-MACRO-CHARACTER, in the current readtable where no other is given. Refused, in this order: a value of another kind,
+/// no such readtable, the standard one.
+/// After an error the world may have changed, but for its marks: who calls it goes back to one.
 pub fn make_dispatch(
     alloc: Global,
     world: &mut World,
@@ -260,7 +269,10 @@ pub fn make_dispatch(
     changed(alloc, made)
 }
 
-/// SET-DISPATCH-MACRO-CHARACTER, in the current readtable where no other is given.
+/// SET-DISPATCH-MACRO-CHARACTER, in the current readtable where no other is given. Refused, in this order: a value of
+/// another kind, no such readtable, the standard one, a function that is neither standard nor of the program (`names`),
+/// a character that dispatches nothing, a sub-character that is a digit.
+/// After an error the world may have changed, but for its marks: who calls it goes back to one.
 pub fn set_dispatch(
     alloc: Global,
     world: &mut World,

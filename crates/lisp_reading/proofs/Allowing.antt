@@ -27,7 +27,7 @@ use Rattle.token_meaning.specs.declared.refusal.MeaningRefusal.TheVariants.{Dots
 use Rattle.token_meaning.specs.declared.token.TokenName.{TokenName}
 use Rattle.token_meaning.specs.declared.token.TokenName.TheVariants.{Unqualified, Keyword, External, Internal}
 use Rattle.token_meaning.specs.Folding.{on_plain, lower_case, has_upper_case, has_lower_case, in_upper_case, in_lower_case, folded}
-use Rattle.token_meaning.specs.Meanings.{Meaning, dot, is_unescaped, number_or_name, name_of, dots_of, pattern, meaning_of, rational_of, is_package_marker}
+use Rattle.token_meaning.specs.Meanings.{Meaning, dot, is_unescaped, number_or_name, name_of_marks, dots_of, pattern, meaning_of, rational_of, is_package_marker}
 use Rattle.token_meaning.specs.Numbers.{number_in_base, rational_number, is_point}
 use Rattle.token_meaning.specs.Numerals.{without_sign, is_negative}
 use Rattle.std_macros.specs.declared.kind.Standard.{Standard}
@@ -200,7 +200,7 @@ module _ (t : Packages) (limit : ℕ) (P : Object → Type 0) (allows : Allows t
   meant_allowed current base marks =
       elim (list_all is_unescaped marks) as (λ b. MeantAllowed current (if b
       then (if list_all is_point (characters marks) then dots_of (characters marks) else number_or_name (number_in_base base (characters marks)) marks)
-      else name_of marks)) [
+      else name_of_marks marks)) [
         | true ↦ elim (list_all is_point (characters marks)) as (λ b. MeantAllowed current (if b then dots_of (characters marks) else number_or_name (number_in_base base (characters marks)) marks)) [
           | true ↦ elim (length (characters marks) == 1) as (λ b. MeantAllowed current (if b then Ok dot else Err DotsOnly)) [ true ↦ tt | false ↦ tt ]
           | false ↦ number_or_name_allowed current (number_in_base base (characters marks)) marks (number_numeric base (characters marks))

@@ -18,7 +18,7 @@ use Rattle.lisp_reading.specs.declared.way.Function.{Function}
 use Rattle.lisp_reading.specs.declared.way.Function.TheVariants.{Standard as AStandard, User}
 use Rattle.lisp_reading.specs.declared.way.Way.{Way}
 use Rattle.lisp_reading.specs.declared.way.Way.TheVariants.{Nothing, Token}
-use Rattle.lisp_reading.specs.Calls.{InvokedCall, caller}
+use Rattle.lisp_reading.specs.InvokedCalls.{InvokedCall, caller}
 use Rattle.lisp_reading.specs.Setting.{Setting, standard_way, is_baseless, way_by, way_in}
 use Rattle.lisp_reading.specs.Reading.{bytes_back}
 

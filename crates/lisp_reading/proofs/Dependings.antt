@@ -29,12 +29,12 @@ use Rattle.lisp_reading.specs.declared.way.Way.{Way}
 use Rattle.lisp_reading.specs.declared.way.Way.TheVariants.{Nothing, Next, List as AList, Until, Text, Line, Block, Token, EscapedToken}
 use Rattle.lisp_object.specs.declared.refusal.TheConstants.{MACRO_ANSWER}
 use Rattle.lisp_reading.specs.Answering.{is_home, are_known}
-use Rattle.lisp_reading.specs.Calls.{InvokedCall}
-use Rattle.lisp_reading.specs.Depending.{FindsSame}
-use Rattle.lisp_reading.specs.Naming.{symbol_at, symbol_in, named, told_meaning, told}
+use Rattle.lisp_reading.specs.InvokedCalls.{InvokedCall}
+use Rattle.lisp_reading.specs.SamePackages.{FindsSame}
+use Rattle.lisp_reading.specs.Naming.{symbol_at, symbol_in, named, told_meaning, token_meant}
 use Rattle.lisp_reading.specs.Plans.{Plan, gives, refuses, takes, scans, then_plan, next_byte, run}
 use Rattle.lisp_reading.specs.Setting.{Setting, macro_call, way_by, way_in, function_of}
-use Rattle.lisp_reading.specs.Reading.{text_to, line_after, block_after, number_after, next_item, items_after, undotted, list_end, one_piece, plan_after_answer, completed_by, completed, opened, gathered, gathered_by, called, sub_called, dispatched, macro_called, stands_alone, alone, told_found, token_found, attempt_by, inner, attempt, outcome, reads_in, reads}
+use Rattle.lisp_reading.specs.Reading.{text_to, line_after, block_after, number_after, next_item, items_after, undotted, list_end, one_piece, plan_after_answer, completed_by, completed, opened, gathering_plan, gathered_by, called, sub_called, dispatch_plan, macro_called, stands_alone, alone, told_found, token_found, attempt_by, inner, attempt, outcome, reads_in, reads}
 
 -- ---- what a name stands for
 
@@ -101,7 +101,7 @@ module _ (setting : Setting) (packages : Packages) (same : FindsSame setting.pac
   abbrev other : Setting
   other = record setting { packages = packages }
 
-  told_same : (marks : List Mark) → told other marks ≡ told setting marks
+  told_same : (marks : List Mark) → token_meant other marks ≡ token_meant setting marks
   told_same marks = meant_same setting.packages packages same setting.current (meaning_of setting.base (folded setting.table.letters marks))
 
   by_same : (depth : ℕ) (call : InvokedCall) (f : Function) (token spaced : Bool) (m : Material) → completed_by other depth call f token spaced m ≡ completed_by setting depth call f token spaced m
@@ -112,7 +112,7 @@ module _ (setting : Setting) (packages : Packages) (same : FindsSame setting.pac
   completed_same depth call token spaced m = by_same depth call call.function token spaced m
 
   module _ (depth : ℕ) (may : Option (Plan Found)) where
-    gathered_same : (call : InvokedCall) (way : Way) → gathered other depth may call way ≡ gathered setting depth may call way
+    gathered_same : (call : InvokedCall) (way : Way) → gathering_plan other depth may call way ≡ gathering_plan setting depth may call way
     gathered_same call Nothing = completed_same depth call false false no_material
     gathered_same call Next =
         λ i. opened may (λ attempt. then_plan (next_item setting None attempt) (one_piece (λ token x. completed_same depth call token token (one_object x) i)))
@@ -141,17 +141,17 @@ module _ (setting : Setting) (packages : Packages) (same : FindsSame setting.pac
     sub_same c sub n None = refl
     sub_same c sub n (Some f) = called_same (record { function = function_of f; character = c; sub = Some (upper_case sub); number = n })
 
-    dispatched_same : (c : ℕ) (n : Option ℕ) → dispatched other depth may c n ≡ dispatched setting depth may c n
+    dispatched_same : (c : ℕ) (n : Option ℕ) → dispatch_plan other depth may c n ≡ dispatch_plan setting depth may c n
     dispatched_same c n = λ i. then_plan (number_after setting n) (λ m. next_byte (λ sub. sub_same c sub m (dispatch_at setting.table c sub) i))
 
     macro_same : (c : ℕ) (f : Option (List ℕ)) → macro_called other depth may c f ≡ macro_called setting depth may c f
     macro_same c None = refl
     macro_same c (Some f) =
         elim (is_dispatch_name f) as (λ b. ◌≡◌ {A = Plan Found} (elim b [
-          | true ↦ dispatched other depth may c None
+          | true ↦ dispatch_plan other depth may c None
           | false ↦ called other depth may (record { function = function_of f; character = c; sub = None; number = None })
         ]) (elim b [
-          | true ↦ dispatched setting depth may c None
+          | true ↦ dispatch_plan setting depth may c None
           | false ↦ called setting depth may (record { function = function_of f; character = c; sub = None; number = None })
         ])) [ true ↦ dispatched_same c None | false ↦ called_same (record { function = function_of f; character = c; sub = None; number = None }) ]
 

@@ -18,8 +18,8 @@ use Rattle.lisp_reading.specs.declared.found.Found.{Found}
 use Rattle.lisp_reading.specs.declared.found.Found.TheVariants.{Nothing as nothing_found, One as one, LoneDot as lone_dot, TheEnd as the_end}
 use Rattle.lisp_reading.specs.declared.told.Told.{Told}
 use Rattle.lisp_reading.specs.declared.told.Told.TheVariants.{Object as told_object, Dot as dot_alone}
-use Rattle.lisp_reading.specs.Discarding.{IsDiscarded, nothing, more}
-use Rattle.lisp_reading.specs.Naming.{told}
+use Rattle.lisp_reading.specs.DiscardedText.{IsDiscarded, nothing, more}
+use Rattle.lisp_reading.specs.Naming.{token_meant}
 use Rattle.lisp_reading.specs.Plans.{Read, within, stands_below, limited, run}
 use Rattle.lisp_reading.specs.Setting.{Setting}
 use Rattle.lisp_reading.specs.Reading.{Outcome, empty, stands_alone, alone, told_found, token_found, inner, attempt, outcome, reads_in, reads_at, reads}
@@ -118,7 +118,7 @@ module _ (setting : Setting) where
   token_ends (Ok ([], next, ds)) h e = h
   token_ends (Ok (m ∷ ms, next, ds)) h e =
       elim (nat_le next setting.limits.text) as (λ b. IsEnd (step (elim b [ true ↦ Ok (m ∷ ms, next, bytes_of ds) | false ↦ Err (record { number = FORM_TOO_LONG; at = setting.limits.text }) ])) → ⊥) [
-        | true ↦ λ e. told_ends (told setting (m ∷ ms)) next (bytes_of ds) e
+        | true ↦ λ e. told_ends (token_meant setting (m ∷ ms)) next (bytes_of ds) e
         | false ↦ λ e. e
       ] e
   token_ends (Err f) h e =

@@ -9,7 +9,7 @@ use Rattle.lisp_object.specs.Object as o
 use Rattle.lisp_object.specs.Object.{Object, is_nil, object_depth}
 use Rattle.lisp_object.proofs.ProperLists.{nil_symbol}
 use Rattle.package_table.specs.declared.error.PackageError.TheVariants.{LockedPackage}
-use Rattle.package_table.specs.Table.{Name, Present, Package, Table as Packages, common_lisp, keyword, IsSound, Finds}
+use Rattle.package_table.specs.Table.{Name, Present, Package, Table as Packages, common_lisp, keyword, AreSoundPackages, Finds}
 use Rattle.package_table.specs.Lookup.{found}
 use Rattle.package_table.specs.Resolving.{found_at, new_in, resolution}
 use Rattle.package_table.proofs.Found.{found_finds, present_found}
@@ -21,7 +21,7 @@ use Rattle.lisp_reading.specs.Fitting.{FitsPackages, IsFitting}
 use Rattle.lisp_reading.specs.Reading.{form, reads}
 use Rattle.lisp_reading.proofs.Allowing.{IsFirst, nil_first, Allows, good_form}
 
-module _ (t : Packages) (sound : IsSound t) where
+module _ (t : Packages) (sound : AreSoundPackages t) where
   -- what is found is found at its home
   finds_fit : (p own home : Name) → Finds t p own home → FitsPackages t (o.symbol home own)
   finds_fit p own home finds = λ h e.
@@ -88,7 +88,7 @@ anything_allows t limit = record {
 
 -- ---- forms
 
-pub form_fits : (setting : Setting) (text : List ℕ) (x : Object) (start «end» next : ℕ) → IsSound setting.packages → setting.limits.nesting ≤ 100 → setting.limits.token ≤ 4096
+pub form_fits : (setting : Setting) (text : List ℕ) (x : Object) (start «end» next : ℕ) → AreSoundPackages setting.packages → setting.limits.nesting ≤ 100 → setting.limits.token ≤ 4096
     → reads setting text ≡ form x start «end» next → IsFitting setting.packages x
 form_fits setting text x start «end» next sound deep few e =
     let good = good_form setting (FitsPackages setting.packages) (fits_allow setting.packages sound setting.limits.token few) text x start «end» next e in

@@ -6,7 +6,7 @@ use Rattle.lisp_object.specs.Object.{Object}
 use Rattle.readtable_core.specs.Tables.{Table}
 use Rattle.token_scan.specs.declared.mark.Mark.{Mark}
 use Rattle.token_scan.specs.Tokens.{ScannedBytes, token_in, escaped_token_in}
-use Rattle.token_scan.specs.Spelling.{Stands}
+use Rattle.token_scan.specs.Spelling.{IsSpelledAt}
 use Rattle.token_scan.proofs.Standing.{token_stands, escaped_token_stands}
 use Rattle.token_meaning.specs.Results.{scan_refusal_number}
 use Rattle.lisp_reading.specs.Plans.{Plan, gives, refuses, takes, scans, Read, within, stands_below, limited, scanned, run}
@@ -40,7 +40,7 @@ byte_follows more false full at r s r2 s2 p q = q
 -- ---- tokens
 
 token_at : (table : Table) (scan : List ℕ → ScannedBytes) (at : ℕ) (text more : List ℕ) (r : ScannedBytes)
-    → IfOk r (λ t. Stands table scan at text t.0 t.1 t.2) → Follows more (scan (text ++ more)) r
+    → IfOk r (λ t. IsSpelledAt table scan at text t.0 t.1 t.2) → Follows more (scan (text ++ more)) r
 token_at table scan at text more (Ok (marks, next, [])) st = tt
 token_at table scan at text more (Ok (marks, next, d ∷ ds)) st =
     ap scan (ap (λ (cs : List ℕ). cs ++ more) st.split ∙ append_assoc st.taken (d ∷ ds) more) ∙ st.again (d ∷ ds ++ more) st.ends

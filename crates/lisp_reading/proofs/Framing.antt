@@ -4,7 +4,7 @@ use Rattle.std.specs.Prelude.{nat_le}
 use Rattle.readtable_core.specs.Tables.{Table}
 use Rattle.token_scan.specs.declared.mark.Mark.{Mark}
 use Rattle.token_scan.specs.Tokens.{TokenFault, ScannedBytes, typed_text, token_in, escaped_token_in}
-use Rattle.token_scan.specs.Spelling.{Stands, may_end}
+use Rattle.token_scan.specs.Spelling.{IsSpelledAt, may_end}
 use Rattle.token_scan.proofs.Standing.{token_stands, escaped_token_stands}
 use Rattle.lisp_object.specs.declared.refusal.TheConstants.{FORM_TOO_LONG}
 use Rattle.token_meaning.specs.Results.{scan_refusal_number}
@@ -58,7 +58,7 @@ take_after (c ∷ cs) after m =
     ap (λ n. take n (c ∷ cs ++ after)) e ∙ ap (λ (ds : List ℕ). c ∷ ds) (take_after cs after m)
 
 token_at : (table : Table) (scan : List ℕ → ScannedBytes) (at : ℕ) (text : List ℕ) (r : ScannedBytes)
-    → IfOk r (λ t. Stands table scan at text t.0 t.1 t.2) → Framed (λ k. scan (take k text)) at r
+    → IfOk r (λ t. IsSpelledAt table scan at text t.0 t.1 t.2) → Framed (λ k. scan (take k text)) at r
 token_at table scan at text (Ok (marks, next, rest)) st = (
   length st.taken,
   sym st.offset,

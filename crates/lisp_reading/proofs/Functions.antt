@@ -4,10 +4,10 @@ use Rattle.std.specs.Prelude.{is_some}
 use Rattle.readtable_core.specs.Names.{is_standard}
 use Rattle.std_macros.specs.declared.kind.Standard.{Standard}
 use Rattle.std_macros.specs.declared.kind.Standard.TheVariants as kind
-use Rattle.std_macros.specs.Kinds.{name_of, kinds, kind_among}
+use Rattle.std_macros.specs.Kinds.{name_of_standard, kinds, kind_among}
 use Rattle.std_macros.proofs.Names.{known_is}
 
-of_its_name : (k : Standard) → kind_among kinds (name_of k) ≡ Some k
+of_its_name : (k : Standard) → kind_among kinds (name_of_standard k) ≡ Some k
 of_its_name kind.List = refl
 of_its_name kind.Close = refl
 of_its_name kind.Quote = refl
@@ -24,7 +24,7 @@ of_its_name kind.Octal = refl
 of_its_name kind.Hex = refl
 of_its_name kind.Radix = refl
 
-pub known_so : (name : List ℕ) (k : Standard) → name_of k ≡ name → kind_among kinds name ≡ Some k
+pub known_so : (name : List ℕ) (k : Standard) → name_of_standard k ≡ name → kind_among kinds name ≡ Some k
 known_so name k e = ap (λ (n : List ℕ). kind_among kinds n) (sym e) ∙ of_its_name k
 
 none_is : (o : Option Standard) → is_some o ≡ false → o ≡ None

@@ -10,7 +10,7 @@ use Rattle.lisp_object.proofs.Sound.{all_ascii}
 use Rattle.package_table.specs.declared.error.PackageError.{PackageError}
 use Rattle.package_table.specs.declared.error.PackageError.TheVariants.{LockedPackage, NoPackage, NotExternal}
 use Rattle.package_table.specs.declared.resolve.Resolved.{Resolved}
-use Rattle.package_table.specs.Table.{Name, Present, Package, Table, common_lisp, full_name, package_named, entry_at, IsPackage, IsPresent, IsSound}
+use Rattle.package_table.specs.Table.{Name, Present, Package, Table, common_lisp, full_name, package_named, entry_at, IsPackage, IsPresent, AreSoundPackages}
 use Rattle.package_table.specs.Lookup.{found, external_home}
 use Rattle.package_table.specs.Resolving.{Resolution, found_at, new_in, home_of, resolution_of, resolution, external_resolution, internal_resolution}
 use Rattle.package_table.proofs.Found.{found_finds}
@@ -29,7 +29,7 @@ external_there t p n h e =
       | Some x ↦ elim x.external as (λ b. cond b (Some x.home) None ≡ Some h → Some x.home ≡ Some h) [ true ↦ λ e. e | false ↦ λ e. absurd cc ]
     ] e
 
-module _ (t : Table) (sound : IsSound t) where
+module _ (t : Table) (sound : AreSoundPackages t) where
   package_ascii : (p : Name) → IsPackage t p → list_all is_ascii p ≡ true
   package_ascii p there = all_ascii p (sound.within.package_names p there).ascii
 
@@ -97,12 +97,12 @@ pub in_seen : (wanted : Result Resolution PackageError) (result : Result Resolve
 in_seen wanted (Ok r) e = sym e
 in_seen wanted (Err f) e = sym e
 
-pub in_ascii : (t : Table) (p n : Name) (result : Result Resolved PackageError) → IsSound t → IsPackage t p → Seen (resolution t p n) result
+pub in_ascii : (t : Table) (p n : Name) (result : Result Resolved PackageError) → AreSoundPackages t → IsPackage t p → Seen (resolution t p n) result
     → IfOk result (λ r. list_all is_ascii (home_of (resolution_of r)) ≡ true)
 in_ascii t p n (Ok r) sound there e = resolution_ascii t sound p n (resolution_of r) there e
 in_ascii t p n (Err f) sound there e = tt
 
-pub inside_ascii : (t : Table) (prefix n : Name) (result : Result Resolved PackageError) → IsSound t → Seen (internal_resolution t prefix n) result
+pub inside_ascii : (t : Table) (prefix n : Name) (result : Result Resolved PackageError) → AreSoundPackages t → Seen (internal_resolution t prefix n) result
     → IfOk result (λ r. list_all is_ascii (home_of (resolution_of r)) ≡ true)
 inside_ascii t prefix n (Ok r) sound e = internal_ascii t sound prefix n (resolution_of r) e
 inside_ascii t prefix n (Err f) sound e = tt
@@ -112,7 +112,7 @@ pub at_seen : (wanted : Result Name PackageError) (result : Result (Bor Name) Pa
 at_seen wanted (Ok h) e = sym e
 at_seen wanted (Err f) e = sym e
 
-pub at_ascii : (t : Table) (prefix n : Name) (result : Result (Bor Name) PackageError) → IsSound t
+pub at_ascii : (t : Table) (prefix n : Name) (result : Result (Bor Name) PackageError) → AreSoundPackages t
     → MatchResult result (λ h. external_resolution t prefix n ≡ Ok h.now) (λ e. external_resolution t prefix n ≡ Err e)
     → IfOk result (λ h. list_all is_ascii h.now ≡ true)
 at_ascii t prefix n (Ok h) sound e = external_by t sound prefix n h.now e
@@ -120,14 +120,14 @@ at_ascii t prefix n (Err f) sound e = tt
 
 -- ---- names of packages, and nicknames
 
-module _ (t : Table) (name : Name) (sound : IsSound t) where
+module _ (t : Table) (name : Name) (sound : AreSoundPackages t) where
   there_named : IsPackage t name → package_named t name ≡ Some name
   there_named there =
       let full : full_name name ≡ name = (sound.within.package_names name there).full in
       ap (λ n. if finite.contains_key t n then Some n else None) full ∙ ap (λ b. if b then Some name else None) there
 
 -- a name that a package is found by is its own, or a nickname
-pub named_so : (t : Table) (name p : Name) → IsSound t → package_named t name ≡ Some p → finite.contains_key t name ≡ bytes_eq p name
+pub named_so : (t : Table) (name p : Name) → AreSoundPackages t → package_named t name ≡ Some p → finite.contains_key t name ≡ bytes_eq p name
 named_so t name p sound e =
     let here : IsPackage t p = named_by t sound name p e in
     let by : (b : Bool) → finite.contains_key t name ≡ b → b ≡ bytes_eq p name = λ b. elim b as (λ b. finite.contains_key t name ≡ b → b ≡ bytes_eq p name) [
@@ -139,7 +139,7 @@ named_so t name p sound e =
     ] in
     by (finite.contains_key t name) refl
 
-pub none_named : (t : Table) (name : Name) → IsSound t → package_named t name ≡ None → finite.contains_key t name ≡ false
+pub none_named : (t : Table) (name : Name) → AreSoundPackages t → package_named t name ≡ None → finite.contains_key t name ≡ false
 none_named t name sound e =
     let by : (b : Bool) → finite.contains_key t name ≡ b → b ≡ false = λ b. elim b as (λ b. finite.contains_key t name ≡ b → b ≡ false) [
       | true ↦ λ there. let no : Some name ≡ None = sym (there_named t name sound there) ∙ e in absurd cc

@@ -26,11 +26,11 @@ use Rattle.lisp_reading.specs.declared.way.Function.TheVariants.{Standard as ASt
 use Rattle.lisp_reading.specs.declared.way.Way.{Way}
 use Rattle.lisp_reading.specs.declared.way.Way.TheVariants.{Nothing, Next, List as AList, Until, Text, Line, Block, Token, EscapedToken}
 use Rattle.lisp_reading.specs.Answering.{may_be_answered}
-use Rattle.lisp_reading.specs.Calls.{InvokedCall}
-use Rattle.lisp_reading.specs.Naming.{told}
+use Rattle.lisp_reading.specs.InvokedCalls.{InvokedCall}
+use Rattle.lisp_reading.specs.Naming.{token_meant}
 use Rattle.lisp_reading.specs.Plans.{Plan, gives, refuses, then_plan}
 use Rattle.lisp_reading.specs.Setting.{Setting, macro_call, way_in, function_of}
-use Rattle.lisp_reading.specs.Reading.{text_to, line_after, block_after, number_after, Piece, item, dot, closed, without_space, piece_of, or_closed, next_item_turn, next_item, Items, items_step, items_turn, items_after, undotted, after_tail, after_dot, list_end, one_piece, bytes_back, finished, plan_after_answer, completed_by, completed, gathered, gathered_by, called, sub_called, sub_there, dispatched, macro_called, alone, told_found, token_found, attempt_by, inner, attempt}
+use Rattle.lisp_reading.specs.Reading.{text_to, line_after, block_after, number_after, Piece, item, dot, closed, without_space, piece_of, or_closed, next_item_turn, next_item, Items, items_step, items_turn, items_after, undotted, after_tail, after_dot, list_end, one_piece, bytes_back, finished, plan_after_answer, completed_by, completed, gathering_plan, gathered_by, called, sub_called, sub_there, dispatch_plan, macro_called, alone, told_found, token_found, attempt_by, inner, attempt}
 use Rattle.lisp_reading.proofs.Keeping.{most_back, Keeps, keeps_either, keeps_weaker, keeps_then, keeps_loop, keeps_next}
 use Rattle.lisp_reading.proofs.Backs.{back_of, StaysIn, way_stays}
 use Rattle.lisp_reading.proofs.TextsKept.{Any, text_keeps, line_keeps, block_keeps, number_keeps}
@@ -96,7 +96,7 @@ module _ (V : ℕ → Object → Type 0) where
 
 -- V holds of what tokens mean, of what standard functions make of such objects, and of what may be answered.
 pub record AreKept (setting : Setting) (V : ℕ → Object → Type 0) : Type 0 where
-  pub tokens : (room : ℕ) (marks : List Mark) (x : Object) → told setting marks ≡ Ok (told_object x) → V room x
+  pub tokens : (room : ℕ) (marks : List Mark) (x : Object) → token_meant setting marks ≡ Ok (told_object x) → V room x
   pub values : (room : ℕ) (kind : Standard) (number : Option ℕ) (material : Material) (x : Object) → MaterialAt V setting.limits.token room material
       → value_of kind setting.table.letters number material ≡ Ok (Some x) → V room x
   pub answers : (room : ℕ) (x : Object) → room ≤ setting.limits.nesting → may_be_answered setting.packages x ≡ true
@@ -239,7 +239,7 @@ module _ (setting : Setting) (V : ℕ → Object → Type 0) (laws : AreKept set
 
   gathered_keeps : (room : ℕ) (may : Option (Plan Found)) (call : InvokedCall) (way : Way) → room ≤ setting.limits.nesting → InnerAt V room may
       → StaysIn setting.table.letters call.number (back_of way) call.function
-      → Keeps (CallAt V room) true (gathered setting (setting.limits.nesting - room) may call way)
+      → Keeps (CallAt V room) true (gathering_plan setting (setting.limits.nesting - room) may call way)
   gathered_keeps room may call Nothing le h back = completed_by_keeps room true call call.function false false no_material le back tt
   gathered_keeps room None call Next le h back = omega arith
   gathered_keeps room None call AList le h back = omega arith
@@ -248,20 +248,20 @@ module _ (setting : Setting) (V : ℕ → Object → Type 0) (laws : AreKept set
   gathered_keeps zero (Some may) call AList le h back = absurd h
   gathered_keeps zero (Some may) call (Until close) le h back = absurd h
   gathered_keeps (suc room) (Some may) call Next le h back =
-      call_either (suc room) true (gathered setting (setting.limits.nesting - suc room) (Some may) call Next)
+      call_either (suc room) true (gathering_plan setting (setting.limits.nesting - suc room) (Some may) call Next)
       (keeps_then (PieceAt V room) (CallAt V (suc room)) false (next_item setting None may)
       (one_piece (λ token x. completed setting (setting.limits.nesting - suc room) call token token (one_object x))) (next_item_keeps room None may h)
       (λ t p f. one_piece_keeps room (λ token x. completed setting (setting.limits.nesting - suc room) call token token (one_object x)) t p
       (λ token x v. completed_keeps (suc room) t call token token (one_object x) le back v) f))
   gathered_keeps (suc room) (Some may) call AList le h back =
       let on : Material → Plan Found = λ m. completed setting (setting.limits.nesting - suc room) call false false m in
-      call_either (suc room) true (gathered setting (setting.limits.nesting - suc room) (Some may) call AList)
+      call_either (suc room) true (gathering_plan setting (setting.limits.nesting - suc room) (Some may) call AList)
       (keeps_then (ItemsAt V room) (CallAt V (suc room)) false (items_after setting 41 may []) (list_end setting may on) (items_keep room 41 may [] h (All-nil (V room)))
       (λ t xs f. list_end_keeps room may h on (λ ys all u. completed_keeps (suc room) u call false false (many ys) le back all)
       (λ ys tail all v u. completed_keeps (suc room) u call false false (dotted ys tail) le back (all, v)) t xs.0 xs.1 f))
   gathered_keeps (suc room) (Some may) call (Until close) le h back =
       let on : Material → Plan Found = λ m. completed setting (setting.limits.nesting - suc room) call false false m in
-      call_either (suc room) true (gathered setting (setting.limits.nesting - suc room) (Some may) call (Until close))
+      call_either (suc room) true (gathering_plan setting (setting.limits.nesting - suc room) (Some may) call (Until close))
       (keeps_then (ItemsAt V room) (CallAt V (suc room)) false (items_after setting close may []) (undotted on) (items_keep room close may [] h (All-nil (V room)))
       (λ t xs f. undotted_keeps (suc room) on t xs.0 xs.1 (λ u. completed_keeps (suc room) u call false false (many xs.0) le back f)))
   gathered_keeps room may call (Text close) le h back =
@@ -293,7 +293,7 @@ module _ (setting : Setting) (V : ℕ → Object → Type 0) (laws : AreKept set
     sub_called_keeps c sub number (Some name) =
         called_keeps room may (record { function = function_of name; character = c; sub = Some (upper_case sub); number = number }) le h
 
-    dispatched_keeps : (taken : Bool) (c : ℕ) (number : Option ℕ) → Keeps (CallAt V room) taken (dispatched setting (setting.limits.nesting - room) may c number)
+    dispatched_keeps : (taken : Bool) (c : ℕ) (number : Option ℕ) → Keeps (CallAt V room) taken (dispatch_plan setting (setting.limits.nesting - room) may c number)
     dispatched_keeps taken c number =
         keeps_then (Any {A = Option ℕ}) (CallAt V room) taken (number_after setting number) (sub_there setting (setting.limits.nesting - room) may c) (number_keeps setting taken number)
         (λ t n f. keeps_next (CallAt V room) t (λ sub. sub_called setting (setting.limits.nesting - room) may c sub n (dispatch_at setting.table c sub))
@@ -304,7 +304,7 @@ module _ (setting : Setting) (V : ℕ → Object → Type 0) (laws : AreKept set
     macro_keeps c (Some name) =
         let one_call : InvokedCall = record { function = function_of name; character = c; sub = None; number = None } in
         elim (is_dispatch_name name) as (λ b. Keeps (CallAt V room) true (elim b [
-          | true ↦ dispatched setting (setting.limits.nesting - room) may c None
+          | true ↦ dispatch_plan setting (setting.limits.nesting - room) may c None
           | false ↦ called setting (setting.limits.nesting - room) may (record { function = function_of name; character = c; sub = None; number = None })
         ])) [ true ↦ dispatched_keeps true c None | false ↦ called_keeps room may one_call le h ]
 
@@ -319,14 +319,14 @@ module _ (setting : Setting) (V : ℕ → Object → Type 0) (laws : AreKept set
     alone_keeps c MultipleEscape = omega arith
     alone_keeps c Invalid = omega arith
 
-    told_keeps : (marks : List Mark) (r : Result Told ℕ) → told setting marks ≡ r → Keeps (FoundAt V room) false (told_found r)
+    told_keeps : (marks : List Mark) (r : Result Told ℕ) → token_meant setting marks ≡ r → Keeps (FoundAt V room) false (told_found r)
     told_keeps marks (Ok (told_object x)) e = laws.tokens room marks x e
     told_keeps marks (Ok dot_alone) e = tt
     told_keeps marks (Err code) e = omega arith
 
     token_keeps : (marks : List Mark) → Keeps (FoundAt V room) false (token_found setting marks)
     token_keeps [] = tt
-    token_keeps (m ∷ ms) = told_keeps (m ∷ ms) (told setting (m ∷ ms)) refl
+    token_keeps (m ∷ ms) = told_keeps (m ∷ ms) (token_meant setting (m ∷ ms)) refl
 
     attempt_keeps : Keeps (FoundAt V room) false (attempt_by setting (setting.limits.nesting - room) may)
     attempt_keeps = (

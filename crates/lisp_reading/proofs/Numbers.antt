@@ -12,7 +12,7 @@ use Rattle.readtable_core.specs.declared.characters.Syntax.{Syntax}
 use Rattle.readtable_core.specs.declared.characters.Syntax.TheVariants.{Whitespace, Constituent, TerminatingMacro, NonTerminatingMacro, SingleEscape, MultipleEscape, Invalid}
 use Rattle.package_table.specs.declared.error.PackageError.{PackageError}
 use Rattle.package_table.specs.declared.error.PackageError.TheVariants.{NoPackage, NotExternal, LockedPackage}
-use Rattle.package_table.specs.Errors.{package_error_number}
+use Rattle.package_table.specs.ErrorNumbers.{package_error_number}
 use Rattle.package_table.specs.Lookup.{found, external_home}
 use Rattle.package_table.specs.Resolving.{Resolution, found_at, new_in, resolution, external_resolution, internal_resolution}
 use Rattle.package_table.specs.Table.{Name, Table as Packages, common_lisp, package_named}
@@ -38,12 +38,12 @@ use Rattle.lisp_reading.specs.declared.way.Function.TheVariants.{Standard as ASt
 use Rattle.lisp_reading.specs.declared.way.Way.{Way}
 use Rattle.lisp_reading.specs.declared.way.Way.TheVariants.{Nothing, Next, List as AList, Until, Text, Line, Block, Token, EscapedToken}
 use Rattle.lisp_reading.specs.Plans.{Plan, gives, refuses, scans, then_plan, character, Read, run}
-use Rattle.lisp_reading.specs.Calls.{InvokedCall}
+use Rattle.lisp_reading.specs.InvokedCalls.{InvokedCall}
 use Rattle.lisp_reading.specs.Setting.{Setting, macro_call, way_in, function_of}
 use Rattle.lisp_reading.specs.Gathering.{text_turn, line_turn, block_turn, number_turn}
-use Rattle.lisp_reading.specs.Naming.{symbol_in, symbol_at, named, told_meaning, told}
+use Rattle.lisp_reading.specs.Naming.{symbol_in, symbol_at, named, told_meaning, token_meant}
 use Rattle.lisp_reading.specs.Answering.{may_be_answered}
-use Rattle.lisp_reading.specs.Reading.{Piece, item, dot, closed, is_whitespace, without_space, piece_of, or_closed, next_item_turn, next_item, Items, items_step, items_turn, items_after, undotted, after_tail, after_dot, list_end, one_piece, bytes_back, finished, plan_after_answer, completed_by, completed, opened, gathered, gathered_by, called, sub_called, sub_there, dispatched, macro_called, stands_alone, alone, told_found, token_found, attempt_by, inner, attempt, Outcome, form, empty, refused, outcome, reads_in, reads, text_to, line_after, block_after, number_after}
+use Rattle.lisp_reading.specs.Reading.{Piece, item, dot, closed, is_whitespace, without_space, piece_of, or_closed, next_item_turn, next_item, Items, items_step, items_turn, items_after, undotted, after_tail, after_dot, list_end, one_piece, bytes_back, finished, plan_after_answer, completed_by, completed, opened, gathering_plan, gathered_by, called, sub_called, sub_there, dispatch_plan, macro_called, stands_alone, alone, told_found, token_found, attempt_by, inner, attempt, Outcome, form, empty, refused, outcome, reads_in, reads, text_to, line_after, block_after, number_after}
 use Rattle.lisp_reading.proofs.NumberedPlans.{IsOfReading, Numbered, NumberedResult, run_numbered, gives_numbered, refuses_numbered, takes_numbered, scans_numbered, then_numbered, if_numbered, next_byte_numbered, loop_numbered, text_numbered, line_numbered, block_numbered, number_numbered}
 
 -- ---- what tokens mean
@@ -111,7 +111,7 @@ told_found_numbered (Err code) h = refuses_numbered _ code 0 h
 token_numbered : (setting : Setting) (marks : List Mark) → Numbered (token_found setting marks)
 token_numbered setting [] = gives_numbered the_end
 token_numbered setting (m ∷ ms) =
-    told_found_numbered (told setting (m ∷ ms))
+    told_found_numbered (token_meant setting (m ∷ ms))
     (told_numbered setting.packages setting.current (meaning_of setting.base (folded setting.table.letters (m ∷ ms))))
 
 -- ---- what comes next, and objects, inside a call
@@ -226,7 +226,7 @@ opened_numbered None on h all = refuses_numbered _ TOO_DEEP 1 (omega arith, omeg
 opened_numbered (Some attempt) on h all = all attempt h
 
 module _ (setting : Setting) (depth : ℕ) (may : Option (Plan Found)) (numbered : NumberedInner may) where
-  gathered_numbered : (call : InvokedCall) (way : Way) → Numbered (gathered setting depth may call way)
+  gathered_numbered : (call : InvokedCall) (way : Way) → Numbered (gathering_plan setting depth may call way)
   gathered_numbered call Nothing = completed_numbered setting depth call false false no_material
   gathered_numbered call Next =
       opened_numbered may _ numbered (λ attempt h. then_numbered (next_item setting None attempt)
@@ -268,7 +268,7 @@ module _ (setting : Setting) (depth : ℕ) (may : Option (Plan Found)) (numbered
   sub_numbered c sub argument (Some own) =
       called_numbered (record { function = function_of own; character = c; sub = Some (upper_case sub); number = argument })
 
-  dispatched_numbered : (c : ℕ) (argument : Option ℕ) → Numbered (dispatched setting depth may c argument)
+  dispatched_numbered : (c : ℕ) (argument : Option ℕ) → Numbered (dispatch_plan setting depth may c argument)
   dispatched_numbered c argument =
       then_numbered (number_after setting argument) (sub_there setting depth may c) (loop_numbered setting.limits number_turn number_numbered argument)
       (λ n. next_byte_numbered (λ sub. sub_called setting depth may c sub n (dispatch_at setting.table c sub))
@@ -278,7 +278,7 @@ module _ (setting : Setting) (depth : ℕ) (may : Option (Plan Found)) (numbered
   macro_numbered c None = refuses_numbered _ OUT_OF_PROFILE 1 (omega arith, omega arith)
   macro_numbered c (Some own) =
       let call : InvokedCall = record { function = function_of own; character = c; sub = None; number = None } in
-      if_numbered (is_dispatch_name own) (dispatched setting depth may c None) (called setting depth may call) (dispatched_numbered c None) (called_numbered call)
+      if_numbered (is_dispatch_name own) (dispatch_plan setting depth may c None) (called setting depth may call) (dispatched_numbered c None) (called_numbered call)
 
   -- ---- objects
 

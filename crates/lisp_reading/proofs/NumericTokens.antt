@@ -8,7 +8,7 @@ use Rattle.lisp_object.specs.Quotient.{divided, gcd, quotient}
 use Rattle.token_meaning.specs.declared.refusal.MeaningRefusal.{MeaningRefusal}
 use Rattle.token_meaning.specs.declared.refusal.MeaningRefusal.TheVariants.{NumberRange, ZeroDenominator, FloatToken}
 use Rattle.token_meaning.specs.Numbers.{integer_of, ratio_of, integer_form, decimal_form, ratio_form, float_form, is_float, rational_form, decimal_or_float_form, number_in_base, is_slash, is_point}
-use Rattle.token_meaning.specs.Numerals.{is_empty, is_numeral, value, without_sign, is_negative, signed, is_magnitude_in_range, cut_at_first}
+use Rattle.token_meaning.specs.Numerals.{is_empty, is_numeral, numeral_value, without_sign, is_negative, signed, is_magnitude_in_range, cut_at_first}
 
 -- of the objects that a number may be, P holds
 abbrev OfNumber : (Object → Type 0) → Option (Result Object MeaningRefusal) → Type 0
@@ -56,17 +56,17 @@ ratio_numeric negative n d =
 decimal_numeric : (negative : Bool) (parts : Option (List ℕ × List ℕ)) → Numeric (decimal_form negative parts)
 decimal_numeric negative None = tt
 decimal_numeric negative (Some (whole, fraction)) =
-    chosen_numeric (is_numeral 10 whole && is_empty fraction) (Some (integer_of negative (value 10 whole))) None (integer_numeric negative (value 10 whole)) tt
+    chosen_numeric (is_numeral 10 whole && is_empty fraction) (Some (integer_of negative (numeral_value 10 whole))) None (integer_numeric negative (numeral_value 10 whole)) tt
 
 ratio_form_numeric : (base : ℕ) (negative : Bool) (parts : Option (List ℕ × List ℕ)) → Numeric (ratio_form base negative parts)
 ratio_form_numeric base negative None = tt
 ratio_form_numeric base negative (Some (n, d)) =
-    chosen_numeric (is_numeral base n && is_numeral base d) (Some (ratio_of negative (value base n) (value base d))) None (ratio_numeric negative (value base n) (value base d)) tt
+    chosen_numeric (is_numeral base n && is_numeral base d) (Some (ratio_of negative (numeral_value base n) (numeral_value base d))) None (ratio_numeric negative (numeral_value base n) (numeral_value base d)) tt
 
 pub rational_numeric : (base : ℕ) (negative : Bool) (text : List ℕ) → Numeric (rational_form base negative text)
 rational_numeric base negative text =
     first_numeric (integer_form base negative text) (ratio_form base negative (cut_at_first is_slash text))
-    (chosen_numeric (is_numeral base text) (Some (integer_of negative (value base text))) None (integer_numeric negative (value base text)) tt)
+    (chosen_numeric (is_numeral base text) (Some (integer_of negative (numeral_value base text))) None (integer_numeric negative (numeral_value base text)) tt)
     (ratio_form_numeric base negative (cut_at_first is_slash text))
 
 pub number_numeric : (base : ℕ) (text : List ℕ) → Numeric (number_in_base base text)

@@ -6,7 +6,7 @@ use Rattle.readtable_core.specs.Tables.{Table}
 use Rattle.token_scan.specs.declared.mark.Mark.{Mark}
 use Rattle.token_meaning.specs.Results.{scan_refusal_number}
 use Rattle.token_scan.specs.Tokens.{TokenFault, ScannedBytes, token_in, escaped_token_in}
-use Rattle.token_scan.specs.Spelling.{Stands}
+use Rattle.token_scan.specs.Spelling.{IsSpelledAt}
 use Rattle.token_scan.proofs.Standing.{token_stands, escaped_token_stands}
 use Rattle.lisp_reading.specs.Plans.{Plan, gives, refuses, takes, scans, Fault, Read, within, stands_below, limited, scanned, run}
 use Rattle.lisp_reading.specs.declared.limits.Limits.{Limits}
@@ -40,7 +40,7 @@ byte_parts true full at c cs r s h g =
 byte_parts false full at c cs r s h g = g
 
 token_at : (table : Table) (scan : List ℕ → ScannedBytes) (at : ℕ) (text : List ℕ) (r : ScannedBytes)
-    → IfOk r (λ t. Stands table scan at text t.0 t.1 t.2) → Parts at text r
+    → IfOk r (λ t. IsSpelledAt table scan at text t.0 t.1 t.2) → Parts at text r
 token_at table scan at text (Ok (marks, next, rest)) st = record { taken = st.taken; split = st.split; offset = st.offset }
 token_at table scan at text (Err e) st = tt
 

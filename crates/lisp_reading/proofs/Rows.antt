@@ -97,7 +97,7 @@ expected (r ∷ rs) = r.1 ∷ expected rs
 
 -- everything that a row computes through
 unfoldable read : List ℕ → Outcome
-unfolding reads reads_in run then_plan inner loop_in outside numerals.value own_table standard last_of
+unfolding reads reads_in run then_plan inner loop_in outside numerals.numeral_value own_table standard last_of
 read text = reads (small own_table) text
 
 abbrev first_rows : List (List ℕ × Outcome)
@@ -138,7 +138,7 @@ abbrev blank_entry : CharacterEntry
 blank_entry = record { syntax = Whitespace; function = None; dispatch = [] }
 
 unfoldable read_blank : List ℕ → Outcome
-unfolding reads reads_in run then_plan inner loop_in outside numerals.value own_table standard last_of
+unfolding reads reads_in run then_plan inner loop_in outside numerals.numeral_value own_table standard last_of
 read_blank text = reads (small (at_char (at_char own_table 93 blank_entry) 41 blank_entry)) text
 
 abbrev blank_rows : List (List ℕ × Outcome)
@@ -155,7 +155,7 @@ unfolding read_blank
 blank_rows_read = refl
 
 unfoldable read_mute : List ℕ → Outcome
-unfolding reads reads_in run then_plan inner loop_in outside numerals.value own_table standard last_of
+unfolding reads reads_in run then_plan inner loop_in outside numerals.numeral_value own_table standard last_of
 read_mute text = reads (small (at_char (at_char own_table 93 blank_entry) 37 (macro_entry (codes "MUTE")))) text
 
 blank_after_mute : read_mute (codes "[%a]") ≡ form (vector nil) 0 4 4
@@ -165,7 +165,7 @@ blank_after_mute = refl
 -- ---- small limits
 
 unfoldable read_short : List ℕ → Outcome
-unfolding reads reads_in run then_plan inner loop_in outside numerals.value own_table standard last_of
+unfolding reads reads_in run then_plan inner loop_in outside numerals.numeral_value own_table standard last_of
 read_short text = reads (record (small own_table) { limits = record { text = 5; token = 3; nesting = 2 } }) text
 
 abbrev short_rows : List (List ℕ × Outcome)

@@ -12,9 +12,9 @@ use Rattle.token_scan.specs.declared.refusal.ScanRefusal.{ScanRefusal}
 use Rattle.token_scan.specs.declared.refusal.ScanRefusal.TheVariants.{InvalidCharacter, InvalidTrait, TokenTooLong}
 use Rattle.token_scan.specs.declared.stage.Stage.{Stage}
 use Rattle.token_scan.specs.declared.stage.Stage.TheVariants.{Outside, Inside, EscapedOutside, EscapedInside, Refused}
-use Rattle.token_scan.specs.Tokens.{TypedByte, kind, is_character, Scanned, ScannedBytes, fault_of_scan, with_front, escaped, outside, inside, typed, typed_text, in_bytes}
+use Rattle.token_scan.specs.Tokens.{TypedByte, kind, is_character, Scanned, ScannedBytes, fault_of_scan, with_front, after_single_escape, outside, inside, typed, typed_text, in_bytes}
 use Rattle.token_scan.specs.Spelling.{is_plain_syntax, ends_tokens}
-use Rattle.token_scan.specs.Scans.{from_stage}
+use Rattle.token_scan.specs.ByteByByte.{from_stage}
 use Rattle.token_scan.proofs.Forwards.{Forwards, forwards}
 use Rattle.token_scan.proofs.Steps.{outside_ends, outside_plain, outside_escape, outside_bar, outside_invalid, inside_between, inside_escape, inside_bar, inside_invalid}
 use Rattle.lisp_reading.specs.Plans.{scanned}
@@ -140,7 +140,7 @@ module _ (more : List TypedByte) where
         kinds_extend inside EscapedInside Outside (λ ys e. inside_escape x ys left at e) (λ ys e. inside_bar x ys left at e) (λ ys e. inside_invalid x ys left at e)
         (λ is. between_extends (or_first _ _ is)) (λ is. between_extends (or_second _ _ is))
 
-    escaped_extends : (longer r : ℕ → Scanned) → Extends last (longer (left - 1)) (r (left - 1)) → Extends last (escaped x left at longer) (escaped x left at r)
+    escaped_extends : (longer r : ℕ → Scanned) → Extends last (longer (left - 1)) (r (left - 1)) → Extends last (after_single_escape x left at longer) (after_single_escape x left at r)
     escaped_extends longer r h =
         chosen last (is_character x) _ _ _ _
         (chosen last (left == 0) _ _ _ _ (here_fault TokenTooLong) (front_extends (Quoted x.byte ∷ []) last (longer (left - 1)) (r (left - 1)) h))

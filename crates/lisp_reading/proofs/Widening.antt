@@ -23,11 +23,11 @@ use Rattle.lisp_reading.specs.declared.way.Function.TheVariants.{Standard as ASt
 use Rattle.lisp_reading.specs.declared.way.Keep.{Keep}
 use Rattle.lisp_reading.specs.declared.way.Way.{Way}
 use Rattle.lisp_reading.specs.declared.way.Way.TheVariants.{Nothing, Next, List as AList, Until, Text, Line, Block, Token, EscapedToken}
-use Rattle.lisp_reading.specs.Calls.{InvokedCall}
+use Rattle.lisp_reading.specs.InvokedCalls.{InvokedCall}
 use Rattle.lisp_reading.specs.Gathering.{text_turn, is_escape, kept, line_turn, block_next, block_goes, block_turn, number_turn, next_digit}
 use Rattle.lisp_reading.specs.Plans.{Plan, gives, refuses, takes, scans, then_plan, character, next_byte, loop_in, loop, Read, scanned, run}
 use Rattle.lisp_reading.specs.Setting.{Setting, macro_call, way_in, function_of}
-use Rattle.lisp_reading.specs.Reading.{text_to, line_after, block_after, number_after, Piece, item, dot, closed, is_whitespace, without_space, piece_of, or_closed, next_item_turn, next_item, Items, items_step, items_turn, items_after, undotted, after_tail, after_dot, list_end, one_piece, finished, plan_after_answer, completed_by, completed, opened, gathered, gathered_by, called, sub_called, sub_there, dispatched, macro_called, stands_alone, alone, token_found, attempt_by, inner, attempt, Outcome, form, outcome, reads_in, reads}
+use Rattle.lisp_reading.specs.Reading.{text_to, line_after, block_after, number_after, Piece, item, dot, closed, is_whitespace, without_space, piece_of, or_closed, next_item_turn, next_item, Items, items_step, items_turn, items_after, undotted, after_tail, after_dot, list_end, one_piece, finished, plan_after_answer, completed_by, completed, opened, gathering_plan, gathered_by, called, sub_called, sub_there, dispatch_plan, macro_called, stands_alone, alone, token_found, attempt_by, inner, attempt, Outcome, form, outcome, reads_in, reads}
 use Rattle.lisp_reading.specs.Answering.{may_be_answered}
 use Rattle.lisp_reading.proofs.LargerLimits.{GivesToo, byte_too, gives_along, outcome_too, scanned_too, token_too, within_text}
 use Rattle.lisp_reading.proofs.Steps.{and_then, run_then}
@@ -288,7 +288,7 @@ module _ (setting : Setting) (wider : Limits) where
       token_call_widens escaped call =
           scans_widens escaped setting.limits.token wider.token (on_marks setting call) (on_marks wide call) longer (λ marks. completed_widens depth call true false (marked marks))
 
-      gathered_widens : (call : InvokedCall) (way : Way) → Widens (gathered setting depth may call way) (gathered wide depth may2 call way)
+      gathered_widens : (call : InvokedCall) (way : Way) → Widens (gathering_plan setting depth may call way) (gathering_plan wide depth may2 call way)
       gathered_widens call Nothing = completed_widens depth call false false no_material
       gathered_widens call Next =
           let on : Setting → Bool → Object → Plan Found = λ by token x. completed by depth call token token (one_object x) in
@@ -330,7 +330,7 @@ module _ (setting : Setting) (wider : Limits) where
       sub_widens c sub number (Some name) =
           called_widens (record { function = function_of name; character = c; sub = Some (upper_case sub); number = number })
 
-      dispatched_widens : (c : ℕ) → Widens (dispatched setting depth may c None) (dispatched wide depth may2 c None)
+      dispatched_widens : (c : ℕ) → Widens (dispatch_plan setting depth may c None) (dispatch_plan wide depth may2 c None)
       dispatched_widens c =
           then_widens (number_after setting None) (number_after wide None) (sub_there setting depth may c) (sub_there wide depth may2 c) (number_widens None)
           (λ number. next_byte_widens (λ sub. sub_called setting depth may c sub number (dispatch_at setting.table c sub))
@@ -340,8 +340,8 @@ module _ (setting : Setting) (wider : Limits) where
       macro_widens c None = refuses_widens OUT_OF_PROFILE 1 (refuses OUT_OF_PROFILE 1)
       macro_widens c (Some name) =
           let call : InvokedCall = record { function = function_of name; character = c; sub = None; number = None } in
-          if_widens (is_dispatch_name name) (dispatched setting depth may c None) (called setting depth may call)
-          (dispatched wide depth may2 c None) (called wide depth may2 call) (dispatched_widens c) (called_widens call)
+          if_widens (is_dispatch_name name) (dispatch_plan setting depth may c None) (called setting depth may call)
+          (dispatch_plan wide depth may2 c None) (called wide depth may2 call) (dispatched_widens c) (called_widens call)
 
       alone_widens : (c : ℕ) (s : Syntax) → Widens (alone setting depth may c s) (alone wide depth may2 c s)
       alone_widens c Whitespace = gives_widens (nothing false)

@@ -26,5 +26,6 @@ are_known packages (pair a b) = are_known packages a && are_known packages b
 are_known packages (vector xs) = are_known packages xs
 are_known packages _ = true
 
+-- an object that may be answered: of size 1,000,000 at most, with symbols that the packages know
 abbrev pub may_be_answered : Packages → Object → Bool
 may_be_answered packages x = nat_le (object_size x) 1000000 && are_known packages x

@@ -17,6 +17,7 @@ decided_in setting zero start text = start
 decided_in setting (suc n) start text =
     deciding start (λ next cs. decided_in setting n next cs) (run setting.table setting.limits (attempt setting setting.limits.nesting) 0 text)
 
+-- each turn takes a byte or is the last one, so the length of the text is always enough
 abbrev pub decided_at : Setting → ℕ → List ℕ → ℕ
 decided_at setting start text = decided_in setting (length text + 1) start text
 

@@ -1,11 +1,11 @@
 pub mod Plans
 pub mod Gathering
-pub mod Calls
+pub mod InvokedCalls
 pub mod Setting
 pub mod Naming
 pub mod Answering
 pub mod Reading
 pub mod Deciding
 pub mod Fitting
-pub mod Discarding
-pub mod Depending
+pub mod DiscardedText
+pub mod SamePackages

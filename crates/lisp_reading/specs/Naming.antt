@@ -2,7 +2,7 @@
 use Rattle.std.specs.Prelude.{◌≡◌, ℕ, List, Result, Ok, Err}
 use Rattle.lisp_object.specs.Object.{symbol}
 use Rattle.package_table.specs.declared.error.PackageError.{PackageError}
-use Rattle.package_table.specs.Errors.{package_error_number}
+use Rattle.package_table.specs.ErrorNumbers.{package_error_number}
 use Rattle.package_table.specs.Resolving.{Resolution, home_of, resolution_of, resolution, external_resolution, internal_resolution}
 use Rattle.package_table.specs.Table.{Name, Table as Packages, keyword}
 use Rattle.token_scan.specs.declared.mark.Mark.{Mark}
@@ -25,6 +25,7 @@ abbrev pub symbol_at : Name → Result Name PackageError → Result Told ℕ
 symbol_at own (Ok home) = Ok (object (symbol home own))
 symbol_at own (Err e) = Err (package_error_number e)
 
+-- the symbol of this name, at home where it is found or would be made; or the number of the refusal
 abbrev pub symbol_in : Name → Result Resolution PackageError → Result Told ℕ
 symbol_in own (Ok r) = Ok (object (symbol (home_of r) own))
 symbol_in own (Err e) = Err (package_error_number e)
@@ -36,6 +37,7 @@ named packages current (Keyword own) = Ok (object (symbol keyword own))
 named packages current (External prefix own) = symbol_at own (external_resolution packages prefix own)
 named packages current (Internal prefix own) = symbol_in own (internal_resolution packages prefix own)
 
+-- the object that a token means: a number, or a symbol; a dot alone is none
 abbrev pub told_meaning : Packages → Name → Result Meaning MeaningRefusal → Result Told ℕ
 told_meaning packages current (Ok (number x)) = Ok (object x)
 told_meaning packages current (Ok dot) = Ok dot_alone
@@ -43,8 +45,8 @@ told_meaning packages current (Ok (name own)) = named packages current own
 told_meaning packages current (Err refusal) = Err (meaning_refusal_number refusal)
 
 -- the meaning of a token with these marks, or the number of its refusal
-abbrev pub told : Setting → List Mark → Result Told ℕ
-told setting marks = told_meaning setting.packages setting.current (meaning_of setting.base (folded setting.table.letters marks))
+abbrev pub token_meant : Setting → List Mark → Result Told ℕ
+token_meant setting marks = told_meaning setting.packages setting.current (meaning_of setting.base (folded setting.table.letters marks))
 
 -- ---- what the calls answer
 
@@ -54,10 +56,12 @@ TellsMeaning (Ok answer) meaning = meaning ≡ Ok answer
 TellsMeaning (Err OutOfMemory) meaning = Unit {0}
 TellsMeaning (Err (Refused refusal_number)) meaning = meaning ≡ Err refusal_number
 
+-- what a resolving call answered, as the definitions have it
 abbrev pub view_resolved : Result Resolved PackageError → Result Resolution PackageError
 view_resolved (Ok r) = Ok (resolution_of r)
 view_resolved (Err e) = Err e
 
+-- the home that was answered, as the definitions have it
 abbrev pub view_home : Result (Bor Name) PackageError → Result Name PackageError
 view_home (Ok home) = Ok home.now
 view_home (Err e) = Err e

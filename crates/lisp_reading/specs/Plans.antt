@@ -51,6 +51,7 @@ loop limits turn state = loop_in turn (limits.text + 1) state
 
 -- ---- what a plan gives on a text
 
+-- the number of a refusal, and its offset
 pub record Fault : Type 0 where
   pub number : ℕ
   pub at : ℕ
@@ -59,6 +60,7 @@ pub record Fault : Type 0 where
 abbrev pub Read : Type 0 → Type 0
 Read A = Result (A × ℕ × List ℕ) Fault
 
+-- the text is refused with this number, at this offset
 abbrev pub fault : {A : Type 0} → ℕ → ℕ → Read A
 fault number at = Err (record { number = number; at = at })
 
@@ -80,6 +82,7 @@ limited limit (Err e) end_of =
       | false ↦ Err (record { number = FORM_TOO_LONG; at = limit })
     ]
 
+-- a token; if it says so, one whose first character is taken as an escaped one
 abbrev pub scanned : Bool → Table → ℕ → ℕ → List ℕ → ScannedBytes
 scanned false table limit at text = token_in table limit at text
 scanned true table limit at text = escaped_token_in table limit at text

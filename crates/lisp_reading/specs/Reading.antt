@@ -25,20 +25,24 @@ use Rattle.lisp_reading.specs.declared.way.Way.TheVariants.{Nothing, Next, List 
 use Rattle.package_table.specs.Table.{Table as Packages}
 use Rattle.lisp_reading.specs.Plans.{Plan, gives, refuses, takes, scans, then_plan, next_byte, loop, Read, run}
 use Rattle.lisp_reading.specs.Setting.{Setting, macro_call, way_in, function_of}
-use Rattle.lisp_reading.specs.Calls.{InvokedCall}
-use Rattle.lisp_reading.specs.Naming.{told}
+use Rattle.lisp_reading.specs.InvokedCalls.{InvokedCall}
+use Rattle.lisp_reading.specs.Naming.{token_meant}
 use Rattle.lisp_reading.specs.Answering.{may_be_answered}
 use Rattle.lisp_reading.specs.Gathering.{text_turn, line_turn, block_turn, number_turn}
 
+-- the characters up to the terminator, after these
 abbrev pub text_to : Setting → ℕ → List ℕ → Plan (List ℕ)
 text_to setting terminator cs = loop setting.limits (text_turn setting.table terminator) cs
 
+-- the characters of a line, after these
 abbrev pub line_after : Setting → Keep → List ℕ → Plan (List ℕ)
 line_after setting keep cs = loop setting.limits (line_turn keep) cs
 
+-- up to the end of a block
 abbrev pub block_after : Setting → ℕ × ℕ → Plan (Unit {0})
 block_after setting levels = loop setting.limits block_turn levels
 
+-- the number of a dispatch call, after these digits
 abbrev pub number_after : Setting → Option ℕ → Plan (Option ℕ)
 number_after setting number = loop setting.limits number_turn number
 
@@ -51,10 +55,12 @@ pub data Piece : Type 0 where
   -- the closing character that was looked for
   closed : Piece
 
+-- whether it is the type of whitespace
 abbrev pub is_blank : Syntax → Bool
 is_blank Whitespace = true
 is_blank _ = false
 
+-- whether a character is whitespace in the readtable (standard 2.1.4.7)
 abbrev pub is_whitespace : Table → ℕ → Bool
 is_whitespace table c = is_blank (entry_at table c).syntax
 
@@ -65,6 +71,7 @@ without_space table true on = takes on (is_whitespace table) (λ c. on)
 
 -- ---- what comes next inside a call: after discarded text, an object, a dot or the closing character
 
+-- an attempt that came to no object is made again; at the end of the input the call is refused
 abbrev pub piece_of : Table → Plan Piece → Found → Plan Piece
 piece_of table again (nothing token) = without_space table token again
 piece_of table again (one token x) = gives (item token x)
@@ -76,9 +83,11 @@ abbrev pub or_closed : Option ℕ → Plan Piece → Plan Piece
 or_closed None plan = plan
 or_closed (Some close) plan = takes plan (λ c. c == close) (λ c. gives closed)
 
+-- one attempt, before which the closing character is looked for
 abbrev pub next_item_turn : Table → Option ℕ → Plan Found → (Unit {0} → Plan Piece) → Unit {0} → Plan Piece
 next_item_turn table close attempt more u = or_closed close (then_plan attempt (λ found. piece_of table (more tt) found))
 
+-- the next piece inside a call: the closing character, an object or a dot
 abbrev pub next_item : Setting → Option ℕ → Plan Found → Plan Piece
 next_item setting close attempt = loop setting.limits (next_item_turn setting.table close attempt) tt
 
@@ -88,11 +97,13 @@ next_item setting close attempt = loop setting.limits (next_item_turn setting.ta
 abbrev pub Items : Type 0
 Items = List Object × Bool
 
+-- an object goes behind the others; the closing character and a dot end them
 abbrev pub items_step : Table → (List Object → Plan Items) → List Object → Piece → Plan Items
 items_step table more xs closed = gives (xs, true)
 items_step table more xs dot = gives (xs, false)
 items_step table more xs (item token x) = without_space table token (more (xs ++ x ∷ []))
 
+-- one piece more
 abbrev pub items_turn : Setting → ℕ → Plan Found → (List Object → Plan Items) → List Object → Plan Items
 items_turn setting close attempt more xs = then_plan (next_item setting (Some close) attempt) (λ p. items_step setting.table more xs p)
 
@@ -113,12 +124,14 @@ after_tail on xs tail closed = on (dotted xs tail)
 after_tail on xs tail dot = refuses DOT_CONTEXT 0
 after_tail on xs tail (item token x) = refuses DOT_CONTEXT 0
 
+-- A dot has one object before it and one after it (standard 2.4.1). Else it is refused, at its own place or at what comes instead.
 abbrev pub after_dot : Setting → Plan Found → (Material → Plan Found) → List Object → Piece → Plan Found
 after_dot setting attempt on xs closed = refuses DOT_CONTEXT 1
 after_dot setting attempt on xs dot = refuses DOT_CONTEXT 0
 after_dot setting attempt on xs (item token x) =
     without_space setting.table token (then_plan (next_item setting (Some 41) attempt) (after_tail on xs x))
 
+-- a list ends with the closing character, or with a dot and one object more
 abbrev pub list_end : Setting → Plan Found → (Material → Plan Found) → Items → Plan Found
 list_end setting attempt on (xs, true) = on (many xs)
 list_end setting attempt on ([], false) = refuses DOT_CONTEXT 0
@@ -126,6 +139,7 @@ list_end setting attempt on (x ∷ xs, false) = then_plan (next_item setting (So
 
 -- ---- one object
 
+-- one object; a dot or the closing character in its place is refused
 abbrev pub one_piece : (Bool → Object → Plan Found) → Piece → Plan Found
 one_piece on (item token x) = on token x
 one_piece on dot = refuses DOT_CONTEXT 0
@@ -165,6 +179,7 @@ completed_by setting depth call (AStandard kind) token spaced material =
 completed_by setting depth call (User name) token spaced material =
     plan_after_answer setting.packages setting.limits.nesting depth token spaced (setting.answer name (macro_call call material))
 
+-- what the function of the call gives for it
 abbrev pub completed : Setting → ℕ → InvokedCall → Bool → Bool → Material → Plan Found
 completed setting depth call token spaced material = completed_by setting depth call call.function token spaced material
 
@@ -175,56 +190,61 @@ abbrev pub opened : Option (Plan Found) → (Plan Found → Plan Found) → Plan
 opened None on = refuses TOO_DEEP 1
 opened (Some attempt) on = on attempt
 
-abbrev pub gathered : Setting → ℕ → Option (Plan Found) → InvokedCall → Way → Plan Found
-gathered setting depth inner call Nothing = completed setting depth call false false no_material
-gathered setting depth inner call Next =
+-- what a call gathers by the way of its function, and then what the function gives for that
+abbrev pub gathering_plan : Setting → ℕ → Option (Plan Found) → InvokedCall → Way → Plan Found
+gathering_plan setting depth inner call Nothing = completed setting depth call false false no_material
+gathering_plan setting depth inner call Next =
     opened inner (λ attempt. then_plan (next_item setting None attempt)
     (one_piece (λ token x. completed setting depth call token token (one_object x))))
-gathered setting depth inner call AList =
+gathering_plan setting depth inner call AList =
     opened inner (λ attempt. then_plan (items_after setting 41 attempt [])
     (list_end setting attempt (λ m. completed setting depth call false false m)))
-gathered setting depth inner call (Until close) =
+gathering_plan setting depth inner call (Until close) =
     opened inner (λ attempt. then_plan (items_after setting close attempt [])
     (undotted (λ m. completed setting depth call false false m)))
-gathered setting depth inner call (Text close) =
+gathering_plan setting depth inner call (Text close) =
     then_plan (text_to setting close []) (λ cs. completed setting depth call false false (letters cs))
-gathered setting depth inner call (Line keep) =
+gathering_plan setting depth inner call (Line keep) =
     then_plan (line_after setting keep []) (λ cs. completed setting depth call false false (letters cs))
-gathered setting depth inner call Block =
+gathering_plan setting depth inner call Block =
     then_plan (block_after setting (0, 0)) (λ u. completed setting depth call false false no_material)
-gathered setting depth inner call Token =
+gathering_plan setting depth inner call Token =
     scans false setting.limits.token (λ marks. completed setting depth call true false (marked marks))
-gathered setting depth inner call EscapedToken =
+gathering_plan setting depth inner call EscapedToken =
     scans true setting.limits.token (λ marks. completed setting depth call true false (marked marks))
 
 -- a name of no function is outside the profile
 abbrev pub gathered_by : Setting → ℕ → Option (Plan Found) → InvokedCall → Option Way → Plan Found
 gathered_by setting depth inner call None = refuses OUT_OF_PROFILE 1
-gathered_by setting depth inner call (Some way) = gathered setting depth inner call way
+gathered_by setting depth inner call (Some way) = gathering_plan setting depth inner call way
 
+-- a call of a function, by the way that is the function's
 abbrev pub called : Setting → ℕ → Option (Plan Found) → InvokedCall → Plan Found
 called setting depth inner call = gathered_by setting depth inner call (way_in setting call)
 
 -- ---- dispatch: a number and a sub-character, which is taken in upper case
 
+-- of the function at a sub-character; where the readtable has none, as the standard one at `<`, at `)` and at whitespace, it is refused
 abbrev pub sub_called : Setting → ℕ → Option (Plan Found) → ℕ → ℕ → Option ℕ → Option (List ℕ) → Plan Found
 sub_called setting depth inner c sub number None = refuses NO_DISPATCH 1
 sub_called setting depth inner c sub number (Some name) =
     called setting depth inner (record { function = function_of name; character = c; sub = Some (upper_case sub); number = number })
 
+-- the sub-character, which is any character that is no digit
 abbrev pub sub_there : Setting → ℕ → Option (Plan Found) → ℕ → Option ℕ → Plan Found
 sub_there setting depth inner c number =
     next_byte (λ sub. sub_called setting depth inner c sub number (dispatch_at setting.table c sub))
 
-abbrev pub dispatched : Setting → ℕ → Option (Plan Found) → ℕ → Option ℕ → Plan Found
-dispatched setting depth inner c number = then_plan (number_after setting number) (sub_there setting depth inner c)
+-- a dispatch call: its digits, if any, and its sub-character (standard 2.4.8)
+abbrev pub dispatch_plan : Setting → ℕ → Option (Plan Found) → ℕ → Option ℕ → Plan Found
+dispatch_plan setting depth inner c number = then_plan (number_after setting number) (sub_there setting depth inner c)
 
 -- the function at a macro character, which always has one
 abbrev pub macro_called : Setting → ℕ → Option (Plan Found) → ℕ → Option (List ℕ) → Plan Found
 macro_called setting depth inner c None = refuses OUT_OF_PROFILE 1
 macro_called setting depth inner c (Some name) =
     elim (is_dispatch_name name) [
-      | true ↦ dispatched setting depth inner c None
+      | true ↦ dispatch_plan setting depth inner c None
       | false ↦ called setting depth inner (record { function = function_of name; character = c; sub = None; number = None })
     ]
 
@@ -256,7 +276,7 @@ told_found (Err number) = refuses number 0
 -- Where no other character stands a token begins. It is empty only at the end of the input.
 abbrev pub token_found : Setting → List Mark → Plan Found
 token_found setting [] = gives the_end
-token_found setting (m ∷ ms) = told_found (told setting (m ∷ ms))
+token_found setting (m ∷ ms) = told_found (token_meant setting (m ∷ ms))
 
 -- One attempt at an object; inner is an attempt one call deeper.
 abbrev pub attempt_by : Setting → ℕ → Option (Plan Found) → Plan Found
@@ -269,11 +289,13 @@ unfoldable pub inner : Setting → ℕ → Option (Plan Found)
 inner setting zero = None
 inner setting (suc room) = Some (attempt_by setting (setting.limits.nesting - room) (inner setting room))
 
+-- where so many calls may be open yet
 abbrev pub attempt : Setting → ℕ → Plan Found
 attempt setting room = attempt_by setting (setting.limits.nesting - room) (inner setting room)
 
 -- ---- the outermost object
 
+-- what a text begins with: a form, nothing but discarded text, or what is refused
 pub data Outcome : Type 0 where
   -- its start, its end, and where the next form begins
   form : Object → ℕ → ℕ → ℕ → Outcome

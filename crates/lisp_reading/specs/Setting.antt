@@ -15,7 +15,7 @@ use Rattle.std_macros.specs.declared.kind.StdGather.{StdGather}
 use Rattle.std_macros.specs.declared.kind.StdGather.TheVariants.{Nothing as StdNothing, One as StdOne, List as StdList, Many as StdMany, Text as StdText, Line as StdLine, Block as StdBlock, Token as StdToken, EscapedToken as StdEscapedToken}
 use Rattle.std_macros.specs.Kinds.{kinds, kind_among, way_of_standard, radix_of}
 use Rattle.std_macros.specs.Values.{Material, nothing, one, many, dotted, letters, marked}
-use Rattle.lisp_reading.specs.Calls.{InvokedCall, caller}
+use Rattle.lisp_reading.specs.InvokedCalls.{InvokedCall, caller}
 use Rattle.lisp_reading.specs.declared.limits.Limits.{Limits}
 use Rattle.lisp_reading.specs.declared.way.Function.{Function}
 use Rattle.lisp_reading.specs.declared.way.Function.TheVariants.{Standard as AStandard, User}
@@ -66,6 +66,7 @@ abbrev pub is_baseless : Standard → Option ℕ → Bool
 is_baseless Radix number = option_map_or (λ base. false) (radix_of number) true
 is_baseless _ number = false
 
+-- how the function of a user gathers, by what it was registered with
 abbrev pub user_way : ℕ → Gather → Way
 user_way same GatherNothing = Nothing
 user_way same GatherNext = Next
@@ -80,11 +81,13 @@ abbrev pub way_by : Setting → InvokedCall → Function → Option Way
 way_by setting call (AStandard kind) = Some (if is_baseless kind call.number then Nothing else standard_way (caller call) (way_of_standard kind))
 way_by setting call (User name) = option_map (user_way (caller call)) (setting.way name)
 
+-- what the function of this call gathers, in this setting
 abbrev pub way_in : Setting → InvokedCall → Option Way
 way_in setting call = way_by setting call call.function
 
 -- ---- what a function of a user is given
 
+-- what a function of a user is handed of what was gathered; of a list with a dot, nothing
 abbrev pub user_material : Material → user.Material
 user_material nothing = user.nothing
 user_material (one x) = user.one x
@@ -93,11 +96,13 @@ user_material (dotted xs tail) = user.nothing
 user_material (letters cs) = user.text cs
 user_material (marked marks) = user.text (characters marks)
 
+-- the call that a function of a user is handed
 abbrev pub macro_call : InvokedCall → Material → MacroCall
 macro_call call material =
     record { character = call.character; sub = call.sub; number = call.number; gathered = user_material material }
 
 -- ---- the function of a name
 
+-- a standard function where the name is one of theirs, else that of a user
 abbrev pub function_of : List ℕ → Function
 function_of name = option_map_or (λ kind. AStandard kind) (kind_among kinds name) (User name)

@@ -1,6 +1,6 @@
 //! The call that invoked a function.
 ghost use Rattle.std.specs.Prelude.{◌≡◌, ◌<◌, ◌≤◌, Some, None, IfSome};
-ghost use Rattle.lisp_reading.specs.Calls.{caller, keep_of};
+ghost use Rattle.lisp_reading.specs.InvokedCalls.{caller, keep_of};
 
 use crate::way::{Function, Keep};
 use std::marker::Model;
@@ -16,7 +16,7 @@ pub struct Invoked {
 
 impl Model for Invoked {
     ghost use Rattle.std.specs.Prelude.{◌<◌, ◌≤◌, IfSome};
-    ghost use Rattle.lisp_reading.specs.Calls.{InvokedCall};
+    ghost use Rattle.lisp_reading.specs.InvokedCalls.{InvokedCall};
 
     ghost Value = { InvokedCall };
 

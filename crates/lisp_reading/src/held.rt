@@ -52,7 +52,7 @@ impl HeldObject {
         HeldObject { datum }
     }
 
-    /// A text.
+    /// Holds a text of these characters.
     pub fn text(bytes: Bytes) -> HeldObject
         requires { list_all is_ascii bytes ≡ true }
         ensures { result ≡ text bytes }
@@ -62,7 +62,7 @@ impl HeldObject {
         }
     }
 
-    /// An integer.
+    /// Holds an integer.
     pub fn integer(n: u64) -> HeldObject
         ensures { result ≡ integer (pos n) }
     {
@@ -185,7 +185,7 @@ impl HeldObjects {
         })
     }
 
-    /// One more object, after the others.
+    /// One more object, after the others. Where memory runs out, nothing is said of those that are held: the form is refused then.
     #[inline(always)]
     pub fn push(&mut self, x: HeldObject) -> Result<(), AllocError>
         ensures { OnOk result (self.new ≡ self.old ++ x ∷ []) }
@@ -195,7 +195,7 @@ impl HeldObjects {
         Ok(())
     }
 
-    /// Whether there is none.
+    /// Whether no object is held.
     pub fn is_empty(&self) -> bool
         ensures empty { result ≡ true → self.now ≡ [] }
         ensures some { result ≡ false → 0 < length self.now }
@@ -203,7 +203,7 @@ impl HeldObjects {
         self.data.is_empty()
     }
 
-    /// The list of them.
+    /// The list of the objects that are held, which it takes.
     #[inline(always)]
     pub fn into_list(self, alloc: Global) -> Result<HeldObject, AllocError>
         ensures { IfOk result (λ x. x ≡ list_of self) }
@@ -253,7 +253,7 @@ impl HeldText {
         }
     }
 
-    /// One more character, after the others.
+    /// One more character, after the others. Where memory runs out, nothing is said of those that are held: the form is refused then.
     pub fn push(&mut self, c: u8) -> Result<(), AllocError>
         requires { c < 128 }
         ensures { OnOk result (self.new ≡ self.old ++ c ∷ []) }
@@ -289,7 +289,7 @@ impl Model for HeldNumber {
 }
 
 impl HeldNumber {
-    /// No number.
+    /// No digit was read yet.
     pub fn none() -> HeldNumber
         ensures { result ≡ None }
     {

@@ -4,7 +4,7 @@ ghost use Rattle.lisp_object.specs.Object.{Object, object_depth};
 ghost use Rattle.lisp_object.specs.declared.refusal.TheConstants.{END_OF_FILE, OUT_OF_PROFILE};
 ghost use Rattle.readtable_core.specs.Names.{is_among};
 ghost use Rattle.readtable_core.specs.Tables.{Table};
-ghost use Rattle.package_table.specs.Table.{Name, Table as Packages, IsSound};
+ghost use Rattle.package_table.specs.Table.{Name, Table as Packages, AreSoundPackages};
 ghost use Rattle.user_macros.specs.Functions.{Functions, named_among};
 ghost use Rattle.lisp_reading.specs.declared.limits.Limits.{Limits};
 ghost use Rattle.lisp_reading.specs.declared.way.Keep.{Keep};
@@ -13,8 +13,8 @@ ghost use Rattle.lisp_reading.specs.Setting.{Setting, setting_of};
 ghost use Rattle.lisp_reading.specs.Gathering.{text_turn, line_turn, block_turn, number_turn};
 ghost use Rattle.lisp_reading.specs.Reading.{is_whitespace, form, empty, refused, next_item_turn, next_item, items_turn, items_after, attempt, outcome, reads_at, reads, IsFramed};
 ghost use Rattle.lisp_reading.specs.Deciding.{deciding, decided_at, decided_from};
-ghost use Rattle.lisp_reading.specs.Depending.{FindsSame};
-ghost use Rattle.lisp_reading.specs.Discarding.{IsDiscarded};
+ghost use Rattle.lisp_reading.specs.SamePackages.{FindsSame};
+ghost use Rattle.lisp_reading.specs.DiscardedText.{IsDiscarded};
 ghost use Rattle.lisp_reading.specs.Fitting.{IsFitting};
 
 /// A form is read again, alone, from the bytes from its start up to its end. They are one byte or more, and with it at
@@ -74,7 +74,7 @@ pub fn spaced_forms_are_framed()
 /// was read, in any packages and under any limits, the depth is within the nesting.
 pub fn forms_fit()
     ensures fit { (setting : Setting) (text : List ℕ) (x : Object) (start end next : ℕ)
-        → IsSound setting.packages → setting.limits.nesting ≤ 100 → setting.limits.token ≤ 4096
+        → AreSoundPackages setting.packages → setting.limits.nesting ≤ 100 → setting.limits.token ≤ 4096
         → reads setting text ≡ form x start end next → IsFitting setting.packages x }
     ensures depth { (setting : Setting) (text : List ℕ) (x : Object) (start end next : ℕ)
         → reads setting text ≡ form x start end next → object_depth x ≤ setting.limits.nesting }

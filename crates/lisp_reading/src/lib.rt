@@ -8,10 +8,10 @@
 //! registered functions of users gather and answer.
 //!
 //! - specs/Plans.antt: plans, and what they give; specs/Gathering.antt: texts, lines, blocks and numbers
-//! - specs/Calls.antt: calls; specs/Naming.antt: what a token means in packages; specs/Answering.antt: what a function of a
+//! - specs/InvokedCalls.antt: calls; specs/Naming.antt: what a token means in packages; specs/Answering.antt: what a function of a
 //!   user may answer
 //! - specs/Reading.antt: objects, calls and forms; specs/Deciding.antt: where the attempt begins that decides a text
-//! - specs/Discarding.antt, specs/Fitting.antt, specs/Depending.antt: words of the laws
+//! - specs/DiscardedText.antt, specs/Fitting.antt, specs/SamePackages.antt: words of the laws
 //!
 //! What holds of each reading is on functions that do nothing: `forms_are_framed` says that a form is read again from its own
 //! bytes alone, and `spaced_forms_are_framed` the same with the whitespace character that is discarded with it, whatever

@@ -4,7 +4,7 @@ use Rattle.std.proofs.lemmas.List.{length-append}
 use Rattle.disk_trait.specs.Disk.{Image, file_of}
 use Rattle.disk_trait.specs.declared.half.Half.{Half}
 use Rattle.log_look.specs.Live.{IsHonestWatch, IsPiece, IsRead, Later, Watch, file_at}
-use Rattle.log_look.specs.Seen.{IsReadToEnd}
+use Rattle.log_look.specs.LookResults.{IsReadToEnd}
 
 -- time goes on in turn
 pub later_still : (a b c : Watch) → Later a b → Later b c → Later a c

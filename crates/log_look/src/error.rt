@@ -1,6 +1,6 @@
 //! Why a look was not had, or nothing is told of what was seen.
 ghost use Rattle.std.specs.Prelude.{◌≡◌};
-ghost use Rattle.log_look.specs.Cut.{log_error_of, told_of_read};
+ghost use Rattle.log_look.specs.FirstRecords.{log_error_of, told_of_read};
 ghost use Rattle.log_look.specs.declared.error.LogError.TheVariants as telling;
 ghost use Rattle.log_look.specs.declared.error.LookError.TheVariants as looking;
 

@@ -5,7 +5,7 @@ ghost use Rattle.gate_log.specs.Layout.{Contents};
 ghost use Rattle.gate_log.specs.Log.{FilesMean};
 ghost use Rattle.gate_log.specs.Opening.{Warrants};
 ghost use Rattle.gate_log.specs.declared.error.OpenRefusal.{OpenRefusal};
-ghost use Rattle.log_look.specs.Rest.{IsSightOf};
+ghost use Rattle.log_look.specs.FilesAtRest.{IsSightOf};
 
 /// A sight of files that nobody wrote meanwhile means the contents that they mean, and no others, and is refused for the reasons for which
 /// they are.

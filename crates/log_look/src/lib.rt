@@ -2,10 +2,10 @@
 //!
 //! A writer goes on while the two files are read, so that they are never seen at one moment. `look` reads the half in use from its
 //! start to its end, and the headers of both halves before and after. Where the half is still the one in use, and of the same
-//! generation, its bytes hold what it held at one moment in between (`WasMeant` in `specs/Seen.antt`): they were read forward, and the
+//! generation, its bytes hold what it held at one moment in between (`WasMeant` in `specs/LookResults.antt`): they were read forward, and the
 //! log writes a record behind its closed gate before it opens that gate. Else it looks again.
 //!
-//! What it rests on: nobody but the log of a store writes the two files (`IsKept` in `specs/Kept.antt`), and a read gives what was
+//! What it rests on: nobody but the log of a store writes the two files (`IsKept` in `specs/FilesDuringLook.antt`), and a read gives what was
 //! there when it was read (`LiveFiles`).
 //!
 //! # Modules
@@ -17,6 +17,7 @@
 //! - `sight`: `Sight`, the bytes that were seen, as a disk that takes no write.
 //! - `opened`: the log of a sight. `cut`: a sight with no more than its first records.
 //! - `error`: why a look was not had, or nothing is told of what was seen.
+//! - `laws`: a look at files that nobody writes meanwhile means what they mean.
 #![tactic(auto)]
 
 mod cut;

@@ -47,7 +47,8 @@ impl MomentFiles {
     fn read_now(&mut self, half: Half, at: u64, buffer: &mut [u8]) -> usize
         ensures later { IsLaterOf self.old self.new }
         ensures within { result ≤ length buffer.old }
-        ensures bytes { take result buffer.new ≡ take (length buffer.old) (drop at (file_then half self.old)) }
+        ensures bytes { take result buffer.new
+            ≡ take (length buffer.old) (drop at (file_then half self.old)) }
     {
         let count = copy_from(
             file_in(self.moments.as_slice(), self.next, half),

@@ -1,8 +1,8 @@
 //! A file, read from its start to its end.
 ghost use Rattle.std.specs.Prelude.{◌≡◌, ◌<◌, ◌≤◌, length, IfErr, IfOk};
 ghost use Rattle.log_look.specs.Live.{IsHonestWatch, IsPiece, Later, file_at};
-ghost use Rattle.log_look.specs.Seen.{IsReadToEnd};
-ghost use Rattle.log_look.specs.Tried.{IsPassingLook};
+ghost use Rattle.log_look.specs.LookResults.{IsReadToEnd};
+ghost use Rattle.log_look.specs.OneTry.{IsPassingLook};
 
 use crate::PIECE;
 use crate::error::LookError;

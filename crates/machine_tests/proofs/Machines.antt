@@ -8,7 +8,7 @@ use Rattle.disk_trait.specs.declared.host.IfMissing.{IfMissing}
 use Rattle.disk_trait.specs.declared.host.IfMissing.TheVariants.{Make, Refuse}
 use Rattle.sessions.specs.declared.ending.Ended.{Ended}
 use Rattle.machine_tests.specs.Machine.{FindsAnswered, IsHonestMachine, IsThereByThen, account_of_session, calls_of_session}
-use Rattle.session_ledger.specs.Went.{disk_at}
+use Rattle.session_ledger.specs.OutgoingLines.{disk_at}
 use Rattle.session_words.specs.declared.wanted.Wanted.{Wanted}
 use Rattle.store_commands.specs.Commands.{DoesAfter, IsUntouched, OpensFolder, TellsUnopened}
 use Rattle.store_commands.specs.Folders.{OpensStore}

@@ -8,7 +8,7 @@ use Rattle.plist_state.specs.State.{WorldState}
 use Rattle.prevalence_store.specs.Theorem.{Call, MeansAsBefore}
 use Rattle.sessions.specs.Account.{Account, first_account}
 use Rattle.sessions.specs.declared.ending.Ended.{Ended}
-use Rattle.session_ledger.specs.Went.{calls_in, disk_at}
+use Rattle.session_ledger.specs.OutgoingLines.{calls_in, disk_at}
 use Rattle.session_words.specs.declared.wanted.Wanted.{Wanted}
 use Rattle.store_commands.specs.Session.{IsSession}
 use Rattle.store_laws.specs.Batches.{IsAfterCalls, MeansCalls}

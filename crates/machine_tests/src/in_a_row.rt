@@ -3,7 +3,7 @@ ghost use Rattle.std.specs.Prelude.{◌≡◌, ◌<◌, ◌-◌, ◌^◌, List, 
 ghost use Rattle.disk_trait.specs.Disk.{IsHonest};
 ghost use Rattle.plist_state.specs.State.{WorldState};
 ghost use Rattle.sessions.specs.Account.{first_account};
-ghost use Rattle.session_ledger.specs.Went.{Went, handings_of};
+ghost use Rattle.session_ledger.specs.OutgoingLines.{Went, handings_of};
 ghost use Rattle.store_commands.specs.Accounts.{AccountGoesOn};
 ghost use Rattle.store_laws.specs.Sessions.{account_after};
 

@@ -1,9 +1,9 @@
 -- What `run DIR --messages` does over the store in a folder.
 use Rattle.std.specs.Prelude.{◌≡◌, ◌⊎◌, ℕ, Bool, List, Option}
 use Rattle.disk_trait.specs.Disk.{State}
-use Rattle.message_session.specs.Account.{Account}
+use Rattle.message_session.specs.Account.{MessageAccount}
 use Rattle.message_session.specs.Sessions.{ServesMessages}
-use Rattle.message_session.specs.Standing.{AcknowledgesNone}
+use Rattle.message_session.specs.Standing.{AcknowledgesNoFrame}
 use Rattle.message_session.specs.declared.ended.Ended.{Ended}
 use Rattle.message_session.specs.declared.ended.Ended.TheVariants as way
 use Rattle.prevalence_store.specs.calls.Open.{IsOpened, IsUnopened}
@@ -22,16 +22,16 @@ session_status (way.Fault number) = Fault number
 
 -- The store that a disk holds was opened with these macro functions, it served the frames of the input, and it was closed: this is its disk.
 -- A recipient that keeps account has this one at the end.
-pub record IsMessageSession (functions : Functions) {D R : Type 0} (state : D → State) (disk : D) (macros : R) (had has held written : Option (List ℕ)) (account : Option (Account D)) (ended : Ended) (back : D) : Type 0 where
+pub record IsMessageSession (functions : Functions) {D R : Type 0} (state : D → State) (disk : D) (macros : R) (had has held written : Option (List ℕ)) (account : Option (MessageAccount D)) (ended : Ended) (back : D) : Type 0 where
   pub opened : StoreView D R
   pub is_opened : IsOpened functions state disk macros half_limit opened
   pub closed : StoreView D R
   pub serves : ServesMessages functions state opened closed is_opened.world had has held written ended
-  pub under_way : AcknowledgesNone functions state account closed
+  pub under_way : AcknowledgesNoFrame functions state account closed
   pub disk_is : back ≡ closed.disk
 
 module _ (functions : Functions) {D R : Type 0} (state : D → State) (macros : R) (whole : Bool)
-    {I O : Type 0} (remaining : I → Option (List ℕ)) (contents : O → Option (List ℕ)) (input left : I) (held written : O) (account : Option (Account D)) where
+    {I O : Type 0} (remaining : I → Option (List ℕ)) (contents : O → Option (List ℕ)) (input left : I) (held written : O) (account : Option (MessageAccount D)) where
   -- Such a session over the store that a disk holds; or the store is not opened, and nothing is read or written. The first disk becomes the
   -- second.
   abbrev pub ServesOn : D → D → Ended → Type 0

@@ -1,5 +1,5 @@
 pub mod Frames
-pub mod Held
+pub mod WholeFrames
 pub mod Lists
 pub mod Numbers
 pub mod Reading

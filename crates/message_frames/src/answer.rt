@@ -8,7 +8,7 @@ use crate::frame::Kind;
 use itoa::Buffer;
 use std::alloc::AllocError;
 
-/// Writes an answer, without the newline of its line, after what was written. If memory runs out, a part of it stands there.
+/// Adds an answer to `out`; `answer` comes without the newline of its line. If memory runs out, a part of it stands there.
 pub fn push_answer(out: &mut Vec<u8>, kind: Kind, answer: &[u8]) -> Result<(), AllocError>
     ensures whole { OnOk result (out.new.items ≡ out.old.items ++ answer_bytes (kind, answer.now)) }
     ensures after { Appends out.old.items out.new.items }
@@ -20,7 +20,7 @@ pub fn push_answer(out: &mut Vec<u8>, kind: Kind, answer: &[u8]) -> Result<(), A
     Ok(())
 }
 
-/// Writes the position after what was written. If memory runs out, a part of it stands there.
+/// Adds the position to `out`. If memory runs out, a part of it stands there.
 pub fn push_position(out: &mut Vec<u8>, number: u64) -> Result<(), AllocError>
     ensures whole { OnOk result (out.new.items ≡ out.old.items ++ position_bytes number) }
     ensures after { Appends out.old.items out.new.items }

@@ -1,6 +1,6 @@
 //! The bytes of frames that come in pieces.
 ghost use Rattle.std.specs.Prelude.{◌≡◌, ◌≤◌, ◌<◌, ◌++◌, [], length, drop, IfOk, OnErr, OnOk};
-ghost use Rattle.message_frames.specs.Held.{AreWhole};
+ghost use Rattle.message_frames.specs.WholeFrames.{AreWhole};
 
 use crate::frame::{MessageFrame, first_frame};
 use crate::words::NotWhole;
@@ -36,7 +36,7 @@ pub enum Next {
 }
 
 impl From<NotWhole> for Next {
-    ghost use Rattle.message_frames.specs.Held.{next_after};
+    ghost use Rattle.message_frames.specs.WholeFrames.{next_after};
 
     ghost from_gives = { λ fault next. next ≡ next_after fault };
 
@@ -57,7 +57,7 @@ pub struct Whole<'a> {
 }
 
 impl Held {
-    /// None.
+    /// No bytes are held.
     pub fn new(alloc: Global) -> Held
         ensures { result ≡ [] }
     {
@@ -79,7 +79,7 @@ impl Held {
         self.bytes.extend_from_slice(piece)
     }
 
-    /// The bytes.
+    /// The bytes that are held, without those that are done with.
     pub fn bytes(&self) -> &[u8]
         ensures { result.now ≡ self.now }
     {

@@ -4,9 +4,10 @@
 //! question. A number is written in one way, in digits without a leading zero, and one space stands between words.
 //!
 //! - specs/Words.antt: what bytes begin with, of words that are each written in one way; specs/Frames.antt: frames, answers and
-//!   positions as bytes; specs/Held.antt: what stands whole in bytes.
+//!   positions as bytes; specs/WholeFrames.antt: what stands whole in bytes.
 //!
-//! - `frame`: `MessageFrame`, and `first_frame`, which reads one at the front of bytes; over `number`
+//! - `frame`: `MessageFrame`, and `first_frame`, which reads one at the front of bytes; over `number`, and `words`: why bytes begin
+//!   with no whole word
 //! - `held`: `Held`, the bytes of frames that come in pieces
 //! - `answer`: what is written
 //! - `laws`: bytes are frames in one way, so it makes no difference in which pieces they came; and answers are read back

@@ -11,12 +11,12 @@ use Rattle.lisp_object.specs.Object.{Object}
 use Rattle.plist_state.specs.Properties.{Symbol, Plist, Properties, symbol_cmp, same_symbol, value_at, with_value, without_value, list_at, with_list}
 use Rattle.plist_state.specs.State.{WorldState}
 use Rattle.plist_state.specs.Changes.{plist, property, with_property, without_property}
-use Rattle.plist_state.specs.Sound.{IsApart, IsSound}
+use Rattle.plist_state.specs.Sound.{IsApart, IsSoundWorldState}
 use Rattle.plist_state.proofs.Lists.{kept, AreSome, without-absent, get-with_list, list-with_list, with_list_same}
 use Rattle.plist_state.proofs.Orders.{one_symbol, symbol_total}
-use Rattle.message_laws.specs.Near.{IsTidy}
+use Rattle.message_laws.specs.NearRounds.{IsTidy}
 
-pub sound_tidy : (s : WorldState) → IsSound s → IsTidy s.properties
+pub sound_tidy : (s : WorldState) → IsSoundWorldState s → IsTidy s.properties
 sound_tidy s sound x ps there = ((sound.properties x ps there).some, (sound.properties x ps there).apart)
 
 -- ---- one list

@@ -21,7 +21,7 @@ use Rattle.prevalence_store.specs.calls.ExecuteAll.{world_left_after}
 use Rattle.prevalence_store.specs.meaning.Acceptance.{Acceptance, acceptance_of, accepted_of, accepts, between, read_in, transacted}
 use Rattle.prevalence_store.specs.meaning.Forgetting.{forgetting, is_forgetting}
 use Rattle.user_macros.specs.Functions.{Functions}
-use Rattle.message_laws.specs.Near.{IsTidy}
+use Rattle.message_laws.specs.NearRounds.{IsTidy}
 use Rattle.message_laws.proofs.Tidy.{tidy_put}
 use Rattle.message_laws.proofs.TidyOperators.{Kept, Keeps, IsKeeping, list_keeps, get_keeps, set_keeps, remove_keeps, symbol_plist_keeps, increment_keeps, push_keeps, make_keeps, enter_keeps, intern_keeps, export_keeps, import_keeps, use_keeps, case_keeps, set_case_keeps, copy_keeps, enter_readtable_keeps, set_syntax_keeps, set_macro_keeps, get_macro_keeps, make_dispatch_keeps, set_dispatch_keeps, get_dispatch_keeps, set_base_keeps}
 

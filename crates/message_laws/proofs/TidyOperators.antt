@@ -21,11 +21,11 @@ use Rattle.lisp_operators.specs.Kinds.{a_symbol, a_name, a_text, an_integer, a_c
 use Rattle.lisp_operators.specs.Evaluation.{Evaluation, gives}
 use Rattle.lisp_operators.specs.Properties.{t, built, list, get, set, removed, remove, in_turn, symbol_plist, amount, is_in_range, increment, push}
 use Rattle.lisp_operators.specs.Packages.{in_package, made, make, enter, interned, intern, changed, unlocked, export, import, use_all, packages_named, use_package}
-use Rattle.lisp_operators.specs.Readtables.{after, in_readtable, changeable, is_function, a_function, readtable_case, set_case, copy_readtable, enter_readtable, after_first, set_syntax, set_macro, get_macro, make_dispatch, set_dispatch, get_dispatch}
+use Rattle.lisp_operators.specs.Readtables.{value_after, in_readtable, changeable, is_function, a_function, readtable_case, set_case, copy_readtable, enter_readtable, after_first, set_syntax, set_macro, get_macro, make_dispatch, set_dispatch, get_dispatch}
 use Rattle.lisp_operators.specs.ReadBase.{a_base, set_base}
 use Rattle.lisp_operators.proofs.Keeping as keeping
 use Rattle.lisp_operators.proofs.Keeping.{keeps_if, keeps_kind, keeps_option}
-use Rattle.message_laws.specs.Near.{IsTidy}
+use Rattle.message_laws.specs.NearRounds.{IsTidy}
 use Rattle.message_laws.proofs.Tidy.{tidy_put, tidy_removed}
 
 -- tidy lists stay tidy
@@ -134,13 +134,13 @@ use_keeps (x ∷ rest) s =
     keeps_option Kept s (packages_named s.packages ns) _ (Err NO_SUCH_PACKAGE) (λ qs. in_package_keeps s q _ (λ p. use_all_keeps s p qs)) (record { kept = tt })))
 
 -- ---- readtables
-readtables_keep : (s : WorldState) (x : Object) (r : Result Readtables ReadtableError) → Keeps s (after s x (in_state s r))
+readtables_keep : (s : WorldState) (x : Object) (r : Result Readtables ReadtableError) → Keeps s (value_after s x (in_state s r))
 readtables_keep s x (Ok later) = record { kept = λ tidy. tidy }
 readtables_keep s x (Err e) = record { kept = tt }
 
-entered_keeps : (s : WorldState) (n : Name) (x : Object) → Keeps s (after s x (after_in_readtable s n))
+entered_keeps : (s : WorldState) (n : Name) (x : Object) → Keeps s (value_after s x (after_in_readtable s n))
 entered_keeps s n x =
-    elim (finite.contains_key s.readtables n) as (λ b. Keeps s (after s x (cond b (Ok (record s { current_readtable = n })) (Err NoReadtable)))) [
+    elim (finite.contains_key s.readtables n) as (λ b. Keeps s (value_after s x (cond b (Ok (record s { current_readtable = n })) (Err NoReadtable)))) [
       | true ↦ record { kept = λ tidy. tidy }
       | false ↦ record { kept = tt }
     ]

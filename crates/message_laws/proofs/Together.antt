@@ -10,20 +10,20 @@ use Rattle.std.proofs.lemmas.List.{append-nil}
 use Rattle.std.proofs.lemmas.List.Sums.{fold-append}
 use Rattle.lisp_object.specs.Object.{Object, integer}
 use Rattle.plist_state.specs.State.{WorldState}
-use Rattle.plist_state.specs.Sound.{IsSound}
+use Rattle.plist_state.specs.Sound.{IsSoundWorldState}
 use Rattle.messages.specs.declared.request.Request.{Request}
 use Rattle.messages.specs.declared.request.TheConstants.{OLD_NUMBER}
 use Rattle.session_words.specs.declared.mode.Mode.TheVariants.{Current}
 use Rattle.prevalence_store.specs.calls.ExecuteAll.{logged_entries, world_left_after, told_of}
 use Rattle.prevalence_store.specs.meaning.Acceptance.{Acceptance, accepts, after, records_of}
-use Rattle.messages.specs.Answers.{Round, answer_in, answer_to_question, first_round, by_number, cleared, closed, each_request, one_request, refusal_text, with_asked, with_message, with_old, wrote_by}
+use Rattle.messages.specs.Answers.{Round, answer_in, answer_to_question, first_round, by_number, without_its_position, with_its_position, each_request, one_request, refusal_text, with_asked, with_message, with_old, wrote_by}
 use Rattle.messages.specs.Calls.{left_after}
 use Rattle.messages.specs.Position.{number_of_object, position, position_property, position_symbol, with_position, without_position}
 use Rattle.messages.proofs.Positions.{position_out, position_put}
 use Rattle.prevalence_store.proofs.steps.Grouping.{one_replayed}
 use Rattle.user_macros.specs.Functions.{Functions}
 use Rattle.message_laws.specs.Batches.{IsAlike, BatchProgress, all_requests, at_first, in_batches, one_batch}
-use Rattle.message_laws.specs.Near.{IsTidy, Near}
+use Rattle.message_laws.specs.NearRounds.{IsTidy, Near}
 use Rattle.message_laws.proofs.Tidy.{out_of_none, out_twice, sound_tidy, tidy_put, tidy_removed}
 use Rattle.message_laws.proofs.TidyForms.{given_tidy}
 
@@ -53,21 +53,21 @@ absent : (o : Option Object) → is_some o ≡ false → o ≡ None
 absent None none = refl
 absent (Some x) none = absurd (cc)
 
-pub cleared_left : (r : Round) → IsTidy r.left.properties → (cleared r).left ≡ without_position r.left
+pub cleared_left : (r : Round) → IsTidy r.left.properties → (without_its_position r).left ≡ without_position r.left
 cleared_left r tidy =
     left_of (is_some (position_property r.left)) _ r (without_position r.left) refl
     (λ none. sym (out_of_none r.left position_symbol position_symbol tidy (absent (position_property r.left) none)))
 
-cleared_told : (r : Round) → (cleared r).told ≡ r.told
+cleared_told : (r : Round) → (without_its_position r).told ≡ r.told
 cleared_told r = told_of_either (is_some (position_property r.left)) _ r refl
 
-pub cleared_last : (r : Round) → (cleared r).last ≡ r.last
+pub cleared_last : (r : Round) → (without_its_position r).last ≡ r.last
 cleared_last r = last_of (is_some (position_property r.left)) _ r refl
 
-cleared_wrote : (r : Round) → (cleared r).wrote ≡ r.wrote
+cleared_wrote : (r : Round) → (without_its_position r).wrote ≡ r.wrote
 cleared_wrote r = wrote_of (is_some (position_property r.left)) _ r refl
 
-pub cleared_tidy : (r : Round) → IsTidy r.left.properties → IsTidy (cleared r).left.properties
+pub cleared_tidy : (r : Round) → IsTidy r.left.properties → IsTidy (without_its_position r).left.properties
 cleared_tidy r tidy = subst (λ (w : WorldState). IsTidy w.properties) (sym (cleared_left r tidy)) (tidy_out r.left tidy)
 
 -- ---- two rounds
@@ -86,14 +86,14 @@ neither false y none = (refl, none)
 
 module _ (functions : Functions) where
   module _ (a b : Round) (near : Near a b) where
-    ready : (cleared a).left ≡ (cleared b).left
+    ready : (without_its_position a).left ≡ (without_its_position b).left
     ready = cleared_left a near.tidy ∙ near.same ∙ sym (cleared_left b near.other_tidy)
 
     asked_more : (text : List ℕ) → More 1 a b (with_asked functions text a) (with_asked functions text b)
     asked_more text = record {
-      told = (answer_to_question functions (cleared a).left text, false) ∷ [];
+      told = (answer_to_question functions (without_its_position a).left text, false) ∷ [];
       count = refl;
-      here = ap (λ ts. ts ++ (answer_to_question functions (cleared a).left text, false) ∷ []) (cleared_told a);
+      here = ap (λ ts. ts ++ (answer_to_question functions (without_its_position a).left text, false) ∷ []) (cleared_told a);
       there = λ i. cleared_told b i ++ (answer_to_question functions (sym ready i) text, false) ∷ [];
       near = record {
         last = cleared_last a ∙ near.last ∙ sym (cleared_last b);
@@ -111,14 +111,14 @@ module _ (functions : Functions) where
 
     message_more : (number : ℕ) (text : List ℕ) → More 1 a b (with_message functions number text a) (with_message functions number text b)
     message_more number text = record {
-      told = answer_by text (cleared a).left ∷ [];
+      told = answer_by text (without_its_position a).left ∷ [];
       count = refl;
-      here = ap (λ ts. ts ++ answer_by text (cleared a).left ∷ []) (cleared_told a);
+      here = ap (λ ts. ts ++ answer_by text (without_its_position a).left ∷ []) (cleared_told a);
       there = λ i. cleared_told b i ++ answer_by text (sym ready i) ∷ [];
       near = record {
         last = refl;
-        tidy = given_tidy functions (cleared a).left (cleared_tidy a near.tidy) Current text;
-        other_tidy = given_tidy functions (cleared b).left (cleared_tidy b near.other_tidy) Current text;
+        tidy = given_tidy functions (without_its_position a).left (cleared_tidy a near.tidy) Current text;
+        other_tidy = given_tidy functions (without_its_position b).left (cleared_tidy b near.other_tidy) Current text;
         same = λ i. without_position (world_left_after (ready i) (given_by text (ready i)));
       };
     }
@@ -168,14 +168,14 @@ module _ (functions : Functions) where
   nothing_done w (Err number) again none = refl
 
   module _ (w : WorldState) (r : Round) (tidy : IsTidy r.left.properties) (silent : IsSilent w r) where
-    cleared_silent : IsSilent w (cleared r)
+    cleared_silent : IsSilent w (without_its_position r)
     cleared_silent none =
         ap without_position (cleared_left r tidy) ∙ out_twice r.left position_symbol position_symbol tidy ∙ silent (sym (cleared_wrote r) ∙ none)
 
     message_silent : (number : ℕ) (text : List ℕ) → IsSilent w (with_message functions number text r)
     message_silent number text none =
-        let parts = neither (cleared r).wrote (wrote_by (accepts functions (cleared r).left Current text)) none in
-        ap without_position (nothing_done (cleared r).left (accepts functions (cleared r).left Current text) (one_replayed functions Current (cleared r).left text).again parts.1)
+        let parts = neither (without_its_position r).wrote (wrote_by (accepts functions (without_its_position r).left Current text)) none in
+        ap without_position (nothing_done (without_its_position r).left (accepts functions (without_its_position r).left Current text) (one_replayed functions Current (without_its_position r).left text).again parts.1)
         ∙ cleared_silent parts.0
 
     one_silent : (number : Option ℕ) (text : List ℕ) → IsSilent w (by_number functions r number text)
@@ -223,9 +223,9 @@ module _ (functions : Functions) where
   each_least (request ∷ requests) r = omega (arith, one_least request.number request.text.now r, each_least requests (one_request functions r request))
 
   record IsClosed (w : WorldState) (far r : Round) : Type 0 where
-    near : Near far (first_round (closed r).last (left_after (closed r).wrote w (closed r).left))
-    told : (closed r).told ≡ r.told
-    raised : (first_round (closed r).last (left_after (closed r).wrote w (closed r).left)).last ≡ (closed r).last
+    near : Near far (first_round (with_its_position r).last (left_after (with_its_position r).wrote w (with_its_position r).left))
+    told : (with_its_position r).told ≡ r.told
+    raised : (first_round (with_its_position r).last (left_after (with_its_position r).wrote w (with_its_position r).left)).last ≡ (with_its_position r).last
 
   closed_near : (w : WorldState) (last : ℕ) (far r : Round) (wrote : Bool) → r.wrote ≡ wrote → IsTidy w.properties → IsSilent w r → (first_round last w).last ≤ r.last → Near far r → IsClosed w far r
   closed_near w last far r true is tidy silent least near = subst (IsClosed w far) (sym (λ i. record r { wrote = is i })) (record {
@@ -281,7 +281,7 @@ module _ (functions : Functions) where
       (batches_stand batches (each_request functions far batch) (one_batch functions now batch) (one_stands batch far now stands))
 
   -- ---- however they are cut
-  module _ (world : WorldState) (last : ℕ) (sound : IsSound world) where
+  module _ (world : WorldState) (last : ℕ) (sound : IsSoundWorldState world) where
     pub stands : (batches : List (List Request)) → StandsAt (each_request functions (first_round last world) (all_requests batches)) (in_batches functions (at_first last world) batches)
     stands batches = batches_stand batches (first_round last world) (at_first last world) (stands_first last world (sound_tidy world sound))
 

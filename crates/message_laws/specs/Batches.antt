@@ -3,7 +3,7 @@ use Rattle.std.specs.Prelude.{ℕ, ◌≡◌, Bool, List, [], ◌++◌, fold}
 use Rattle.std.specs.List.{flat_map}
 use Rattle.plist_state.specs.State.{WorldState}
 use Rattle.messages.specs.declared.request.Request.{Request}
-use Rattle.messages.specs.Answers.{Round, answered, first_round}
+use Rattle.messages.specs.Answers.{Round, round_after_requests, first_round}
 use Rattle.messages.specs.Calls.{left_after}
 use Rattle.messages.specs.Position.{without_position}
 use Rattle.user_macros.specs.Functions.{Functions}
@@ -23,7 +23,7 @@ abbrev pub with_batch : BatchProgress → Round → BatchProgress
 with_batch far round = record { told = far.told ++ round.told; last = round.last; world = left_after round.wrote far.world round.left }
 
 abbrev pub one_batch : Functions → BatchProgress → List Request → BatchProgress
-one_batch functions far requests = with_batch far (answered functions (first_round far.last far.world) requests)
+one_batch functions far requests = with_batch far (round_after_requests functions (first_round far.last far.world) requests)
 
 abbrev pub in_batches : Functions → BatchProgress → List (List Request) → BatchProgress
 in_batches functions far batches = fold (λ far batch. one_batch functions far batch) far batches

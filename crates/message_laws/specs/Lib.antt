@@ -1,4 +1,4 @@
 -- requests in batches
 pub mod Batches
 -- rounds that are the same to the next requests
-pub mod Near
+pub mod NearRounds

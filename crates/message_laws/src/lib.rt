@@ -1,7 +1,7 @@
 //! The laws of messages over many calls, above the clauses of `answer_requests`. Each is the contract of a function that does nothing:
 //! who calls it has the law in his own proof.
 //!
-//! - `cuts_change_nothing`: in which batches requests are answered changes no answer, and of the world its position alone
+//! - `cuts_change_nothing` (module `cuts`): in which batches requests are answered changes no answer, and of the world its position alone
 //!   (`specs/Batches.antt`)
 //!
 //! Lemmas that crates above use: `Together`, of batches beside one round of all their requests. `Tidy`, `TidyOperators` and `TidyForms` say

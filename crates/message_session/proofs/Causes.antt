@@ -8,10 +8,10 @@ use Rattle.std.proofs.lemmas.List.{append-nil}
 use Rattle.disk_trait.specs.Disk.{State}
 use Rattle.lisp_object.specs.declared.refusal.TheConstants.{LOG_FULL, NO_MEMORY, OUTPUT, SNAPSHOT_TOO_LARGE}
 use Rattle.message_frames.specs.Frames.{AreFrames, Sent, frame_bytes}
-use Rattle.message_laws.specs.Near.{IsTidy, Near}
+use Rattle.message_laws.specs.NearRounds.{IsTidy, Near}
 use Rattle.message_laws.proofs.Together.{near_itself}
 use Rattle.message_session.specs.Answers.{answered_bytes, each_frame}
-use Rattle.message_session.specs.Sessions.{AreCarriedOut, AreFramesAnswered, HasCarriedOut, HasCause, IsFull, IsOutOfMemory, IsUnrenewed, IsUntaken, IsUnwritten, text_limit}
+use Rattle.message_session.specs.Sessions.{AreCarriedOut, AreFramesAnswered, HasCarriedOut, HasCause, HoldsWorldAlone, EndsWithoutMemory, IsUnrenewed, IsUntaken, EndsUnwritten, text_limit}
 use Rattle.message_session.specs.Steps.{AreUntaken, Breaks, BreaksIn, IsFaultAfter, RefusesFirst, ServesFrames}
 use Rattle.message_session.specs.declared.ended.Ended.{Ended}
 use Rattle.message_session.specs.declared.ended.Ended.TheVariants.{End, NoFrame, Fault}
@@ -56,8 +56,8 @@ module _ (functions : Functions) (last : ℕ) (w : WorldState) (tidy : IsTidy w.
       carried_both : AreCarriedOut functions mid_last first.after.left (answered ++ next) new → AreCarriedOut functions last w ((frames ++ answered) ++ next) new
       carried_both carried = (carried.0, subst (λ fs. HasCarriedOut functions last w fs carried.0 new) (sym three) (after_both (answered ++ next) carried.0 new carried.1))
 
-      unwritten_both : (number : ℕ) → IsUnwritten functions mid_last first.after.left state new between written (answered_bytes functions mid_last first.after.left) answered next number
-          → IsUnwritten functions last w state new held written (answered_bytes functions last w) (frames ++ answered) next number
+      unwritten_both : (number : ℕ) → EndsUnwritten functions mid_last first.after.left state new between written (answered_bytes functions mid_last first.after.left) answered next number
+          → EndsUnwritten functions last w state new held written (answered_bytes functions last w) (frames ++ answered) next number
       unwritten_both number c = record {
         output = c.output;
         carried_out = carried_both c.carried_out;
@@ -70,8 +70,8 @@ module _ (functions : Functions) (last : ℕ) (w : WorldState) (tidy : IsTidy w.
         part = c.part;
       }
 
-      memory_both : (number : ℕ) → IsOutOfMemory functions mid_last first.after.left state new between written (answered_bytes functions mid_last first.after.left) answered next number
-          → IsOutOfMemory functions last w state new held written (answered_bytes functions last w) (frames ++ answered) next number
+      memory_both : (number : ℕ) → EndsWithoutMemory functions mid_last first.after.left state new between written (answered_bytes functions mid_last first.after.left) answered next number
+          → EndsWithoutMemory functions last w state new held written (answered_bytes functions last w) (frames ++ answered) next number
       memory_both number c = record { memory = c.memory; carried_out = carried_both c.carried_out; output = write_both answered written c.output }
 
       untaken_both : (number : ℕ) → IsUntaken functions mid_last first.after.left state new between written (answered_bytes functions mid_last first.after.left) answered next number
@@ -176,7 +176,7 @@ module _ (functions : Functions) (last : ℕ) (w : WorldState) (tidy : IsTidy w.
 
   -- the store did not take the first of them
   module _ (old new : StoreView D R) (known : old.world ≡ Some w) (held written : Option (List ℕ)) (quiet : written ≡ held) (frames : List Sent) (number : ℕ) where
-    pub breaks_untaken : (number ≡ LOG_FULL → IsFull old w frames) → new ≡ old → AreUntaken functions last w state old frames number → Breaks functions last w state new held written frames (Fault number)
+    pub breaks_untaken : (number ≡ LOG_FULL → HoldsWorldAlone old w frames) → new ≡ old → AreUntaken functions last w state old frames number → Breaks functions last w state new held written frames (Fault number)
     breaks_untaken full same (inl memory) =
         subst (λ n. Breaks functions last w state new held written frames (Fault n)) (sym memory)
         (breaks_first new held written frames (ap (λ (s : StoreView D R). s.world) same ∙ known) quiet)

@@ -4,7 +4,7 @@ use Rattle.std.specs.List.{AllByRecursion, flat_map}
 use Rattle.std.proofs.lemmas.Grind.{flat_map-append}
 use Rattle.disk_trait.specs.Disk.{State}
 use Rattle.message_frames.specs.Frames.{AreFrames, IsFrame, Sent, frame_bytes}
-use Rattle.message_laws.specs.Near.{IsTidy}
+use Rattle.message_laws.specs.NearRounds.{IsTidy}
 use Rattle.message_session.specs.Answers.{answered_bytes}
 use Rattle.message_session.specs.Sessions.{AreFramesAnswered, text_limit}
 use Rattle.message_session.specs.Steps.{ServesFrames}

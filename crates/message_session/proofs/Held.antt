@@ -3,7 +3,7 @@ use Rattle.std.proofs.Common.{◌≡◌, ◌≢◌, ℕ, ◌<◌, ◌≤◌, Lis
 use Rattle.std.specs.Fmt.{decimal}
 use Rattle.std.specs.List.{flat_map}
 use Rattle.message_frames.specs.Frames.{Sent, frame_bytes, frame_head, sent, sized}
-use Rattle.message_frames.specs.Held as held
+use Rattle.message_frames.specs.WholeFrames as held
 use Rattle.message_frames.specs.declared.frame.MessageFrame.{MessageFrame}
 use Rattle.message_frames.specs.declared.held.Next.{Next}
 use Rattle.message_frames.specs.declared.held.Next.TheVariants as next

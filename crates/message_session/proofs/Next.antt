@@ -9,9 +9,9 @@ use Rattle.std.specs.List.{flat_map}
 use Rattle.std.specs.Option.{option_map}
 use Rattle.std.proofs.lemmas.List.{append-nil, take-append-drop}
 use Rattle.message_frames.specs.Frames.{AreFrames, Sent, frame_bytes}
-use Rattle.message_session.specs.Account.{Account, AreNext, with_frames}
+use Rattle.message_session.specs.Account.{MessageAccount, AreNext, with_frames}
 use Rattle.message_session.specs.Sessions.{text_limit}
-use Rattle.message_session.specs.Standing.{AnswersFirstOf, AnswersMore, ComeNext, ComesNext, IsNext, IsReadIn}
+use Rattle.message_session.specs.Standing.{AnswersFirstOf, AnswersMore, ComeNext, ComesNext, IsNextInInput, IsReadIn}
 use Rattle.message_session.specs.Steps.{TakesPiece}
 use Rattle.message_session.proofs.Frames.{frames_both, frames_fed, frames_first, no_frames}
 use Rattle.message_session.proofs.Streams.{read_both}
@@ -37,7 +37,7 @@ whole_of (Some xs) (Some ys) read reads = (ys, λ told is. sym reads ∙ (let sa
 module _ {D : Type 0} where
   -- ---- the next frames
 
-  pub next_first : (account : Account D) (xs ys : List Sent) → AreNext account (xs ++ ys) → AreNext account xs
+  pub next_first : (account : MessageAccount D) (xs ys : List Sent) → AreNext account (xs ++ ys) → AreNext account xs
   next_first account xs ys next = record {
     all = next.all;
     of_input = next.of_input;
@@ -45,10 +45,10 @@ module _ {D : Type 0} where
     parts = frames_first (account.answered ++ xs) ys next.all next.rest (subst (λ fs. AreFrames text_limit fs next.rest next.all) (sym (append_assoc account.answered xs ys)) next.parts);
   }
 
-  pub next_taken : (account : Account D) (frames : List Sent) (n : ℕ) → AreNext account frames → AreNext account (take n frames)
+  pub next_taken : (account : MessageAccount D) (frames : List Sent) (n : ℕ) → AreNext account frames → AreNext account (take n frames)
   next_taken account frames n next = next_first account (take n frames) (drop n frames) (subst (AreNext account) (sym (take-append-drop n frames)) next)
 
-  pub next_after : (account later : Account D) (xs ys : List Sent) → later.input ≡ account.input → later.answered ≡ account.answered ++ xs → AreNext account (xs ++ ys) → AreNext later ys
+  pub next_after : (account later : MessageAccount D) (xs ys : List Sent) → later.input ≡ account.input → later.answered ≡ account.answered ++ xs → AreNext account (xs ++ ys) → AreNext later ys
   next_after account later xs ys input answered next = record {
     all = next.all;
     of_input = λ told is. next.of_input told (sym input ∙ is);
@@ -56,11 +56,11 @@ module _ {D : Type 0} where
     parts = subst (λ fs. AreFrames text_limit fs next.rest next.all) (sym (append_assoc account.answered xs ys) ∙ ap (λ fs. fs ++ ys) (sym answered)) next.parts;
   }
 
-  pub next_none : (account later : Account D) (xs : List Sent) → later.input ≡ account.input → later.answered ≡ account.answered ++ xs → AreNext account xs → AreNext later []
+  pub next_none : (account later : MessageAccount D) (xs : List Sent) → later.input ≡ account.input → later.answered ≡ account.answered ++ xs → AreNext account xs → AreNext later []
   next_none account later xs input answered next = next_after account later xs [] input answered (subst (AreNext account) (sym (append-nil xs)) next)
 
   -- before the first
-  pub next_begun : (account : Account D) → account.answered ≡ [] → AreNext account []
+  pub next_begun : (account : MessageAccount D) → account.answered ≡ [] → AreNext account []
   next_begun account none = record {
     all = unwrap_or account.input [];
     of_input = λ told is. ap (λ o. unwrap_or o []) is;
@@ -70,7 +70,7 @@ module _ {D : Type 0} where
 
   -- ---- the next bytes
 
-  pub next_of_bytes : (account : Account D) (bytes : List ℕ) (frames : List Sent) (rest : List ℕ) → IsNext account bytes → AreFrames text_limit frames rest bytes → AreNext account frames
+  pub next_of_bytes : (account : MessageAccount D) (bytes : List ℕ) (frames : List Sent) (rest : List ℕ) → IsNextInInput account bytes → AreFrames text_limit frames rest bytes → AreNext account frames
   next_of_bytes account bytes frames rest next parts = record {
     all = next.all;
     of_input = next.of_input;
@@ -78,7 +78,7 @@ module _ {D : Type 0} where
     parts = frames_both account.answered frames next.all (bytes ++ next.rest) (rest ++ next.rest) next.parts (frames_fed frames bytes rest next.rest parts);
   }
 
-  pub bytes_after : (old new : Option (Account D)) (bytes rest : List ℕ) → ComesNext old bytes → AnswersFirstOf old new bytes rest → ComesNext new rest
+  pub bytes_after : (old new : Option (MessageAccount D)) (bytes rest : List ℕ) → ComesNext old bytes → AnswersFirstOf old new bytes rest → ComesNext new rest
   bytes_after old new bytes rest comes first later is =
       let more = first.2 later is in
       let next = comes more.0 more.1 in
@@ -92,20 +92,20 @@ module _ {D : Type 0} where
 
   -- ---- what was read so far
 
-  pub read_begun : (account : Account D) (remaining : Option (List ℕ)) → account.answered ≡ [] → ((all : List ℕ) → account.input ≡ Some all → remaining ≡ Some all)
+  pub read_begun : (account : MessageAccount D) (remaining : Option (List ℕ)) → account.answered ≡ [] → ((all : List ℕ) → account.input ≡ Some all → remaining ≡ Some all)
       → (read : List ℕ) × Consumes account.input remaining read × AreFrames text_limit account.answered [] read
   read_begun account remaining none told =
       ([], begins_unread account.input remaining told, subst (λ fs. AreFrames text_limit fs [] []) (sym none) (no_frames []))
 
-  pub read_fed : (told : Option (Account D)) (left less : Option (List ℕ)) (bytes piece : List ℕ) → Consumes left less piece → IsReadIn told left bytes → IsReadIn told less (bytes ++ piece)
+  pub read_fed : (told : Option (MessageAccount D)) (left less : Option (List ℕ)) (bytes piece : List ℕ) → Consumes left less piece → IsReadIn told left bytes → IsReadIn told less (bytes ++ piece)
   read_fed told left less bytes piece reads before account is =
       let far = before account is in
       (far.0 ++ piece, read_both account.input left less far.0 piece far.1 reads, frames_fed account.answered far.0 bytes piece far.2)
 
-  pub piece_read : (told : Option (Account D)) (left less : Option (List ℕ)) (old new : List ℕ) (count : ℕ) → TakesPiece left less old new (Ok count) → IsReadIn told left old → IsReadIn told less new
+  pub piece_read : (told : Option (MessageAccount D)) (left less : Option (List ℕ)) (old new : List ℕ) (count : ℕ) → TakesPiece left less old new (Ok count) → IsReadIn told left old → IsReadIn told less new
   piece_read told left less old new count takes before = subst (IsReadIn told less) (sym takes.2) (read_fed told left less old takes.0 takes.1 before)
 
-  pub read_on : (old new : Option (Account D)) (left : Option (List ℕ)) (bytes rest : List ℕ) → IsReadIn old left bytes → AnswersFirstOf old new bytes rest → IsReadIn new left rest
+  pub read_on : (old new : Option (MessageAccount D)) (left : Option (List ℕ)) (bytes rest : List ℕ) → IsReadIn old left bytes → AnswersFirstOf old new bytes rest → IsReadIn new left rest
   read_on old new left bytes rest before first later is =
       let more = first.2 later is in
       let far = before more.0 more.1 in (
@@ -114,7 +114,7 @@ module _ {D : Type 0} where
         subst (λ fs. AreFrames text_limit fs rest far.0) (sym more.3) (frames_both more.0.answered first.0 far.0 bytes rest far.2 first.1),
       )
 
-  pub read_next : (told : Option (Account D)) (left : Option (List ℕ)) (bytes : List ℕ) → IsReadIn told left bytes → ComesNext told bytes
+  pub read_next : (told : Option (MessageAccount D)) (left : Option (List ℕ)) (bytes : List ℕ) → IsReadIn told left bytes → ComesNext told bytes
   read_next told left bytes before account is =
       let far = before account is in
       let whole = whole_of account.input left far.0 far.1 in
@@ -127,35 +127,35 @@ module _ {D : Type 0} where
 
   -- ---- what was answered since
 
-  pub more_none : (told : Option (Account D)) → AnswersMore told told []
+  pub more_none : (told : Option (MessageAccount D)) → AnswersMore told told []
   more_none told later is = (later, is, refl, sym (append-nil later.answered))
 
-  pub more_both : (old mid new : Option (Account D)) (xs ys : List Sent) → AnswersMore old mid xs → AnswersMore mid new ys → AnswersMore old new (xs ++ ys)
+  pub more_both : (old mid new : Option (MessageAccount D)) (xs ys : List Sent) → AnswersMore old mid xs → AnswersMore mid new ys → AnswersMore old new (xs ++ ys)
   more_both old mid new xs ys first second later is =
       let two = second later is in
       let one = first two.0 two.1 in
       (one.0, one.1, two.2 ∙ one.2, two.3 ∙ ap (λ fs. fs ++ ys) one.3 ∙ append_assoc one.0.answered xs ys)
 
   -- bytes, one after the other
-  pub first_none : (told : Option (Account D)) (bytes : List ℕ) → AnswersFirstOf told told bytes bytes
+  pub first_none : (told : Option (MessageAccount D)) (bytes : List ℕ) → AnswersFirstOf told told bytes bytes
   first_none told bytes = ([], no_frames bytes, more_none told)
 
-  pub first_both : (old mid new : Option (Account D)) (bytes between rest : List ℕ) → AnswersFirstOf old mid bytes between → AnswersFirstOf mid new between rest → AnswersFirstOf old new bytes rest
+  pub first_both : (old mid new : Option (MessageAccount D)) (bytes between rest : List ℕ) → AnswersFirstOf old mid bytes between → AnswersFirstOf mid new between rest → AnswersFirstOf old new bytes rest
   first_both old mid new bytes between rest first second =
       (first.0 ++ second.0, frames_both first.0 second.0 bytes between rest first.1 second.1, more_both old mid new first.0 second.0 first.2 second.2)
 
-  pub come_first : (told : Option (Account D)) (xs ys : List Sent) → ComeNext told (xs ++ ys) → ComeNext told xs
+  pub come_first : (told : Option (MessageAccount D)) (xs ys : List Sent) → ComeNext told (xs ++ ys) → ComeNext told xs
   come_first told xs ys come account is = next_first account xs ys (come account is)
 
   -- those after them come next
-  pub come_after : (old new : Option (Account D)) (xs ys : List Sent) → ComeNext old (xs ++ ys) → AnswersMore old new xs → ComeNext new ys
+  pub come_after : (old new : Option (MessageAccount D)) (xs ys : List Sent) → ComeNext old (xs ++ ys) → AnswersMore old new xs → ComeNext new ys
   come_after old new xs ys come more later is =
       let one = more later is in
       next_after one.0 later xs ys one.2 one.3 (come one.0 one.1)
 
 -- the answers to frames were handed on
-pub more_handed : (functions : Functions) {D R : Type 0} (told now : Option (Account D)) (frames : List Sent) (store : StoreView D R)
-    → ((later : Account D) → now ≡ Some later → option_map (with_frames functions frames store) told ≡ Some later) → AnswersMore told now frames
+pub more_handed : (functions : Functions) {D R : Type 0} (told now : Option (MessageAccount D)) (frames : List Sent) (store : StoreView D R)
+    → ((later : MessageAccount D) → now ≡ Some later → option_map (with_frames functions frames store) told ≡ Some later) → AnswersMore told now frames
 more_handed functions told now frames store kept later is =
     let before = kept_before (with_frames functions frames store) told later (kept later is) in
-    (before.0, before.1, ap (λ (a : Account _). a.input) (sym before.2), ap (λ (a : Account _). a.answered) (sym before.2))
+    (before.0, before.1, ap (λ (a : MessageAccount _). a.input) (sym before.2), ap (λ (a : MessageAccount _). a.answered) (sym before.2))

@@ -7,7 +7,7 @@ use Rattle.disk_trait.specs.Disk.{State}
 use Rattle.lisp_object.specs.declared.refusal.TheConstants.{INPUT, NO_MEMORY}
 use Rattle.message_frames.specs.Frames.{AreFrames, IsBegunFrame, IsMalformed, Sent, frame_bytes}
 use Rattle.message_frames.specs.declared.frame.Kind.TheVariants.{Ask}
-use Rattle.message_laws.specs.Near.{IsTidy}
+use Rattle.message_laws.specs.NearRounds.{IsTidy}
 use Rattle.message_session.specs.Answers.{answered_bytes}
 use Rattle.message_session.specs.Sessions.{AreCarriedOut, EndsBy, text_limit}
 use Rattle.message_session.specs.Steps.{AnswersAllHeld, AnswersFramesOfInput, BreaksIn, PassesFrames, ServesFrames, TakesPiece}

@@ -9,20 +9,20 @@ use Rattle.std.proofs.lemmas.List.{length-map, take-append-drop, take-map}
 use Rattle.disk_trait.specs.Disk.{State}
 use Rattle.message_frames.specs.Frames.{Sent, answer_bytes}
 use Rattle.message_laws.specs.Batches.{at_first, with_batch}
-use Rattle.message_laws.specs.Near.{Near}
+use Rattle.message_laws.specs.NearRounds.{Near}
 use Rattle.message_laws.proofs.Together.{StandsAt, one_stands, stands_first}
 use Rattle.message_laws.proofs.Tidy.{sound_tidy}
 use Rattle.message_session.specs.Answers.{AskAlike, answered_bytes, answers_to, each_frame, parts_of_frame, parts_of_request}
 use Rattle.message_session.specs.Sessions.{HasCarriedOut}
 use Rattle.message_session.specs.Steps.{AreUntaken}
 use Rattle.message_session.proofs.Rounds.{same_rounds}
-use Rattle.plist_state.specs.Sound.{IsSound}
+use Rattle.plist_state.specs.Sound.{IsSoundWorldState}
 use Rattle.plist_state.specs.State.{WorldState}
 use Rattle.prevalence_store.specs.calls.Store.{StoreView}
 use Rattle.messages.specs.declared.request.Replies.{Replies}
 use Rattle.messages.specs.declared.request.Request.{Request}
-use Rattle.messages.specs.Answers.{Round, answered, first_round, each_request}
-use Rattle.messages.specs.Calls.{AnswersRequests, AreAnswered, left_after}
+use Rattle.messages.specs.Answers.{Round, round_after_requests, first_round, each_request}
+use Rattle.messages.specs.Calls.{AnswersRequests, AreAnsweredAndLogged, left_after}
 use Rattle.messages.specs.declared.request.TheConstants.{ANSWER_BYTES}
 use Rattle.messages.specs.Fronts.{AnswersFirst, answer_length}
 use Rattle.messages.specs.Rounds.{told_in}
@@ -51,13 +51,13 @@ of_first functions state old new w last frames requests replies count is alike f
 )
 
 module _ (functions : Functions) {D R : Type 0} (state : D → State) (old new : StoreView D R) (w : WorldState) (last : ℕ) where
-  module _ (sound : IsSound w) (frames : List Sent) (requests : List Request) (same : AskAlike requests frames)
-      (replies : Replies) (given : AreAnswered functions state old new w (answered functions (first_round last w) requests) replies) where
-    stands : StandsAt functions (each_request functions (first_round last w) requests) (with_batch (at_first last w) (answered functions (first_round last w) requests))
+  module _ (sound : IsSoundWorldState w) (frames : List Sent) (requests : List Request) (same : AskAlike requests frames)
+      (replies : Replies) (given : AreAnsweredAndLogged functions state old new w (round_after_requests functions (first_round last w) requests) replies) where
+    stands : StandsAt functions (each_request functions (first_round last w) requests) (with_batch (at_first last w) (round_after_requests functions (first_round last w) requests))
     stands =
         let first = stands_first functions last w (sound_tidy w sound) in
         let again : first_round (first_round last w).last w ≡ first_round last w = λ i. record { told = []; last = first.raised i; left = w; entries = []; wrote = false } in
-        subst (λ (b : Round). StandsAt functions (each_request functions (first_round last w) requests) (with_batch (at_first last w) (answered functions b requests))) again
+        subst (λ (b : Round). StandsAt functions (each_request functions (first_round last w) requests) (with_batch (at_first last w) (round_after_requests functions b requests))) again
         (one_stands functions requests (first_round last w) (at_first last w) first)
 
     rounds : each_request functions (first_round last w) requests ≡ each_frame functions (first_round last w) frames
@@ -69,10 +69,10 @@ module _ (functions : Functions) {D R : Type 0} (state : D → State) (old new :
 
     pub carried_out : HasCarriedOut functions last w frames replies.last new
     carried_out = record {
-      left = left_after (answered functions (first_round last w) requests).wrote w (answered functions (first_round last w) requests).left;
+      left = left_after (round_after_requests functions (first_round last w) requests).wrote w (round_after_requests functions (first_round last w) requests).left;
       known = given.logs.left;
-      near = subst (λ (r : Round). Near r (first_round replies.last (left_after (answered functions (first_round last w) requests).wrote w (answered functions (first_round last w) requests).left))) rounds
-          (subst (λ n. Near (each_request functions (first_round last w) requests) (first_round n (left_after (answered functions (first_round last w) requests).wrote w (answered functions (first_round last w) requests).left)))
+      near = subst (λ (r : Round). Near r (first_round replies.last (left_after (round_after_requests functions (first_round last w) requests).wrote w (round_after_requests functions (first_round last w) requests).left))) rounds
+          (subst (λ n. Near (each_request functions (first_round last w) requests) (first_round n (left_after (round_after_requests functions (first_round last w) requests).wrote w (round_after_requests functions (first_round last w) requests).left)))
           (sym given.last) stands.near);
     }
 

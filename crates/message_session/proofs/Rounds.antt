@@ -9,7 +9,7 @@ use Rattle.std.proofs.lemmas.Grind.{flat_map-append}
 use Rattle.std.proofs.lemmas.List.{append-nil}
 use Rattle.std.proofs.lemmas.List.Sums.{fold-append}
 use Rattle.message_frames.specs.Frames.{Sent, answer_bytes}
-use Rattle.message_laws.specs.Near.{IsTidy, Near}
+use Rattle.message_laws.specs.NearRounds.{IsTidy, Near}
 use Rattle.message_laws.proofs.Together.{More, near_itself, near_on, one_near}
 use Rattle.message_session.specs.Answers.{answered_bytes, answers_to, each_frame, message_number, one_frame, parts_of_frame, parts_of_request}
 use Rattle.message_session.specs.Sessions.{HasCarriedOut}

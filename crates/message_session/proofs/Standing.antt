@@ -2,15 +2,15 @@
 use Rattle.std.proofs.Common.{◌≡◌, ◌≢◌, ◌⊎◌, ℕ, ◌+◌, ◌<◌, Bool, true, false, List, [], length, Option, Some, IsTrue, take, Result, Ok, Err, inl, inr, refl, sym, ap, subst, ◌∙◌, arith}
 use Rattle.std.specs.Option.{option_map}
 use Rattle.std.specs.Prelude.{unwrap_or}
-use Rattle.disk_trait.specs.Disk.{Image, State, IsHonest, IsSound, Throughout}
+use Rattle.disk_trait.specs.Disk.{Image, State, IsHonest, IsSoundDisk, Throughout}
 use Rattle.disk_trait.specs.Moments.{joined, weaker}
 use Rattle.gate_log.specs.Layout.{LogRecord}
 use Rattle.lisp_object.specs.declared.refusal.TheConstants.{DEVICE, SNAPSHOT_TOO_LARGE}
 use Rattle.message_frames.specs.Frames.{Sent}
-use Rattle.message_session.specs.Account.{Account, AreLogged, AreNext, AreStored, AreUnderWay, first_message_account, round_after, with_frames}
+use Rattle.message_session.specs.Account.{MessageAccount, FramesAreLogged, AreNext, AnswersAreStored, FramesAreUnderWay, first_message_account, round_after, with_frames}
 use Rattle.message_session.specs.Answers.{AskAlike, answered_bytes, each_frame}
-use Rattle.message_session.specs.Standing.{AcknowledgesNone, ComeNext, IsAtRest, Rests, RestsOrStops}
-use Rattle.message_session.specs.Steps.{RenewsIfDue, StopsAfter}
+use Rattle.message_session.specs.Standing.{AcknowledgesNoFrame, ComeNext, HasLoggedNothing, RestsAt, RestsOrStops}
+use Rattle.message_session.specs.Steps.{RenewsWhereDue, StopsAfter}
 use Rattle.message_session.specs.declared.answer.Stop.{Stop}
 use Rattle.message_session.specs.declared.answer.Stop.TheVariants as stop
 use Rattle.message_session.specs.declared.ended.Ended.{Ended}
@@ -29,8 +29,8 @@ use Rattle.prevalence_store.specs.declared.outcome.Outcome.{Outcome}
 use Rattle.prevalence_store.specs.declared.outcome.Outcome.TheVariants.{Accepted, Snapshotted, Refused}
 use Rattle.prevalence_store.specs.meaning.Acceptance.{after}
 use Rattle.prevalence_store.specs.meaning.Files.{MeansWorld}
-use Rattle.messages.specs.Answers.{Round, answered, first_round, closed}
-use Rattle.messages.specs.Calls.{AnswersRequests, AreAnswered, Fail, entries_by, left_after}
+use Rattle.messages.specs.Answers.{Round, round_after_requests, first_round, with_its_position}
+use Rattle.messages.specs.Calls.{AnswersRequests, AreAnsweredAndLogged, FailOnDevice, entries_by, left_after}
 use Rattle.messages.specs.Fronts.{AnswersFirst}
 use Rattle.messages.proofs.Settling.{unchanged_or_failed}
 use Rattle.prevalence_store.proofs.Surviving.{both_survive, fewer_survive, none_taken}
@@ -66,7 +66,7 @@ snapshot_survives functions state old new w (Refused number) (inr (inl fault)) =
 snapshot_survives functions state old new w (Refused number) (inr (inr memory)) = memory.survives
 
 -- one that was due
-pub due_survives : (functions : Functions) {D R : Type 0} (state : D → State) (old new : StoreView D R) (w : WorldState) (result : Result Unit Ended) → RenewsIfDue functions state old new w result
+pub due_survives : (functions : Functions) {D R : Type 0} (state : D → State) (old new : StoreView D R) (w : WorldState) (result : Result Unit Ended) → RenewsWhereDue functions state old new w result
     → SurvivesAs functions state old new w [] 0
 due_survives functions state old new w (Ok done) renews = renews.1
 due_survives functions state old new w (Err ended) refused = snapshot_survives functions state old new w (Refused refused.0) refused.3
@@ -78,10 +78,10 @@ large_keeps functions {D} {R} state old new w number large (inl none) known = ap
 large_keeps functions {D} {R} state old new w number large (inr (inl fault)) known = absurd (omega (arith, large, fault.device))
 large_keeps functions {D} {R} state old new w number large (inr (inr memory)) known = ap (λ (s : StoreView D R). s.world) memory.unchanged ∙ known
 
-module _ (functions : Functions) {D R : Type 0} (state : D → State) (sound : (d : D) → IsHonest (state d) → IsSound (state d)) where
+module _ (functions : Functions) {D R : Type 0} (state : D → State) (sound : (d : D) → IsHonest (state d) → IsSoundDisk (state d)) where
   -- ---- a call after it rested
 
-  module _ (account : Account D) (old new : StoreView D R) (last : ℕ) (w : WorldState) (known : old.world ≡ Some w) (rest : IsAtRest functions state account old last w) (taken : List LogRecord) where
+  module _ (account : MessageAccount D) (old new : StoreView D R) (last : ℕ) (w : WorldState) (known : old.world ≡ Some w) (rest : HasLoggedNothing functions state account old last w) (taken : List LogRecord) where
     survive_since : (n : ℕ) → SurvivesAs functions state old new w taken n → IsHonest (state account.disk) → Survives functions (state account.disk) (state new.disk) w taken n new.world
     survive_since n survives honest =
         let before = rest.since honest in
@@ -98,7 +98,7 @@ module _ (functions : Functions) {D R : Type 0} (state : D → State) (sound : (
         (weaker (state account.disk) (state old.disk) (MeansSome functions w [] 0) P before.any_moment (means_before functions w taken))
         (all_or_none known (subst IsTrue (sym before.honest) honest) (before.kept w refl)) (λ i is. is)
 
-    logged_since : (n : ℕ) → SurvivesAs functions state old new w taken n → AllOrNone functions state old new w taken → AreLogged functions state account new taken n
+    logged_since : (n : ℕ) → SurvivesAs functions state old new w taken n → AllOrNone functions state old new w taken → FramesAreLogged functions state account new taken n
     logged_since n survives all_or_none = record {
       survives = λ honest. subst (λ v. Survives functions (state account.disk) (state new.disk) v taken n new.world) (sym rest.now) (survive_since n survives honest);
       all_or_none = λ honest. subst (λ v. Throughout (state account.disk) (state new.disk) (MeansAllOrNone functions v taken)) (sym rest.now) (none_between all_or_none honest);
@@ -111,8 +111,8 @@ module _ (functions : Functions) {D R : Type 0} (state : D → State) (sound : (
       weaker (state old.disk) (state new.disk) (MeansSome functions w [] 0) (MeansAllOrNone functions w []) (survives known honest keeps).any_moment (means_before functions w [])
 
   -- a call that took nothing
-  pub rests_further : (told : Option (Account D)) (mid new : StoreView D R) (last : ℕ) → Rests functions state told mid last → ((w : WorldState) → mid.world ≡ Some w → new.world ≡ Some w)
-      → ((w : WorldState) → mid.world ≡ Some w → SurvivesAs functions state mid new w [] 0) → Rests functions state told new last
+  pub rests_further : (told : Option (MessageAccount D)) (mid new : StoreView D R) (last : ℕ) → RestsAt functions state told mid last → ((w : WorldState) → mid.world ≡ Some w → new.world ≡ Some w)
+      → ((w : WorldState) → mid.world ≡ Some w → SurvivesAs functions state mid new w [] 0) → RestsAt functions state told new last
   rests_further told mid new last rests same survives account is =
       let far = rests account is in (
         far.0,
@@ -127,13 +127,13 @@ module _ (functions : Functions) {D R : Type 0} (state : D → State) (sound : (
         },
       )
 
-  pub none_further : (told : Option (Account D)) (mid new : StoreView D R) (last : ℕ) → Rests functions state told mid last → ((w : WorldState) → mid.world ≡ Some w → SurvivesAs functions state mid new w [] 0)
-      → AcknowledgesNone functions state told new
+  pub none_further : (told : Option (MessageAccount D)) (mid new : StoreView D R) (last : ℕ) → RestsAt functions state told mid last → ((w : WorldState) → mid.world ≡ Some w → SurvivesAs functions state mid new w [] 0)
+      → AcknowledgesNoFrame functions state told new
   none_further told mid new last rests survives account is =
       let far = rests account is in
       record { frames = []; next = far.2.of_input; logged = logged_since account mid new last far.0 far.1 far.2 [] 0 (survives far.0 far.1) (none_by mid new far.0 (survives far.0 far.1)); made = λ _. refl }
 
-  pub none_at_rest : (told : Option (Account D)) (store : StoreView D R) (last : ℕ) → Rests functions state told store last → AcknowledgesNone functions state told store
+  pub none_at_rest : (told : Option (MessageAccount D)) (store : StoreView D R) (last : ℕ) → RestsAt functions state told store last → AcknowledgesNoFrame functions state told store
   none_at_rest told store last rests account is =
       let far = rests account is in
       record {
@@ -150,61 +150,61 @@ module _ (functions : Functions) {D R : Type 0} (state : D → State) (sound : (
       }
 
   -- a session that does not go on after frames that were tried
-  pub stops_end : (told : Option (Account D)) (store : StoreView D R) (last : ℕ) (why : Stop) → RestsOrStops functions state told store last (Err why) → AcknowledgesNone functions state told store
+  pub stops_end : (told : Option (MessageAccount D)) (store : StoreView D R) (last : ℕ) (why : Stop) → RestsOrStops functions state told store last (Err why) → AcknowledgesNoFrame functions state told store
   stops_end told store last (stop.Untaken number) rests = none_at_rest told store last rests
   stops_end told store last (stop.Ended ended) none = none
 
   -- frames that the store did not take
-  pub untaken_rests : (told : Option (Account D)) (store : StoreView D R) (last : ℕ) (why : Stop) (number : ℕ) → why ≡ stop.Untaken number → RestsOrStops functions state told store last (Err why) → Rests functions state told store last
+  pub untaken_rests : (told : Option (MessageAccount D)) (store : StoreView D R) (last : ℕ) (why : Stop) (number : ℕ) → why ≡ stop.Untaken number → RestsOrStops functions state told store last (Err why) → RestsAt functions state told store last
   untaken_rests told store last why number is rests = subst (λ w. RestsOrStops functions state told store last (Err w)) is rests
 
   -- ---- requests that frames are
 
-  round_is : (old : StoreView D R) (last : ℕ) (frames : List Sent) (requests : List Request) → AskAlike requests frames → (account : Account D) (w : WorldState)
-      → IsAtRest functions state account old last w → answered functions (first_round last w) requests ≡ round_after functions account frames
+  round_is : (old : StoreView D R) (last : ℕ) (frames : List Sent) (requests : List Request) → AskAlike requests frames → (account : MessageAccount D) (w : WorldState)
+      → HasLoggedNothing functions state account old last w → round_after_requests functions (first_round last w) requests ≡ round_after functions account frames
   round_is old last frames requests alike account w rest =
-      ap closed (same_rounds functions requests frames (first_round last w) alike) ∙ (λ i. closed (each_frame functions (first_round (sym rest.last_is i) (sym rest.now i)) frames))
+      ap with_its_position (same_rounds functions requests frames (first_round last w) alike) ∙ (λ i. with_its_position (each_frame functions (first_round (sym rest.last_is i) (sym rest.now i)) frames))
 
   -- they are under way
-  under_way : (old new : StoreView D R) (last : ℕ) (frames : List Sent) (requests : List Request) → AskAlike requests frames → (account : Account D) → AreNext account frames
-      → (w : WorldState) → old.world ≡ Some w → IsAtRest functions state account old last w
-      → SurvivesAs functions state old new w (entries_by (answered functions (first_round last w) requests).wrote (answered functions (first_round last w) requests).entries) 0
-      → AllOrNone functions state old new w (entries_by (answered functions (first_round last w) requests).wrote (answered functions (first_round last w) requests).entries)
-      → (IsHonest (state account.disk) → IsMadeBy functions w (answered functions (first_round last w) requests)) → AreUnderWay functions state account new
+  under_way : (old new : StoreView D R) (last : ℕ) (frames : List Sent) (requests : List Request) → AskAlike requests frames → (account : MessageAccount D) → AreNext account frames
+      → (w : WorldState) → old.world ≡ Some w → HasLoggedNothing functions state account old last w
+      → SurvivesAs functions state old new w (entries_by (round_after_requests functions (first_round last w) requests).wrote (round_after_requests functions (first_round last w) requests).entries) 0
+      → AllOrNone functions state old new w (entries_by (round_after_requests functions (first_round last w) requests).wrote (round_after_requests functions (first_round last w) requests).entries)
+      → (IsHonest (state account.disk) → IsMadeBy functions w (round_after_requests functions (first_round last w) requests)) → FramesAreUnderWay functions state account new
   under_way old new last frames requests alike account next w known rest survives all_or_none made =
-      let round = answered functions (first_round last w) requests in
+      let round = round_after_requests functions (first_round last w) requests in
       record {
         frames = frames;
         next = next;
-        logged = subst (λ (r : Round). AreLogged functions state account new (entries_by r.wrote r.entries) 0) (round_is old last frames requests alike account w rest)
+        logged = subst (λ (r : Round). FramesAreLogged functions state account new (entries_by r.wrote r.entries) 0) (round_is old last frames requests alike account w rest)
             (logged_since account old new last w known rest (entries_by round.wrote round.entries) 0 survives all_or_none);
         made = λ honest. subst (λ v. IsMadeBy functions v (round_after functions account frames)) (sym rest.now) (subst (IsMadeBy functions w) (round_is old last frames requests alike account w rest) (made honest));
       }
 
-  module _ (told : Option (Account D)) (old new : StoreView D R) (last : ℕ) (rests : Rests functions state told old last) where
+  module _ (told : Option (MessageAccount D)) (old new : StoreView D R) (last : ℕ) (rests : RestsAt functions state told old last) where
     -- the first of the frames were not answered
     module _ (frames : List Sent) (come : ComeNext told frames) (requests : List Request) (alike : AskAlike requests frames) (number : ℕ)
         (answers : (w : WorldState) → old.world ≡ Some w → AnswersFirst functions state old new w last requests (Err number)) where
-      none_of_requests : AcknowledgesNone functions state told new
+      none_of_requests : AcknowledgesNoFrame functions state told new
       none_of_requests account is = by (unchanged_or_failed functions state old new far.0 last first.front number first.answers) where
-        far : (world : WorldState) × (old.world ≡ Some world) × IsAtRest functions state account old last world
+        far : (world : WorldState) × (old.world ≡ Some world) × HasLoggedNothing functions state account old last world
         far = rests account is
 
         first : AnswersFirst functions state old new far.0 last requests (Err number)
         first = answers far.0 far.1
 
-        by : (new ≡ old) ⊎ Fail functions state old new far.0 (answered functions (first_round last far.0) first.front) → AreUnderWay functions state account new
+        by : (new ≡ old) ⊎ FailOnDevice functions state old new far.0 (round_after_requests functions (first_round last far.0) first.front) → FramesAreUnderWay functions state account new
         by (inl same) =
-            subst (λ (s : StoreView D R). AreUnderWay functions state account s) (sym same) (none_at_rest told old last rests account is)
+            subst (λ (s : StoreView D R). FramesAreUnderWay functions state account s) (sym same) (none_at_rest told old last rests account is)
         by (inr failed) =
             under_way old new last (take (length first.front) frames) first.front (front_alike requests first.front first.rest frames first.parts alike)
             account (next_taken account frames (length first.front) (come account is)) far.0 far.1 far.2
             failed.survives failed.all_or_none
-            (λ _. made_of_some functions far.0 (answered functions (first_round last far.0) first.front) failed.some failed.again)
+            (λ _. made_of_some functions far.0 (round_after_requests functions (first_round last far.0) first.front) failed.some failed.again)
 
       pub unanswered : (number ≢ DEVICE → new ≡ old) → (why : Stop) → StopsAfter number why → RestsOrStops functions state told new last (Err why)
       unanswered unchanged (stop.Untaken n) stops = λ account is.
-          subst (λ (s : StoreView D R). (world : WorldState) × (s.world ≡ Some world) × IsAtRest functions state account s last world)
+          subst (λ (s : StoreView D R). (world : WorldState) × (s.world ≡ Some world) × HasLoggedNothing functions state account s last world)
           (sym (unchanged stops.1)) (rests account is)
       unanswered unchanged (stop.Ended ended) stops = none_of_requests
 
@@ -213,11 +213,11 @@ module _ (functions : Functions) {D R : Type 0} (state : D → State) (sound : (
     module _ (frames : List Sent) (come : ComeNext told frames) (replies : Replies)
         (answers : (w : WorldState) → old.world ≡ Some w → (requests : List Request) × AskAlike requests frames × AnswersRequests functions state old new w last requests (Ok replies)) where
       -- nobody was told so
-      pub none_told : AcknowledgesNone functions state told new
+      pub none_told : AcknowledgesNoFrame functions state told new
       none_told account is =
           let far = rests account is in
           let given = answers far.0 far.1 in
-          let round = answered functions (first_round last far.0) given.0 in
+          let round = round_after_requests functions (first_round last far.0) given.0 in
           let taken = entries_by round.wrote round.entries in
           under_way old new last frames given.0 given.1 account (come account is) far.0 far.1 far.2
           (λ known honest keeps. fewer_survive functions (state old.disk) (state new.disk) far.0 taken (length taken) 0 new.world (given.2.survives known honest keeps) (omega arith)) given.2.all_or_none
@@ -225,19 +225,19 @@ module _ (functions : Functions) {D R : Type 0} (state : D → State) (sound : (
           let before = far.2.since honest in
           (given.2.survives far.1 (subst IsTrue (sym before.honest) honest) (before.kept far.0 refl)).after_all (left_after round.wrote far.0 round.left) given.2.logs.left)
 
-      given_after : (account : Account D) (w : WorldState) → old.world ≡ Some w → (rest : IsAtRest functions state account old last w)
-          → AreAnswered functions state old new account.now (round_after functions account frames) replies
+      given_after : (account : MessageAccount D) (w : WorldState) → old.world ≡ Some w → (rest : HasLoggedNothing functions state account old last w)
+          → AreAnsweredAndLogged functions state old new account.now (round_after functions account frames) replies
       given_after account w known rest =
           let given = answers w known in
-          subst (λ v. AreAnswered functions state old new v (round_after functions account frames) replies) (sym rest.now)
-          (subst (λ (r : Round). AreAnswered functions state old new w r replies) (round_is old last frames given.0 given.1 account w rest) given.2)
+          subst (λ v. AreAnsweredAndLogged functions state old new v (round_after functions account frames) replies) (sym rest.now)
+          (subst (λ (r : Round). AreAnsweredAndLogged functions state old new w r replies) (round_is old last frames given.0 given.1 account w rest) given.2)
 
       pub answers_stored : (bytes : List ℕ) → ((w : WorldState) → old.world ≡ Some w → bytes ≡ answered_bytes functions last w frames)
-          → (account : Account D) → told ≡ Some account → AreStored functions state account new frames bytes
+          → (account : MessageAccount D) → told ≡ Some account → AnswersAreStored functions state account new frames bytes
       answers_stored bytes made account is =
           let far = rests account is in
           let here : old.world ≡ Some account.now = far.1 ∙ ap (λ v. Some v) (sym far.2.now) in
-          let rest : IsAtRest functions state account old last account.now = subst (λ v. IsAtRest functions state account old last v) (sym far.2.now) far.2 in
+          let rest : HasLoggedNothing functions state account old last account.now = subst (λ v. HasLoggedNothing functions state account old last v) (sym far.2.now) far.2 in
           let given = given_after account far.0 far.1 far.2 in
           let round = round_after functions account frames in
           let taken = entries_by round.wrote round.entries in
@@ -249,8 +249,8 @@ module _ (functions : Functions) {D R : Type 0} (state : D → State) (sound : (
           }
 
       -- it rests then
-      pub rests_handed : (now : Option (Account D)) → ((later : Account D) → now ≡ Some later → option_map (with_frames functions frames new) told ≡ Some later)
-          → ((w : WorldState) → new.world ≡ Some w → IsHonest (state new.disk) → Keeps functions (state new.disk) w) → Rests functions state now new replies.last
+      pub rests_handed : (now : Option (MessageAccount D)) → ((later : MessageAccount D) → now ≡ Some later → option_map (with_frames functions frames new) told ≡ Some later)
+          → ((w : WorldState) → new.world ≡ Some w → IsHonest (state new.disk) → Keeps functions (state new.disk) w) → RestsAt functions state now new replies.last
       rests_handed now kept keeps later is =
           let before = kept_before (with_frames functions frames new) told later (kept later is) in
           let far = rests before.0 before.1 in
@@ -259,7 +259,7 @@ module _ (functions : Functions) {D R : Type 0} (state : D → State) (sound : (
           let left = left_after round.wrote before.0.now round.left in (
             left,
             given.logs.left,
-            subst (λ (a : Account D). IsAtRest functions state a new replies.last left) before.2 (record {
+            subst (λ (a : MessageAccount D). HasLoggedNothing functions state a new replies.last left) before.2 (record {
               of_input = next_none before.0 (with_frames functions frames new before.0) frames refl refl (come before.0 before.1);
               last_is = sym given.last;
               now = ap (λ o. unwrap_or o before.0.now) given.logs.left;
@@ -268,14 +268,14 @@ module _ (functions : Functions) {D R : Type 0} (state : D → State) (sound : (
           )
 
   -- the position
-  pub rests_begun : (input : Option (List ℕ)) (now : Option (Account D)) (store : StoreView D R) (position : ℕ)
-      → ((later : Account D) → now ≡ Some later → (world : WorldState) × (store.world ≡ Some world) × (later ≡ first_message_account input position world store.disk))
-      → ((w : WorldState) → store.world ≡ Some w → IsHonest (state store.disk) → Keeps functions (state store.disk) w) → Rests functions state now store position
+  pub rests_begun : (input : Option (List ℕ)) (now : Option (MessageAccount D)) (store : StoreView D R) (position : ℕ)
+      → ((later : MessageAccount D) → now ≡ Some later → (world : WorldState) × (store.world ≡ Some world) × (later ≡ first_message_account input position world store.disk))
+      → ((w : WorldState) → store.world ≡ Some w → IsHonest (state store.disk) → Keeps functions (state store.disk) w) → RestsAt functions state now store position
   rests_begun input now store position kept keeps later is =
       let first = kept later is in (
         first.0,
         first.1,
-        subst (λ (a : Account D). IsAtRest functions state a store position first.0) (sym first.2) (record {
+        subst (λ (a : MessageAccount D). HasLoggedNothing functions state a store position first.0) (sym first.2) (record {
           of_input = next_begun (first_message_account input position first.0 store.disk) refl;
           last_is = refl;
           now = refl;

@@ -4,10 +4,10 @@ use Rattle.std.proofs.lemmas.List.{take-append-drop}
 use Rattle.disk_trait.specs.Disk.{State}
 use Rattle.lisp_object.specs.declared.refusal.TheConstants.{DEVICE, LOG_FULL}
 use Rattle.message_frames.specs.Frames.{Sent}
-use Rattle.message_laws.specs.Near.{IsTidy}
+use Rattle.message_laws.specs.NearRounds.{IsTidy}
 use Rattle.message_laws.proofs.Together.{near_itself}
 use Rattle.message_session.specs.Answers.{AskAlike}
-use Rattle.message_session.specs.Sessions.{IsFull}
+use Rattle.message_session.specs.Sessions.{HoldsWorldAlone}
 use Rattle.message_session.specs.Steps.{AnswersFront, AreUntaken, Breaks, RefusesFirst, StopsAfter, TakesFrames, TakesWithRoom, ended_by}
 use Rattle.message_session.specs.declared.answer.Stop.{Stop}
 use Rattle.message_session.specs.declared.answer.Stop.TheVariants as stop
@@ -71,7 +71,7 @@ module _ (functions : Functions) (last : ℕ) (w : WorldState) (tidy : IsTidy w.
         )
 
     -- or none that a snapshot would make
-    pub untaken_with_room : (number : ℕ) → (number ≡ LOG_FULL → length frames ≡ 1 → IsFull old w frames)
+    pub untaken_with_room : (number : ℕ) → (number ≡ LOG_FULL → length frames ≡ 1 → HoldsWorldAlone old w frames)
         → TakesFrames functions last w state new held written now_last old frames (Err (stop.Untaken number)) → TakesWithRoom functions last w state new held written now_last frames (Err (stop.Untaken number))
     untaken_with_room number full takes = (
       takes.0,
@@ -81,7 +81,7 @@ module _ (functions : Functions) (last : ℕ) (w : WorldState) (tidy : IsTidy w.
     )
 
     -- what came of them in a half that was begun for them
-    pub taken_with_room : (result : Result ℕ Stop) → (length frames ≡ 1 → IsFull old w frames)
+    pub taken_with_room : (result : Result ℕ Stop) → (length frames ≡ 1 → HoldsWorldAlone old w frames)
         → TakesFrames functions last w state new held written now_last old frames result → TakesWithRoom functions last w state new held written now_last frames result
     taken_with_room (Ok count) full takes = takes
     taken_with_room (Err (stop.Untaken number)) full takes = untaken_with_room number (λ _. full) takes
@@ -94,7 +94,7 @@ one_stopped functions last w state new held written now_last frames (stop.Untake
 one_stopped functions last w state new held written now_last frames (stop.Ended ended) one takes = takes
 
 -- a half that was begun for one frame holds the text alone
-pub full_anew : (functions : Functions) {D R : Type 0} (state : D → State) (old new : StoreView D R) (w : WorldState) (frames : List Sent) → IsSnapshotted functions state old new w → length frames ≡ 1 → IsFull new w frames
+pub full_anew : (functions : Functions) {D R : Type 0} (state : D → State) (old new : StoreView D R) (w : WorldState) (frames : List Sent) → IsSnapshotted functions state old new w → length frames ≡ 1 → HoldsWorldAlone new w frames
 full_anew functions state old new w frames renewed one = record { one = one; none_since = renewed.renews.record_count; only_text = renewed.renews.size }
 
 -- frames are tried again, where nothing came of them

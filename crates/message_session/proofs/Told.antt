@@ -2,7 +2,7 @@
 use Rattle.std.proofs.Common.{◌⊎◌, inl, inr, ℕ, List, ◌++◌, Option, ap, ◌∙◌, sym, append_assoc}
 use Rattle.disk_trait.specs.Disk.{State}
 use Rattle.message_frames.specs.Frames.{Sent}
-use Rattle.message_session.specs.Sessions.{AreServed, EndsBy, HasCause, IsUnread}
+use Rattle.message_session.specs.Sessions.{AreServed, EndsBy, HasCause, EndsUnread}
 use Rattle.message_session.specs.declared.ended.Ended.{Ended}
 use Rattle.message_session.specs.declared.ended.Ended.TheVariants.{End, NoFrame, Fault}
 use Rattle.message_session.proofs.Streams.{writes_both}
@@ -20,8 +20,8 @@ module _ (functions : Functions) (last : ℕ) (w : WorldState) {D R : Type 0} (s
   after_told : (frames : List Sent) (later : Option (List ℕ)) → Writes between later (bytes frames) → Writes held later (told ++ bytes frames)
   after_told frames later writes = writes_both held between later told (bytes frames) first writes
 
-  unread_told : (answered next : List Sent) (number : ℕ) (rest : List ℕ) → IsUnread functions last w state store between written bytes answered next number rest
-      → IsUnread functions last w state store held written with_told answered next number rest
+  unread_told : (answered next : List Sent) (number : ℕ) (rest : List ℕ) → EndsUnread functions last w state store between written bytes answered next number rest
+      → EndsUnread functions last w state store held written with_told answered next number rest
   unread_told answered next number rest c = record {
     input = c.input;
     none_next = c.none_next;
@@ -62,8 +62,8 @@ module _ (functions : Functions) (last : ℕ) (w : WorldState) {D R : Type 0} (s
   })))
 
   either_told : (answered next : List Sent) (number : ℕ) (rest : List ℕ)
-      → IsUnread functions last w state store between written bytes answered next number rest ⊎ HasCause functions last w state store between written bytes answered next number
-      → IsUnread functions last w state store held written with_told answered next number rest ⊎ HasCause functions last w state store held written with_told answered next number
+      → EndsUnread functions last w state store between written bytes answered next number rest ⊎ HasCause functions last w state store between written bytes answered next number
+      → EndsUnread functions last w state store held written with_told answered next number rest ⊎ HasCause functions last w state store held written with_told answered next number
   either_told answered next number rest (inl c) = inl (unread_told answered next number rest c)
   either_told answered next number rest (inr c) = inr (cause_told answered next number c)
 

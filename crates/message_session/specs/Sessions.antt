@@ -4,7 +4,7 @@ use Rattle.std.specs.Io.KnownBytes.{Consumes, IsAtEnd}
 use Rattle.std.specs.List.{flat_map}
 use Rattle.disk_trait.specs.Disk.{State}
 use Rattle.message_frames.specs.Frames.{AreFrames, IsBegunFrame, IsMalformed, Sent, frame_bytes, position_bytes}
-use Rattle.message_laws.specs.Near.{Near}
+use Rattle.message_laws.specs.NearRounds.{Near}
 use Rattle.message_session.specs.Answers.{AskAlike, each_frame, session_bytes}
 use Rattle.message_session.specs.declared.ended.Ended.{Ended}
 use Rattle.message_session.specs.declared.ended.Ended.TheVariants.{End, NoFrame, Fault}
@@ -26,7 +26,7 @@ abbrev pub text_limit : ℕ
 text_limit = 1048576
 
 -- One frame comes next, and the half holds nothing but the text of this world.
-pub record IsFull {D R : Type 0} (store : StoreView D R) (world : WorldState) (next : List Sent) : Type 0 where
+pub record HoldsWorldAlone {D R : Type 0} (store : StoreView D R) (world : WorldState) (next : List Sent) : Type 0 where
   pub one : length next ≡ 1
   pub none_since : store.record_count ≡ 0
   pub only_text : store.size ≡ 16 + length (snapshot world)
@@ -54,7 +54,7 @@ module _ (functions : Functions) (last : ℕ) (world : WorldState) where
 
     module _ (answered next : List Sent) (number : ℕ) where
       -- A read failed, or there were too many of them. Less than a frame is left.
-      pub record IsUnread (rest : List ℕ) : Type 0 where
+      pub record EndsUnread (rest : List ℕ) : Type 0 where
         pub input : number ≡ INPUT
         pub none_next : next ≡ []
         pub begun : IsBegunFrame text_limit rest
@@ -62,7 +62,7 @@ module _ (functions : Functions) (last : ℕ) (world : WorldState) where
         pub output : Writes held written (bytes answered)
 
       -- A write failed, or took nothing. The next frames are carried out too, and of their answers a part was written.
-      pub record IsUnwritten : Type 0 where
+      pub record EndsUnwritten : Type 0 where
         pub output : number ≡ OUTPUT
         pub carried_out : AreCarriedOut (answered ++ next) store
         pub more : List ℕ
@@ -72,7 +72,7 @@ module _ (functions : Functions) (last : ℕ) (world : WorldState) where
         pub part : WritesPart between written more
 
       -- There was no memory for the session. The next frames, if any, are carried out too, and no byte of their answers was written.
-      pub record IsOutOfMemory : Type 0 where
+      pub record EndsWithoutMemory : Type 0 where
         pub memory : number ≡ NO_MEMORY
         pub carried_out : AreCarriedOut (answered ++ next) store
         pub output : Writes held written (bytes answered)
@@ -86,11 +86,11 @@ module _ (functions : Functions) (last : ℕ) (world : WorldState) where
         pub requests : List Request
         pub asked : AskAlike requests next
         pub refused : AnswersRequests functions state before store after.left before_last requests (Err number)
-        pub full : number ≡ LOG_FULL → IsFull before after.left next
+        pub full : number ≡ LOG_FULL → HoldsWorldAlone before after.left next
         pub output : Writes held written (bytes answered)
 
       -- It refused the next one for want of room, as that found it.
-      pub record HasNoRoom (before : StoreView D R) (left : WorldState) (before_last : ℕ) : Type 0 where
+      pub record NextHasNoRoom (before : StoreView D R) (left : WorldState) (before_last : ℕ) : Type 0 where
         pub one : length next ≡ 1
         pub requests : List Request
         pub asked : AskAlike requests next
@@ -103,12 +103,12 @@ module _ (functions : Functions) (last : ℕ) (world : WorldState) where
         pub before_last : ℕ
         pub after : HasCarriedOut answered before_last before
         pub refused : Snapshots functions state before store after.left (Refused number)
-        pub large : number ≡ SNAPSHOT_TOO_LARGE → HasNoRoom before after.left before_last
+        pub large : number ≡ SNAPSHOT_TOO_LARGE → NextHasNoRoom before after.left before_last
         pub output : Writes held written (bytes answered)
 
       -- a cause that is not of the input
       abbrev pub HasCause : Type 0
-      HasCause = IsUnwritten ⊎ (IsOutOfMemory ⊎ (IsUntaken ⊎ IsUnrenewed))
+      HasCause = EndsUnwritten ⊎ (EndsWithoutMemory ⊎ (IsUntaken ⊎ IsUnrenewed))
 
     module _ (read : List ℕ) where
       -- what was read begins with these frames, which were answered, and these bytes come after them
@@ -122,7 +122,7 @@ module _ (functions : Functions) (last : ℕ) (world : WorldState) where
         pub next : List Sent
         pub rest : List ℕ
         pub parts : AreFrames text_limit (answered ++ next) rest read
-        pub cause : IsUnread answered next number rest ⊎ HasCause answered next number
+        pub cause : EndsUnread answered next number rest ⊎ HasCause answered next number
 
       -- How it ends. At the end of the input, with less than a frame after those that were answered. At bytes that are no frame, however
       -- they go on, with so many bytes before them. Or at a fault.
@@ -161,7 +161,7 @@ module _ (functions : Functions) {D R : Type 0} (state : D → State) where
       ⊎ (HasNoRoomToBegin old world × (renewed : StoreView D R) × IsSnapshotted functions state old renewed world
       × BeginsMessages functions state renewed new world (Err number)))
 
-  -- or there was no memory to tell the position
+  -- messages were begun, and there was no memory to tell the position
   abbrev pub IsNotTold : (old new : StoreView D R) → WorldState → ℕ → Type 0
   IsNotTold old new world number = (number ≡ NO_MEMORY) × (position : ℕ) × (first : WorldState) × MessagesBegin old new world position first
 

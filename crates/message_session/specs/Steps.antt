@@ -46,9 +46,9 @@ module _ (functions : Functions) {D R : Type 0} (state : D → State) (old new :
   RenewsForRoom (Err number) = Snapshots functions state old new world (Refused number)
 
   -- One that is due was taken, or was too large. None may be due.
-  abbrev pub RenewsIfDue : Result Unit Ended → Type 0
-  RenewsIfDue (Ok done) = (new.world ≡ Some world) × SurvivesAs functions state old new world [] 0
-  RenewsIfDue (Err ended) = (number : ℕ) × (ended ≡ Fault number) × (number ≢ SNAPSHOT_TOO_LARGE) × Snapshots functions state old new world (Refused number)
+  abbrev pub RenewsWhereDue : Result Unit Ended → Type 0
+  RenewsWhereDue (Ok done) = (new.world ≡ Some world) × SurvivesAs functions state old new world [] 0
+  RenewsWhereDue (Err ended) = (number : ℕ) × (ended ≡ Fault number) × (number ≢ SNAPSHOT_TOO_LARGE) × Snapshots functions state old new world (Refused number)
 
 module _ (functions : Functions) (last : ℕ) (world : WorldState) {D R : Type 0} (state : D → State) where
   -- the store, which is as it was, refused the first of these frames, for this number
@@ -61,7 +61,7 @@ module _ (functions : Functions) (last : ℕ) (world : WorldState) {D R : Type 0
     pub asked : AskAlike requests front
     pub refused : AnswersRequests functions state old old world last requests (Err number)
 
-  -- or there was no memory for them
+  -- nothing was done with these frames: there was no memory for them, or the store refused the first of them
   abbrev pub AreUntaken : StoreView D R → List Sent → ℕ → Type 0
   AreUntaken old frames number = (number ≡ NO_MEMORY) ⊎ RefusesFirst old frames number
 
@@ -72,7 +72,7 @@ module _ (functions : Functions) (last : ℕ) (world : WorldState) {D R : Type 0
     IsFaultAfter answered next (NoFrame place) = ⊥
     IsFaultAfter answered next (Fault number) = HasCause functions last world state store held written (answered_bytes functions last world) answered next number
 
-    -- among these frames
+    -- a fault came among these frames, some of which were answered before it
     pub record Breaks (frames : List Sent) (ended : Ended) : Type 0 where
       pub answered : List Sent
       pub next : List Sent
@@ -80,7 +80,7 @@ module _ (functions : Functions) (last : ℕ) (world : WorldState) {D R : Type 0
       pub parts : frames ≡ (answered ++ next) ++ undone
       pub fault : IsFaultAfter answered next ended
 
-    -- in what was read
+    -- a fault came among the frames of these bytes
     pub record BreaksIn (read : List ℕ) (ended : Ended) : Type 0 where
       pub answered : List Sent
       pub next : List Sent
@@ -93,18 +93,18 @@ module _ (functions : Functions) (last : ℕ) (world : WorldState) {D R : Type 0
       AnswersFrames frames (Ok done) = AreFramesAnswered functions last world state store held written (answered_bytes functions last world) frames now_last
       AnswersFrames frames (Err ended) = Breaks frames ended
 
-      -- so many of them, from the first on
+      -- the first so many of these frames were answered, or a fault ended the session among them
       abbrev pub AnswersFront : List Sent → Result ℕ Ended → Type 0
       AnswersFront frames (Ok count) = AreFramesAnswered functions last world state store held written (answered_bytes functions last world) (take count frames) now_last
       AnswersFront frames (Err ended) = Breaks frames ended
 
-      -- or the store did not take the first of them, and all is as it was
+      -- The first so many of these frames were answered; or nothing was done with them, and all is as it was; or a fault ended the session.
       abbrev pub TakesFrames : StoreView D R → List Sent → Result ℕ Stop → Type 0
       TakesFrames old frames (Ok count) = AreFramesAnswered functions last world state store held written (answered_bytes functions last world) (take count frames) now_last
       TakesFrames old frames (Err (stop.Untaken number)) = (written ≡ held) × (now_last ≡ last) × (store ≡ old) × AreUntaken old frames number
       TakesFrames old frames (Err (stop.Ended ended)) = Breaks frames ended
 
-      -- or nothing came of them, and if they are one frame the session ends by that
+      -- The same after a snapshot for room: where nothing came of one frame alone, that is a fault which ends the session.
       abbrev pub TakesWithRoom : List Sent → Result ℕ Stop → Type 0
       TakesWithRoom frames (Ok count) = AreFramesAnswered functions last world state store held written (answered_bytes functions last world) (take count frames) now_last
       TakesWithRoom frames (Err (stop.Untaken number)) = (written ≡ held) × (now_last ≡ last) × (store.world ≡ Some world) × (length frames ≡ 1 → Breaks frames (Fault number))

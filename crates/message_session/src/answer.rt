@@ -3,9 +3,9 @@ ghost use Rattle.std.specs.Prelude.{◌≡◌, ℕ, ◌<◌, ◌≤◌, length, 
 ghost use Rattle.std.specs.List.{flat_map};
 ghost use Rattle.message_frames.specs.Frames.{answer_bytes, sent};
 ghost use Rattle.message_session.specs.Answers.{AskAlike, answers_to, message_number};
-ghost use Rattle.message_session.specs.Standing.{AnswersMore, ComeNext, Rests, RestsOrEnds, RestsOrStops};
-ghost use Rattle.message_session.specs.Steps.{AnswersFront, AnswersFrames, RenewsForRoom, RenewsIfDue, StopsAfter, TakesFrames, TakesWithRoom, ended_by};
-ghost use Rattle.plist_state.specs.Sound.{IsSound};
+ghost use Rattle.message_session.specs.Standing.{AnswersMore, ComeNext, RestsAt, RestsOrEnds, RestsOrStops};
+ghost use Rattle.message_session.specs.Steps.{AnswersFront, AnswersFrames, RenewsForRoom, RenewsWhereDue, StopsAfter, TakesFrames, TakesWithRoom, ended_by};
+ghost use Rattle.plist_state.specs.Sound.{IsSoundWorldState};
 ghost use Rattle.plist_state.specs.State.{WorldState};
 ghost use Rattle.messages.specs.Rounds.{told_in};
 
@@ -44,7 +44,7 @@ impl MessageCourse {
         store: &mut Store<D, R>,
     ) -> Result<(), Ended>
         ensures renews { (w : WorldState) → store.old.world ≡ Some w
-            → RenewsIfDue R.Meaning.functions D.state store.old store.new w result }
+            → RenewsWhereDue R.Meaning.functions D.state store.old store.new w result }
         ensures last { self.new.last ≡ self.old.last }
         ensures macros { store.new.macros ≡ store.old.macros }
     {
@@ -58,7 +58,7 @@ impl MessageCourse {
 
 /// Does nothing. Its clause says that the world of each store is sound.
 pub(crate) fn its_world_is_sound<D: Disk, R: MacroFunctions>(store: &Store<D, R>)
-    ensures { (w : WorldState) → store.now.world ≡ Some w → IsSound w }
+    ensures { (w : WorldState) → store.now.world ≡ Some w → IsSoundWorldState w }
 {
     match store.world() {
         Some(world) => world.soundness(),
@@ -69,7 +69,7 @@ pub(crate) fn its_world_is_sound<D: Disk, R: MacroFunctions>(store: &Store<D, R>
 // Takes a snapshot. One that is too large for the half is passed over.
 fn renew<D: Disk, R: MacroFunctions>(store: &mut Store<D, R>) -> Result<(), Ended>
     ensures renews { (w : WorldState) → store.old.world ≡ Some w
-        → RenewsIfDue R.Meaning.functions D.state store.old store.new w result }
+        → RenewsWhereDue R.Meaning.functions D.state store.old store.new w result }
     ensures macros { store.new.macros ≡ store.old.macros }
 {
     match store.snapshot() {
@@ -81,7 +81,8 @@ fn renew<D: Disk, R: MacroFunctions>(store: &mut Store<D, R>) -> Result<(), Ende
 
 /// Takes a snapshot for what has no room, or gives the number of its refusal.
 pub(crate) fn renew_for_room<D: Disk, R: MacroFunctions>(store: &mut Store<D, R>) -> Result<(), u16>
-    ensures renews { (w : WorldState) → store.old.world ≡ Some w → RenewsForRoom R.Meaning.functions D.state store.old store.new w result }
+    ensures renews { (w : WorldState) → store.old.world ≡ Some w
+        → RenewsForRoom R.Meaning.functions D.state store.old store.new w result }
     ensures macros { store.new.macros ≡ store.old.macros }
 {
     match store.snapshot() {
@@ -118,13 +119,15 @@ pub(crate) fn answer_frames<D: Disk, R: MacroFunctions, O: AnswerRecipient<D, R>
     frames: &[MessageFrame<'_>],
     output: &mut O,
 ) -> Result<(), Ended>
-    requires rests { Rests R.Meaning.functions D.state (O.account output.old) store.old course.old.last }
+    requires rests { RestsAt R.Meaning.functions D.state (O.account output.old) store.old course.old.last }
     requires next { ComeNext (O.account output.old) (map sent frames.now) }
     ensures answers { (w : WorldState) → store.old.world ≡ Some w
         → AnswersFrames R.Meaning.functions course.old.last w D.state store.new (O.contents output.old) (O.contents output.new)
         course.new.last (map sent frames.now) result }
-    ensures rests { RestsOrEnds R.Meaning.functions D.state (O.account output.new) store.new course.new.last result }
-    ensures more { OnOk result (AnswersMore (O.account output.old) (O.account output.new) (map sent frames.now)) }
+    ensures rests { RestsOrEnds R.Meaning.functions D.state
+        (O.account output.new) store.new course.new.last result }
+    ensures more { OnOk result
+        (AnswersMore (O.account output.old) (O.account output.new) (map sent frames.now)) }
     ensures input { O.input output.new ≡ O.input output.old }
     ensures macros { store.new.macros ≡ store.old.macros }
 {
@@ -148,16 +151,18 @@ fn answer_front<D: Disk, R: MacroFunctions, O: AnswerRecipient<D, R>>(
     frames: &[MessageFrame<'_>],
     output: &mut O,
 ) -> Result<usize, Ended>
-    requires rests { Rests R.Meaning.functions D.state (O.account output.old) store.old course.old.last }
+    requires rests { RestsAt R.Meaning.functions D.state (O.account output.old) store.old course.old.last }
     requires next { ComeNext (O.account output.old) (map sent frames.now) }
     requires any { 0 < length frames.now }
     ensures answers { (w : WorldState) → store.old.world ≡ Some w
         → AnswersFront R.Meaning.functions course.old.last w D.state store.new (O.contents output.old) (O.contents output.new)
         course.new.last (map sent frames.now) result }
-    ensures rests { RestsOrEnds R.Meaning.functions D.state (O.account output.new) store.new course.new.last result }
-    ensures more { IfOk result (λ count. AnswersMore (O.account output.old) (O.account output.new) (take count (map sent frames.now))) }
+    ensures rests { RestsOrEnds R.Meaning.functions D.state
+        (O.account output.new) store.new course.new.last result }
+    ensures more { IfOk result
+        (λ count. AnswersMore (O.account output.old) (O.account output.new) (take count (map sent frames.now))) }
 
-    // How many frames were answered, and what stays.
+    // At least one of them was answered, and at most all.
     ensures most { IfOk result (λ count. count ≤ length frames.now) }
     ensures some { IfOk result (λ count. 0 < count) }
     ensures input { O.input output.new ≡ O.input output.old }
@@ -181,16 +186,18 @@ fn answer_in_turn<D: Disk, R: MacroFunctions, O: AnswerRecipient<D, R>>(
     frames: &[MessageFrame<'_>],
     output: &mut O,
 ) -> Result<usize, Ended>
-    requires rests { Rests R.Meaning.functions D.state (O.account output.old) store.old course.old.last }
+    requires rests { RestsAt R.Meaning.functions D.state (O.account output.old) store.old course.old.last }
     requires next { ComeNext (O.account output.old) (map sent frames.now) }
     requires any { 0 < length frames.now }
     ensures answers { (w : WorldState) → store.old.world ≡ Some w
         → AnswersFront R.Meaning.functions course.old.last w D.state store.new (O.contents output.old) (O.contents output.new)
         course.new.last (map sent frames.now) result }
-    ensures rests { RestsOrEnds R.Meaning.functions D.state (O.account output.new) store.new course.new.last result }
-    ensures more { IfOk result (λ count. AnswersMore (O.account output.old) (O.account output.new) (take count (map sent frames.now))) }
+    ensures rests { RestsOrEnds R.Meaning.functions D.state
+        (O.account output.new) store.new course.new.last result }
+    ensures more { IfOk result
+        (λ count. AnswersMore (O.account output.old) (O.account output.new) (take count (map sent frames.now))) }
 
-    // How many frames were answered, and what stays.
+    // At least one of them was answered, and at most all.
     ensures most { IfOk result (λ count. count ≤ length frames.now) }
     ensures some { IfOk result (λ count. 0 < count) }
     ensures input { O.input output.new ≡ O.input output.old }
@@ -214,18 +221,21 @@ fn take_with_room<D: Disk, R: MacroFunctions, O: AnswerRecipient<D, R>>(
     frames: &[MessageFrame<'_>],
     output: &mut O,
 ) -> Result<usize, Stop>
-    requires rests { Rests R.Meaning.functions D.state (O.account output.old) store.old course.old.last }
+    requires rests { RestsAt R.Meaning.functions D.state (O.account output.old) store.old course.old.last }
     requires next { ComeNext (O.account output.old) (map sent frames.now) }
     requires any { 0 < length frames.now }
     ensures takes { (w : WorldState) → store.old.world ≡ Some w
         → TakesWithRoom R.Meaning.functions course.old.last w D.state store.new (O.contents output.old) (O.contents output.new)
         course.new.last (map sent frames.now) result }
-    ensures rests { RestsOrStops R.Meaning.functions D.state (O.account output.new) store.new course.new.last result }
-    ensures more { IfOk result (λ count. AnswersMore (O.account output.old) (O.account output.new) (take count (map sent frames.now))) }
+    ensures rests { RestsOrStops R.Meaning.functions D.state
+        (O.account output.new) store.new course.new.last result }
+    ensures more { IfOk result
+        (λ count. AnswersMore (O.account output.old) (O.account output.new) (take count (map sent frames.now))) }
 
-    // How many frames were answered, and what stays.
+    // At least one of them was answered, and at most all; or, where fewer may be tried, nothing was written.
     ensures most { IfOk result (λ count. count ≤ length frames.now) }
-    ensures untouched { IfErr result (λ stop. (number : ℕ) → stop ≡ Stop.Untaken number → output.new ≡ output.old) }
+    ensures untouched { IfErr result (λ stop. (number : ℕ) → stop ≡ Stop.Untaken number
+        → output.new ≡ output.old) }
     ensures some { IfOk result (λ count. 0 < count) }
     ensures input { O.input output.new ≡ O.input output.old }
     ensures macros { store.new.macros ≡ store.old.macros }
@@ -260,18 +270,21 @@ fn take_frames<D: Disk, R: MacroFunctions, O: AnswerRecipient<D, R>>(
     frames: &[MessageFrame<'_>],
     output: &mut O,
 ) -> Result<usize, Stop>
-    requires rests { Rests R.Meaning.functions D.state (O.account output.old) store.old course.old.last }
+    requires rests { RestsAt R.Meaning.functions D.state (O.account output.old) store.old course.old.last }
     requires next { ComeNext (O.account output.old) (map sent frames.now) }
     requires any { 0 < length frames.now }
     ensures takes { (w : WorldState) → store.old.world ≡ Some w
         → TakesFrames R.Meaning.functions course.old.last w D.state store.new (O.contents output.old) (O.contents output.new)
         course.new.last store.old (map sent frames.now) result }
-    ensures rests { RestsOrStops R.Meaning.functions D.state (O.account output.new) store.new course.new.last result }
-    ensures more { IfOk result (λ count. AnswersMore (O.account output.old) (O.account output.new) (take count (map sent frames.now))) }
+    ensures rests { RestsOrStops R.Meaning.functions D.state
+        (O.account output.new) store.new course.new.last result }
+    ensures more { IfOk result
+        (λ count. AnswersMore (O.account output.old) (O.account output.new) (take count (map sent frames.now))) }
 
-    // How many frames were answered, and what stays.
+    // At least one of them was answered, and at most all; or, where fewer may be tried, nothing was written.
     ensures most { IfOk result (λ count. count ≤ length frames.now) }
-    ensures untouched { IfErr result (λ stop. (number : ℕ) → stop ≡ Stop.Untaken number → output.new ≡ output.old) }
+    ensures untouched { IfErr result (λ stop. (number : ℕ) → stop ≡ Stop.Untaken number
+        → output.new ≡ output.old) }
     ensures some { IfOk result (λ count. 0 < count) }
     ensures input { O.input output.new ≡ O.input output.old }
     ensures macros { store.new.macros ≡ store.old.macros }

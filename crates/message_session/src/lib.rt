@@ -8,6 +8,7 @@
 //! - `answer`: frames are handed to the store together, which answers the first of them (`answer_first_requests` of messages), and
 //!   their answers are written, until all are. A half that is full gets a snapshot; what has no room then, or no memory, is tried one by one
 //!
+//! - `ended`: how a session ends
 //! - `recipient`: who gets the answers (`AnswerRecipient`). It asks for them that what their messages wrote is stored by then, with the
 //!   position, and that they are the next ones of the input (`AreStored` of specs/Account.antt): so this is said of each moment of a session
 //!

@@ -2,7 +2,7 @@
 ghost use Rattle.std.specs.Prelude.{◌≡◌, ℕ, List, map, Option, None, Some, OnOk, OnErr};
 ghost use Rattle.std.specs.Option.{option_map};
 ghost use Rattle.message_frames.specs.Frames.{position_bytes, sent};
-ghost use Rattle.message_session.specs.Account.{Account, AreStored, IsToldIn, first_message_account, with_frames};
+ghost use Rattle.message_session.specs.Account.{MessageAccount, AnswersAreStored, IsToldIn, first_message_account, with_frames};
 ghost use Rattle.plist_state.specs.State.{WorldState};
 ghost use Rattle.sessions.specs.Streams.{Writes, WritesPart};
 
@@ -23,7 +23,7 @@ pub trait AnswerRecipient<D: Disk, R: MacroFunctions> {
     ghost contents: { Self → Option (List ℕ) };
 
     /// The account that it keeps of its session from the position on, if it keeps one.
-    ghost account: { Self → Option (Account D) };
+    ghost account: { Self → Option (MessageAccount D) };
 
     /// What the reader of its session had before it was read, if it tells that.
     ghost input: { Self → Option (List ℕ) };
@@ -35,12 +35,12 @@ pub trait AnswerRecipient<D: Disk, R: MacroFunctions> {
         bytes: &[u8],
         position: u64,
     ) -> Result<(), OutputFault>
-        requires begins { (kept : Account D) → account self.old ≡ Some kept → ⊥ }
+        requires begins { (kept : MessageAccount D) → account self.old ≡ Some kept → ⊥ }
         requires told { bytes.now ≡ position_bytes position }
         requires in_world { (world : WorldState) → store.now.world ≡ Some world → IsToldIn position world }
         ensures whole { OnOk result (Writes (contents self.old) (contents self.new) bytes.now) }
         ensures part { OnErr result (WritesPart (contents self.old) (contents self.new) bytes.now) }
-        ensures kept { (later : Account D) → account self.new ≡ Some later
+        ensures kept { (later : MessageAccount D) → account self.new ≡ Some later
             → (world : WorldState) × (store.now.world ≡ Some world)
             × (later ≡ first_message_account (input self.old) position world store.now.disk) }
         ensures input { input self.new ≡ input self.old };
@@ -52,11 +52,11 @@ pub trait AnswerRecipient<D: Disk, R: MacroFunctions> {
         bytes: &[u8],
         frames: &[MessageFrame<'_>],
     ) -> Result<(), OutputFault>
-        requires stored { (kept : Account D) → account self.old ≡ Some kept
-            → AreStored R.Meaning.functions D.state kept store.now (map sent frames.now) bytes.now }
+        requires stored { (kept : MessageAccount D) → account self.old ≡ Some kept
+            → AnswersAreStored R.Meaning.functions D.state kept store.now (map sent frames.now) bytes.now }
         ensures whole { OnOk result (Writes (contents self.old) (contents self.new) bytes.now) }
         ensures part { OnErr result (WritesPart (contents self.old) (contents self.new) bytes.now) }
-        ensures kept { (later : Account D) → account self.new ≡ Some later
+        ensures kept { (later : MessageAccount D) → account self.new ≡ Some later
             → option_map (with_frames R.Meaning.functions (map sent frames.now) store.now) (account self.old) ≡ Some later }
         ensures input { input self.new ≡ input self.old };
 }

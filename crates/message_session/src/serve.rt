@@ -2,9 +2,9 @@
 ghost use Rattle.std.specs.Prelude.{◌≡◌, ◌<◌, ◌≤◌, ℕ, List, [], length, true, IfOk, OnOk, Err, None, Some};
 ghost use Rattle.lisp_object.specs.declared.refusal.TheConstants.{REOPEN};
 ghost use Rattle.message_frames.specs.declared.held.Next.TheVariants as next;
-ghost use Rattle.message_session.specs.Account.{Account, IsToldIn};
+ghost use Rattle.message_session.specs.Account.{MessageAccount, IsToldIn};
 ghost use Rattle.message_session.specs.Sessions.{SessionAsksToReopen, HasNoRoomToBegin, ServesMessages};
-ghost use Rattle.message_session.specs.Standing.{AcknowledgesNone, AnswersFirstOf, ComesNext, IsReadIn, Rests, RestsOrEnds};
+ghost use Rattle.message_session.specs.Standing.{AcknowledgesNoFrame, AnswersFirstOf, ComesNext, IsReadIn, RestsAt, RestsOrEnds};
 ghost use Rattle.message_session.specs.Steps.{AnswersAllHeld, AnswersFramesOfInput, AnswersSomeHeld, MayBegin, TakesPiece};
 ghost use Rattle.plist_state.specs.State.{WorldState};
 
@@ -56,14 +56,14 @@ pub fn serve_messages<D: Disk, R: MacroFunctions, I: Read, O: AnswerRecipient<D,
     output: &mut O,
     snapshot_every: u64,
 ) -> Ended
-    requires begins { (kept : Account D) → O.account output.old ≡ Some kept → ⊥ }
+    requires begins { (kept : MessageAccount D) → O.account output.old ≡ Some kept → ⊥ }
     requires of_input { (all : List ℕ) → O.input output.old ≡ Some all → I.remaining input.old ≡ Some all }
     ensures reopen { store.old.world ≡ None
         → SessionAsksToReopen store.old store.new input.old input.new output.old output.new result }
     ensures serves { (w : WorldState) → store.old.world ≡ Some w
         → ServesMessages R.Meaning.functions D.state store.old store.new w
         (I.remaining input.old) (I.remaining input.new) (O.contents output.old) (O.contents output.new) result }
-    ensures under_way { AcknowledgesNone R.Meaning.functions D.state (O.account output.new) store.new }
+    ensures under_way { AcknowledgesNoFrame R.Meaning.functions D.state (O.account output.new) store.new }
     ensures input { O.input output.new ≡ O.input output.old }
     ensures macros { store.new.macros ≡ store.old.macros }
 {
@@ -92,8 +92,10 @@ pub fn serve_messages<D: Disk, R: MacroFunctions, I: Read, O: AnswerRecipient<D,
 // Begins with messages. A half that is full is made anew first.
 fn begin<D: Disk, R: MacroFunctions>(store: &mut Store<D, R>) -> Result<u64, Ended>
     ensures reopen { store.old.world ≡ None → (result ≡ Err (Ended.Fault REOPEN)) × (store.new ≡ store.old) }
-    ensures begun { (w : WorldState) → store.old.world ≡ Some w → MayBegin R.Meaning.functions D.state store.old store.new w result }
-    ensures told { IfOk result (λ position. (w : WorldState) → store.new.world ≡ Some w → IsToldIn position w) }
+    ensures begun { (w : WorldState) → store.old.world ≡ Some w
+        → MayBegin R.Meaning.functions D.state store.old store.new w result }
+    ensures told { IfOk result (λ position. (w : WorldState) → store.new.world ≡ Some w
+        → IsToldIn position w) }
     ensures macros { store.new.macros ≡ store.old.macros }
 {
     match begin_messages(store) {
@@ -105,7 +107,8 @@ fn begin<D: Disk, R: MacroFunctions>(store: &mut Store<D, R>) -> Result<u64, End
 
 // Begins with messages in a half that is made anew, as there was no room.
 fn begin_anew<D: Disk, R: MacroFunctions>(store: &mut Store<D, R>) -> Result<u64, Ended>
-    ensures begun { (w : WorldState) → store.old.world ≡ Some w → HasNoRoomToBegin R.Meaning.functions D.state store.old w
+    ensures begun { (w : WorldState) → store.old.world ≡ Some w
+        → HasNoRoomToBegin R.Meaning.functions D.state store.old w
         → MayBegin R.Meaning.functions D.state store.old store.new w result }
     ensures told { (before : WorldState) → store.old.world ≡ Some before
         → IfOk result (λ position. (w : WorldState) → store.new.world ≡ Some w → IsToldIn position w) }
@@ -129,12 +132,12 @@ fn serve_frames<D: Disk, R: MacroFunctions, I: Read, O: AnswerRecipient<D, R>>(
     output: &mut O,
     course: MessageCourse,
 ) -> Ended
-    requires rests { Rests R.Meaning.functions D.state (O.account output.old) store.old course.last }
+    requires rests { RestsAt R.Meaning.functions D.state (O.account output.old) store.old course.last }
     requires read { IsReadIn (O.account output.old) (I.remaining input.old) [] }
     ensures serves { (w : WorldState) → store.old.world ≡ Some w
         → AnswersFramesOfInput R.Meaning.functions course.last w D.state store.new
         (I.remaining input.old) (I.remaining input.new) (O.contents output.old) (O.contents output.new) result }
-    ensures under_way { AcknowledgesNone R.Meaning.functions D.state (O.account output.new) store.new }
+    ensures under_way { AcknowledgesNoFrame R.Meaning.functions D.state (O.account output.new) store.new }
     ensures input { O.input output.new ≡ O.input output.old }
     ensures macros { store.new.macros ≡ store.old.macros }
 {
@@ -198,13 +201,16 @@ impl Session {
         store: &mut Store<D, R>,
         output: &mut O,
     ) -> Result<bool, Ended>
-        requires rests { Rests R.Meaning.functions D.state (O.account output.old) store.old self.old.course.last }
+        requires rests { RestsAt R.Meaning.functions D.state
+            (O.account output.old) store.old self.old.course.last }
         requires next { ComesNext (O.account output.old) self.old.held }
         ensures answers { (w : WorldState) → store.old.world ≡ Some w
             → AnswersAllHeld R.Meaning.functions self.old self.new w D.state store.new
             (O.contents output.old) (O.contents output.new) result }
-        ensures rests { RestsOrEnds R.Meaning.functions D.state (O.account output.new) store.new self.new.course.last result }
-        ensures more { OnOk result (AnswersFirstOf (O.account output.old) (O.account output.new) self.old.held self.new.held) }
+        ensures rests { RestsOrEnds R.Meaning.functions D.state
+            (O.account output.new) store.new self.new.course.last result }
+        ensures more { OnOk result
+            (AnswersFirstOf (O.account output.old) (O.account output.new) self.old.held self.new.held) }
         ensures input { O.input output.new ≡ O.input output.old }
         ensures macros { store.new.macros ≡ store.old.macros }
     {
@@ -225,15 +231,18 @@ impl Session {
         store: &mut Store<D, R>,
         output: &mut O,
     ) -> Result<Next, Ended>
-        requires rests { Rests R.Meaning.functions D.state (O.account output.old) store.old self.old.course.last }
+        requires rests { RestsAt R.Meaning.functions D.state
+            (O.account output.old) store.old self.old.course.last }
         requires next { ComesNext (O.account output.old) self.old.held }
         ensures answers { (w : WorldState) → store.old.world ≡ Some w
             → AnswersSomeHeld R.Meaning.functions self.old self.new w D.state store.new
             (O.contents output.old) (O.contents output.new) result }
         ensures fewer { IfOk result (λ after. after ≡ next.Unread
             → length self.new.held < length self.old.held) }
-        ensures rests { RestsOrEnds R.Meaning.functions D.state (O.account output.new) store.new self.new.course.last result }
-        ensures more { OnOk result (AnswersFirstOf (O.account output.old) (O.account output.new) self.old.held self.new.held) }
+        ensures rests { RestsOrEnds R.Meaning.functions D.state
+            (O.account output.new) store.new self.new.course.last result }
+        ensures more { OnOk result
+            (AnswersFirstOf (O.account output.old) (O.account output.new) self.old.held self.new.held) }
         ensures input { O.input output.new ≡ O.input output.old }
         ensures macros { store.new.macros ≡ store.old.macros }
     {

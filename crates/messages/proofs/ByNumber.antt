@@ -10,9 +10,9 @@ use Rattle.prevalence_store.specs.declared.failure.Unlogged.TheVariants.{Full, D
 use Rattle.messages.specs.declared.own.Own.{Own}
 use Rattle.messages.specs.declared.request.Request.{Request}
 use Rattle.prevalence_store.specs.meaning.Acceptance.{IsFormNumber, accepts}
-use Rattle.messages.specs.Answers.{answered, first_round}
+use Rattle.messages.specs.Answers.{round_after_requests, first_round}
 use Rattle.messages.specs.Position.{own_text}
-use Rattle.messages.specs.Calls.{AnswersRequests, AreLeft, IsOwnRefused, RefusesOwn}
+use Rattle.messages.specs.Calls.{AnswersRequests, AreNotAnswered, IsOwnRefused, RefusesOwn}
 use Rattle.prevalence_store.specs.steps.Failure.{failure_number}
 use Rattle.session_words.specs.declared.mode.Mode.{Mode}
 use Rattle.session_words.specs.declared.mode.Mode.TheVariants.{Rescue}
@@ -37,7 +37,7 @@ module _ (functions : Functions)
       own = λ _ _ _. (below, own);
     }
 
-    by_cause : (cause : Unlogged) → AreLeft functions state old new world (answered functions (first_round last world) requests) cause
+    by_cause : (cause : Unlogged) → AreNotAnswered functions state old new world (round_after_requests functions (first_round last world) requests) cause
         → AreRefusedBy functions state old new world last requests (failure_number cause)
     by_cause Full left = record {
       device = λ is. absurd (omega (arith, is));

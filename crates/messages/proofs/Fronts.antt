@@ -24,7 +24,7 @@ use Rattle.messages.specs.declared.request.TheConstants.{ANSWER_BYTES}
 use Rattle.prevalence_store.specs.calls.ExecuteAll.{world_left_after, told_of}
 use Rattle.prevalence_store.specs.calls.Store.{StoreView}
 use Rattle.prevalence_store.specs.meaning.Acceptance.{accepts}
-use Rattle.messages.specs.Answers.{Round, answer_in, answer_to_question, first_round, by_number, cleared, closed, each_request, one_request, with_message, with_old, with_own, wrote_by}
+use Rattle.messages.specs.Answers.{Round, answer_in, answer_to_question, first_round, by_number, without_its_position, with_its_position, each_request, one_request, with_message, with_old, with_own, wrote_by}
 use Rattle.messages.specs.Calls.{AnswersRequests, RefusesOwn, RefusesRequest}
 use Rattle.messages.specs.Fronts.{AnswersFirst, answer_length, first_of, is_full, is_none_left, room_left}
 use Rattle.messages.specs.Position.{position_property}
@@ -37,10 +37,10 @@ told_of_either : (b : Bool) (x y : Round) → x.told ≡ y.told → (if b then x
 told_of_either true x y same = same
 told_of_either false x y same = refl
 
-cleared_told : (round : Round) → (cleared round).told ≡ round.told
+cleared_told : (round : Round) → (without_its_position round).told ≡ round.told
 cleared_told round = told_of_either (is_some (position_property round.left)) (with_own Clearing round) round refl
 
-closed_told : (round : Round) → (closed round).told ≡ round.told
+closed_told : (round : Round) → (with_its_position round).told ≡ round.told
 closed_told round = told_of_either round.wrote (with_own (Position round.last) round) round refl
 
 pub one_longer : (round next : Round) (answer : List ℕ × Bool) → next.told ≡ round.told ++ answer ∷ [] → answer_length next ≡ answer_length round + length answer.0
@@ -67,13 +67,13 @@ room_twice (Some most) n m = ap Some (omega arith)
 module _ (functions : Functions) where
   by_answer : (round : Round) (number : Option ℕ) (text : List ℕ) → (answer : List ℕ × Bool) × ((by_number functions round number text).told ≡ round.told ++ answer ∷ [])
   by_answer round None text =
-      ((answer_to_question functions (cleared round).left text, false), ap (λ ts. ts ++ (answer_to_question functions (cleared round).left text, false) ∷ []) (cleared_told round))
+      ((answer_to_question functions (without_its_position round).left text, false), ap (λ ts. ts ++ (answer_to_question functions (without_its_position round).left text, false) ∷ []) (cleared_told round))
   by_answer round (Some number) text = either (nat_le number round.last) where
     either : (b : Bool) → (answer : List ℕ × Bool) × ((if b then with_old round else with_message functions number text round).told ≡ round.told ++ answer ∷ [])
     either true = (_, refl)
     either false =
-        let given = accepts functions (cleared round).left Current text in
-        ((answer_in (world_left_after (cleared round).left given) (told_of given), wrote_by given), ap (λ ts. ts ++ (answer_in (world_left_after (cleared round).left given) (told_of given), wrote_by given) ∷ []) (cleared_told round))
+        let given = accepts functions (without_its_position round).left Current text in
+        ((answer_in (world_left_after (without_its_position round).left given) (told_of given), wrote_by given), ap (λ ts. ts ++ (answer_in (world_left_after (without_its_position round).left given) (told_of given), wrote_by given) ∷ []) (cleared_told round))
 
   pub one_answer : (round : Round) (request : Request) → (answer : List ℕ × Bool) × ((one_request functions round request).told ≡ round.told ++ answer ∷ [])
   one_answer round request = by_answer round request.number request.text.now

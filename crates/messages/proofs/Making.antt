@@ -31,9 +31,9 @@ use Rattle.prevalence_store.specs.declared.outcome.Outcome.{Outcome}
 use Rattle.session_words.specs.declared.mode.Mode.TheVariants.{Current, Rescue}
 use Rattle.prevalence_store.specs.meaning.Acceptance.{Acceptance, accepts, after, logged, records_of, transacted}
 use Rattle.prevalence_store.specs.calls.ExecuteAll.{logged_entries, world_left_after, told_by, told_of}
-use Rattle.messages.specs.Answers.{Round, answer_in, answer_to_question, after_question, by_number, cleared, given_in, one_request, with_answer, with_asked, with_given, with_message, with_old, with_own, wrote_by}
+use Rattle.messages.specs.Answers.{Round, answer_in, answer_to_question, after_question, by_number, without_its_position, given_in, one_request, with_answer, with_asked, with_given, with_message, with_old, with_own, wrote_by}
 use Rattle.messages.specs.Position.{own_form, own_left, own_text, position_property, with_position, without_position}
-use Rattle.messages.specs.Rounds.{IsMade, IsNeeded, IsOwnForm, round_in, told_in}
+use Rattle.messages.specs.Rounds.{MayBeLogged, IsNeeded, IsOwnForm, round_in, told_in}
 use Rattle.prevalence_store.specs.steps.Batch.{IsNotAdded, entries_in}
 use Rattle.prevalence_store.specs.steps.Group.{IsTurn}
 use Rattle.prevalence_store.proofs.steps.Grouping.{fit_both, one_replayed}
@@ -109,7 +109,7 @@ own_effect names s own d there needed is =
 module _ (functions : Functions) where
   -- ---- one more
 
-  module _ (w : WorldState) (round : Round) (before : IsMade functions w round) where
+  module _ (w : WorldState) (round : Round) (before : MayBeLogged functions w round) where
     entries_made : (entries : List LogRecord) (left : WorldState) → after functions round.left entries ≡ Some left → AllByRecursion IsLogRecord entries
         → (after functions w (round.entries ++ entries) ≡ Some left) × AllByRecursion IsLogRecord (round.entries ++ entries)
     entries_made entries left again fit = (
@@ -117,14 +117,14 @@ module _ (functions : Functions) where
       fit_both round.entries entries before.fit fit,
     )
 
-    pub given_made : (number : ℕ) (text : List ℕ) → IsMade functions w (given_in functions number text round)
+    pub given_made : (number : ℕ) (text : List ℕ) → MayBeLogged functions w (given_in functions number text round)
     given_made number text =
         let one = one_replayed functions Current round.left text in
         let made = entries_made (logged_entries Current (accepts functions round.left Current text)) _ one.again one.fit in
         record { again = made.0; fit = made.1 }
 
     pub own_made : (own : Own) → after functions round.left (logged Rescue (own_text own) ∷ []) ≡ Some (own_left own round.left)
-        → AllByRecursion IsLogRecord (logged Rescue (own_text own) ∷ []) → IsMade functions w (with_own own round)
+        → AllByRecursion IsLogRecord (logged Rescue (own_text own) ∷ []) → MayBeLogged functions w (with_own own round)
     own_made own again fit =
         let made = entries_made (logged Rescue (own_text own) ∷ []) (own_left own round.left) again fit in
         record { again = made.0; fit = made.1 }
@@ -199,12 +199,12 @@ given_round held batch outcome w v given number text kept now both kept_is now_i
     }
 
 -- a question, with its answer
-pub asked_round : (functions : Functions) (held : Held) (before : Round) (u v : WorldState) (asked text : List ℕ) → v ≡ u → text ≡ answer_to_question functions u asked → round_in held u ≡ cleared before
+pub asked_round : (functions : Functions) (held : Held) (before : Round) (u v : WorldState) (asked text : List ℕ) → v ≡ u → text ≡ answer_to_question functions u asked → round_in held u ≡ without_its_position before
     → with_answer text false (round_in held v) ≡ with_asked functions asked before
 asked_round functions held before u v asked text same answer is =
     (λ i. with_answer (answer i) false (round_in held (same i))) ∙ ap (after_question functions asked) is
 
-pub told_made : (functions : Functions) (held : Held) (first u v : WorldState) (text : List ℕ) → v ≡ u → IsMade functions first (round_in held u) → IsMade functions first (with_answer text false (round_in held v))
+pub told_made : (functions : Functions) (held : Held) (first u v : WorldState) (text : List ℕ) → v ≡ u → MayBeLogged functions first (round_in held u) → MayBeLogged functions first (with_answer text false (round_in held v))
 told_made functions held first u v text same made = record { again = made.again ∙ ap Some (sym same); fit = made.fit }
 
 -- a message with an old number

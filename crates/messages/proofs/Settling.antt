@@ -20,10 +20,10 @@ use Rattle.messages.specs.declared.request.Request.{Request}
 use Rattle.messages.specs.declared.round.Round.{Round as Held}
 use Rattle.prevalence_store.specs.calls.Store.{StoreView}
 use Rattle.prevalence_store.specs.meaning.Acceptance.{after}
-use Rattle.messages.specs.Answers.{Round, answered, first_round}
-use Rattle.messages.specs.Calls.{AnswersRequests, AreLeft, Fail, entries_by, left_after}
-use Rattle.messages.specs.Rounds.{IsMade as IsMadeBy, round_in, told_in}
-use Rattle.messages.specs.Turn.{AreReplied, MakesReplies, front, round_of}
+use Rattle.messages.specs.Answers.{Round, round_after_requests, first_round}
+use Rattle.messages.specs.Calls.{AnswersRequests, AreNotAnswered, FailOnDevice, entries_by, left_after}
+use Rattle.messages.specs.Rounds.{MayBeLogged as IsMadeBy, round_in, told_in}
+use Rattle.messages.specs.Turn.{AreReplied, MakesReplies, front_requests, round_of}
 use Rattle.prevalence_store.specs.steps.Batch.{FailsBatch, IsEmpty, StoresBatch, entries_in, entries_of}
 use Rattle.prevalence_store.specs.steps.Failure.{failure_number, is_device_failure}
 use Rattle.prevalence_store.specs.steps.Together.{IsMade, IsNotMade}
@@ -82,7 +82,7 @@ module _ (functions : Functions) (turn : FirstRequests) (w : WorldState) where
     needed = entries_by round.wrote round.entries
 
     pub replies_logged : (made : Result Replies ℕ) → IsMade functions state old new w (λ left records. MakesReplies functions turn w left records made)
-        → AnswersRequests functions state old new w turn.last (front functions turn w) made
+        → AnswersRequests functions state old new w turn.last (front_requests functions turn w) made
     replies_logged (Ok replies) logged =
         let is = logged.makes in
         let stores : StoresBatch functions state old new w (left_after round.wrote w round.left) needed =
@@ -104,7 +104,7 @@ module _ (functions : Functions) (turn : FirstRequests) (w : WorldState) where
     made_again true some again = again
     made_again false some again = absurd (omega (arith, some))
 
-    failed_in : (left : WorldState) (records : List LogRecord) (made : Result Replies ℕ) → MakesReplies functions turn w left records made → FailsBatch functions state old new w left records → Fail functions state old new w round
+    failed_in : (left : WorldState) (records : List LogRecord) (made : Result Replies ℕ) → MakesReplies functions turn w left records made → FailsBatch functions state old new w left records → FailOnDevice functions state old new w round
     failed_in left records (Ok replies) is fails =
         let moved : FailsBatch functions state old new w left needed = subst (λ (es : List LogRecord). FailsBatch functions state old new w left es) is.records_are fails in
         record {
@@ -118,7 +118,7 @@ module _ (functions : Functions) (turn : FirstRequests) (w : WorldState) where
     failed_in left records (Err number) is fails = absurd (omega (arith, fails.some, ap length is.2))
 
     left_by : (cause : Unlogged) → IsNotMade functions state old new w (λ left records. (made : Result Replies ℕ) × MakesReplies functions turn w left records made) cause
-        → AreLeft functions state old new w round cause
+        → AreNotAnswered functions state old new w round cause
     left_by OutOfMemory unmade = record { unchanged = unmade.unchanged; full = λ full. absurd (cc); stopped = λ device. absurd (cc) }
     left_by Full unmade =
         let room = unmade.full refl in
@@ -128,17 +128,17 @@ module _ (functions : Functions) (turn : FirstRequests) (w : WorldState) where
         record { unchanged = λ calm. absurd (cc); full = λ full. absurd (cc); stopped = λ _. failed_in stopped.left stopped.records stopped.makes.0 stopped.makes.1 stopped.fails }
 
     pub replies_unlogged : (cause : Unlogged) → IsNotMade functions state old new w (λ left records. (made : Result Replies ℕ) × MakesReplies functions turn w left records made) cause
-        → AnswersRequests functions state old new w turn.last (front functions turn w) (Err (failure_number cause))
+        → AnswersRequests functions state old new w turn.last (front_requests functions turn w) (Err (failure_number cause))
     replies_unlogged cause unmade = inr (cause, refl, left_by cause unmade)
 
 -- requests that are not answered leave the store as it is, or the device failed
 module _ (functions : Functions) {D R : Type 0} (state : D → State) (old new : StoreView D R) (w : WorldState) (last : ℕ) (requests : List Request) where
-  by_device : (cause : Unlogged) (failed : Bool) → is_device_failure cause ≡ failed → AreLeft functions state old new w (answered functions (first_round last w) requests) cause
-      → (new ≡ old) ⊎ Fail functions state old new w (answered functions (first_round last w) requests)
+  by_device : (cause : Unlogged) (failed : Bool) → is_device_failure cause ≡ failed → AreNotAnswered functions state old new w (round_after_requests functions (first_round last w) requests) cause
+      → (new ≡ old) ⊎ FailOnDevice functions state old new w (round_after_requests functions (first_round last w) requests)
   by_device cause false calm left = inl (left.unchanged calm)
   by_device cause true device left = inr (left.stopped device)
 
   pub unchanged_or_failed : (number : ℕ) → AnswersRequests functions state old new w last requests (Err number)
-      → (new ≡ old) ⊎ Fail functions state old new w (answered functions (first_round last w) requests)
+      → (new ≡ old) ⊎ FailOnDevice functions state old new w (round_after_requests functions (first_round last w) requests)
   unchanged_or_failed number (inl own) = inl own.1
   unchanged_or_failed number (inr unlogged) = by_device unlogged.0 (is_device_failure unlogged.0) refl unlogged.2

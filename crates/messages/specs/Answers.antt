@@ -27,6 +27,7 @@ use Rattle.user_macros.specs.Functions.{Functions}
 abbrev pub printed_value : WorldState → Object → List ℕ
 printed_value world x = printed world.packages world.current_package x
 
+-- an exclamation mark, the number of a refusal, and its name
 abbrev pub refusal_text : ℕ → List ℕ → List ℕ
 refusal_text number name = codes "! " ++ decimal number ++ 32 ∷ name
 
@@ -44,6 +45,7 @@ abbrev pub answer_to_asked : Evaluation Object → List ℕ
 answer_to_asked (Ok done) = if done.wrote then refusal_text QUESTION_WRITES (codes "QUESTION-WRITES") else printed_value done.state done.value
 answer_to_asked (Err number) = refusal_answer number
 
+-- by what was read: a text without a form is refused, and one with more after it
 abbrev pub answer_by_reading : Functions → WorldState → List ℕ → Reading → List ℕ
 answer_by_reading functions world text (form object start end next) =
     if next == length text then answer_to_asked (questioned functions.names world object) else refusal_answer TEXT_LEFT_OVER
@@ -78,8 +80,8 @@ abbrev pub with_own : Own → Round → Round
 with_own own round = record round { left = own_left own round.left; entries = round.entries ++ logged Rescue (own_text own) ∷ [] }
 
 -- without the position
-abbrev pub cleared : Round → Round
-cleared round = if is_some (position_property round.left) then with_own Clearing round else round
+abbrev pub without_its_position : Round → Round
+without_its_position round = if is_some (position_property round.left) then with_own Clearing round else round
 
 -- whether a text that gave this wrote
 abbrev pub wrote_by : Result Acceptance ℕ → Bool
@@ -100,34 +102,39 @@ with_given number given round = record {
 abbrev pub given_in : Functions → ℕ → List ℕ → Round → Round
 given_in functions number text round = with_given number (accepts functions round.left Current text) round
 
+-- a message, which is carried out in a world without the position
 abbrev pub with_message : Functions → ℕ → List ℕ → Round → Round
-with_message functions number text round = given_in functions number text (cleared round)
+with_message functions number text round = given_in functions number text (without_its_position round)
 
--- so is a question asked
+-- a question is asked in the world as it stands, which stays
 abbrev pub after_question : Functions → List ℕ → Round → Round
 after_question functions text round = with_answer (answer_to_question functions round.left text) false round
 
+-- a question, which is asked in a world without the position
 abbrev pub with_asked : Functions → List ℕ → Round → Round
-with_asked functions text round = after_question functions text (cleared round)
+with_asked functions text round = after_question functions text (without_its_position round)
 
 -- a message whose number is not over the last one is refused, and does nothing
 abbrev pub with_old : Round → Round
 with_old round = with_answer (refusal_text OLD_NUMBER (codes "OLD-NUMBER")) false round
 
+-- a question has no number; a message is carried out if its number is over the last one, and else refused
 abbrev pub by_number : Functions → Round → Option ℕ → List ℕ → Round
 by_number functions round None text = with_asked functions text round
 by_number functions round (Some number) text = if nat_le number round.last then with_old round else with_message functions number text round
 
+-- one request more
 abbrev pub one_request : Functions → Round → Request → Round
 one_request functions round request = by_number functions round request.number request.text.now
 
+-- these requests more, one after the other
 abbrev pub each_request : Functions → Round → List Request → Round
 each_request functions round requests = fold (λ far request. one_request functions far request) round requests
 
 -- The number of the last message becomes the position, if a message wrote.
-abbrev pub closed : Round → Round
-closed round = if round.wrote then with_own (Position round.last) round else round
+abbrev pub with_its_position : Round → Round
+with_its_position round = if round.wrote then with_own (Position round.last) round else round
 
 -- requests after these
-abbrev pub answered : Functions → Round → List Request → Round
-answered functions round requests = closed (each_request functions round requests)
+abbrev pub round_after_requests : Functions → Round → List Request → Round
+round_after_requests functions round requests = with_its_position (each_request functions round requests)

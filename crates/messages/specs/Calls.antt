@@ -22,7 +22,7 @@ use Rattle.prevalence_store.specs.calls.Execute.{DeviceFails, Executes, IsAccept
 use Rattle.prevalence_store.specs.calls.ExecuteAll.{AllOrNone, LogsAll}
 use Rattle.prevalence_store.specs.calls.Store.{StoreView}
 use Rattle.prevalence_store.specs.meaning.Acceptance.{accepts, after, read_in}
-use Rattle.messages.specs.Answers.{Round, answered, first_round, each_request}
+use Rattle.messages.specs.Answers.{Round, round_after_requests, first_round, each_request}
 use Rattle.messages.specs.Position.{is_hidden, own_form, own_text, position, position_property}
 use Rattle.messages.specs.Rounds.{told_in}
 use Rattle.prevalence_store.specs.steps.Failure.{failure_number, is_device_failure}
@@ -33,6 +33,7 @@ abbrev pub entries_by : Bool → List LogRecord → List LogRecord
 entries_by true entries = entries
 entries_by false entries = []
 
+-- the world after requests of which a message wrote, else the one before them
 abbrev pub left_after : Bool → WorldState → WorldState → WorldState
 left_after true world left = left
 left_after false world left = world
@@ -73,12 +74,13 @@ RefusesOwn functions first requests number =
     ⊎ IsNotClosed functions (each_request functions first requests) number
 
 module _ (functions : Functions) {D R : Type 0} (state : D → State) (old new : StoreView D R) (world : WorldState) (round : Round) where
+  -- what the requests leave in the log
   abbrev pub records : List LogRecord
   records = entries_by round.wrote round.entries
 
   -- The requests have these answers, and what came of them was logged together, with the position. Where no message wrote, all is as
   -- it was, the disk too.
-  pub record AreAnswered (replies : Replies) : Type 0 where
+  pub record AreAnsweredAndLogged (replies : Replies) : Type 0 where
     pub told : map told_in replies.answers.items ≡ round.told
     pub last : replies.last ≡ round.last
     pub logs : LogsAll state old new records (left_after round.wrote world round.left)
@@ -86,7 +88,7 @@ module _ (functions : Functions) {D R : Type 0} (state : D → State) (old new :
     pub all_or_none : AllOrNone functions state old new world records
 
   -- the device failed as it was logged, for which there was room: all of it may be in the file, or nothing
-  pub record Fail : Type 0 where
+  pub record FailOnDevice : Type 0 where
     pub again : after functions world records ≡ Some round.left
     pub some : 0 < length records
     pub fits : old.size + length (flat_map open_record records) ≤ old.limit
@@ -95,18 +97,18 @@ module _ (functions : Functions) {D R : Type 0} (state : D → State) (old new :
     pub all_or_none : AllOrNone functions state old new world records
 
   -- They were not logged, and this is why. Unless the device failed all is as it was.
-  pub record AreLeft (cause : Unlogged) : Type 0 where
+  pub record AreNotAnswered (cause : Unlogged) : Type 0 where
     pub unchanged : is_device_failure cause ≡ false → new ≡ old
     pub full : cause ≡ Full → (0 < length records) × (old.limit < old.size + length (flat_map open_record records))
-    pub stopped : is_device_failure cause ≡ true → Fail
+    pub stopped : is_device_failure cause ≡ true → FailOnDevice
 
 module _ (functions : Functions) {D R : Type 0} (state : D → State) (old new : StoreView D R) (world : WorldState) where
   -- What `answer_requests` answers, each answer with its cause: a form of the store's own is refused, or what they need is not logged.
   abbrev pub AnswersRequests : ℕ → List Request → Result Replies ℕ → Type 0
-  AnswersRequests last requests (Ok replies) = AreAnswered functions state old new world (answered functions (first_round last world) requests) replies
+  AnswersRequests last requests (Ok replies) = AreAnsweredAndLogged functions state old new world (round_after_requests functions (first_round last world) requests) replies
   AnswersRequests last requests (Err number) =
       (RefusesOwn functions (first_round last world) requests number × (new ≡ old))
-      ⊎ ((cause : Unlogged) × (number ≡ failure_number cause) × AreLeft functions state old new world (answered functions (first_round last world) requests) cause)
+      ⊎ ((cause : Unlogged) × (number ≡ failure_number cause) × AreNotAnswered functions state old new world (round_after_requests functions (first_round last world) requests) cause)
 
   -- the form that sets the position to 0 was accepted, and logged if it wrote
   abbrev pub SetsFirst : Type 0

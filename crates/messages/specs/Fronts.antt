@@ -42,6 +42,7 @@ abbrev pub room_left : Option ℕ → ℕ → Option ℕ
 room_left None bytes = None
 room_left (Some left) bytes = Some (left - bytes)
 
+-- whether there is a room, and nothing of it is left
 abbrev pub is_none_left : Option ℕ → Bool
 is_none_left None = false
 is_none_left (Some left) = left == 0

@@ -15,6 +15,7 @@ use Rattle.messages.specs.declared.own.Own.TheVariants.{Clearing, Position}
 abbrev pub position_symbol : Symbol
 position_symbol = (common_lisp_user, codes "position")
 
+-- the value of that property, if it is there
 abbrev pub position_property : WorldState → Option Object
 position_property world = property world position_symbol position_symbol
 
@@ -23,6 +24,7 @@ abbrev pub number_of_object : Object → Option ℕ
 number_of_object (integer (pos n)) = if nat_lt n (2 ^ 64) then Some n else None
 number_of_object _ = None
 
+-- the number of the last message, if the property is a number of 64 bits
 abbrev pub position : WorldState → Option ℕ
 position world = option_and_then number_of_object (position_property world)
 
@@ -36,18 +38,22 @@ is_of_another (Err error) = false
 abbrev pub is_hidden : WorldState → Bool
 is_hidden world = is_of_another (resolution world.packages common_lisp_user (codes "position"))
 
+-- the world after the position was taken out
 abbrev pub without_position : WorldState → WorldState
 without_position world = without_property world position_symbol position_symbol
 
+-- the world after the position was put in
 abbrev pub with_position : ℕ → WorldState → WorldState
 with_position n world = with_property world position_symbol position_symbol (integer (pos n))
 
 -- ---- the store's own forms, which are read in Rescue
 
+-- the texts of the store's own forms, as they stand in the log
 abbrev pub own_text : Own → List ℕ
 own_text Clearing = codes "(REMPROP '|position| '|position|)"
 own_text (Position n) = codes "(SETF (GET '|position| '|position|) " ++ decimal n ++ codes ")"
 
+-- the world after such a form
 abbrev pub own_left : Own → WorldState → WorldState
 own_left Clearing world = without_position world
 own_left (Position n) world = with_position n world
@@ -56,6 +62,7 @@ own_left (Position n) world = with_position n world
 abbrev pub quoted_position : Object
 quoted_position = pair (symbol common_lisp (codes "QUOTE")) (pair (symbol common_lisp_user (codes "position")) nil)
 
+-- the forms that these texts are
 abbrev pub own_form : Own → Object
 own_form Clearing = pair (symbol common_lisp (codes "REMPROP")) (pair quoted_position (pair quoted_position nil))
 own_form (Position n) =

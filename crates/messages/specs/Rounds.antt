@@ -24,6 +24,7 @@ use Rattle.messages.specs.Position.{own_form, own_text, position_property}
 use Rattle.prevalence_store.specs.steps.Batch.{entries_in}
 use Rattle.user_macros.specs.Functions.{Functions}
 
+-- the text of an answer, and whether its message wrote
 abbrev pub told_in : Answer → List ℕ × Bool
 told_in answer = (answer.text.items, answer.wrote)
 
@@ -38,13 +39,13 @@ round_in held world = record {
 }
 
 -- its records make the world after it, from this one on, and fit the log
-pub record IsMade (functions : Functions) (first : WorldState) (round : Round) : Type 0 where
+pub record MayBeLogged (functions : Functions) (first : WorldState) (round : Round) : Type 0 where
   pub again : after functions first round.entries ≡ Some round.left
   pub fit : AllByRecursion IsLogRecord round.entries
 
--- so do those of a later round, if these do
+-- if the records of a round may be logged, those of the later one may be
 abbrev pub StaysMade : Functions → Round → Round → Type 0
-StaysMade functions before later = (first : WorldState) → IsMade functions first before → IsMade functions first later
+StaysMade functions before later = (first : WorldState) → MayBeLogged functions first before → MayBeLogged functions first later
 
 -- what holds of the number, if this is a refusal
 abbrev pub IfRefused : Unadded → (ℕ → Type 0) → Type 0
@@ -62,9 +63,11 @@ IsNeeded (Position n) world = Unit {0}
 abbrev pub call_datum : List ℕ → List Datum → Datum
 call_datum operator arguments = datum.List (datum.Symbol common_lisp operator ∷ arguments) None
 
+-- the position's symbol, quoted
 abbrev pub quoted_datum : Datum
 quoted_datum = call_datum (codes "QUOTE") (datum.Symbol common_lisp_user (codes "position") ∷ [])
 
+-- a form of the store's own, as a datum
 abbrev pub own_datum : Own → Datum
 own_datum Clearing = call_datum (codes "REMPROP") (quoted_datum ∷ quoted_datum ∷ [])
 own_datum (Position n) = call_datum (codes "SETF") (call_datum (codes "GET") (quoted_datum ∷ quoted_datum ∷ []) ∷ datum.Integer (pos n) ∷ [])

@@ -1,7 +1,7 @@
 // The first of some requests, answered until their answers have so many bytes.
 ghost use Rattle.std.specs.Prelude.{◌≡◌, ℕ, Bool, List, [], ◌∷◌, ◌++◌, false, length, map, IfErr, OnOk};
 ghost use Rattle.plist_state.specs.State.{Worlds};
-ghost use Rattle.messages.specs.Answers.{answered, closed, each_request};
+ghost use Rattle.messages.specs.Answers.{round_after_requests, with_its_position, each_request};
 ghost use Rattle.messages.specs.Calls.{IsNotClosed, RefusesOwn};
 ghost use Rattle.messages.specs.Fronts.{first_of, is_none_left, room_left};
 ghost use Rattle.messages.specs.Rounds.{IfRefused, StaysMade, round_in, told_in};
@@ -26,9 +26,10 @@ impl Round {
     ) -> Result<(), Unadded>
         requires none { (round_in self.old world.old.0).told ≡ [] }
         ensures answered { OnOk result (round_in self.new world.new.0
-            ≡ answered R.Meaning.functions (round_in self.old world.old.0)
+            ≡ round_after_requests R.Meaning.functions (round_in self.old world.old.0)
             (first_of R.Meaning.functions most (round_in self.old world.old.0) requests.now)) }
-        ensures made { OnOk result (StaysMade R.Meaning.functions (round_in self.old world.old.0) (round_in self.new world.new.0)) }
+        ensures made { OnOk result
+            (StaysMade R.Meaning.functions (round_in self.old world.old.0) (round_in self.new world.new.0)) }
         ensures refused { IfErr result (λ cause. IfRefused cause
             (RefusesOwn R.Meaning.functions (round_in self.old world.old.0) (first_of R.Meaning.functions most (round_in self.old world.old.0) requests.now))) }
         ensures marks { (worlds : Worlds) → IsMarked worlds world.old.1
@@ -52,7 +53,8 @@ impl Round {
         ensures answered { OnOk result (round_in self.new world.new.0
             ≡ each_request R.Meaning.functions (round_in self.old world.old.0)
             (first_of R.Meaning.functions most (round_in self.old world.old.0) requests.now)) }
-        ensures made { OnOk result (StaysMade R.Meaning.functions (round_in self.old world.old.0) (round_in self.new world.new.0)) }
+        ensures made { OnOk result
+            (StaysMade R.Meaning.functions (round_in self.old world.old.0) (round_in self.new world.new.0)) }
         ensures refused { IfErr result (λ cause. IfRefused cause
             (RefusesOwn R.Meaning.functions (round_in self.old world.old.0) (first_of R.Meaning.functions most (round_in self.old world.old.0) requests.now))) }
         ensures marks { (worlds : Worlds) → IsMarked worlds world.old.1
@@ -74,7 +76,8 @@ impl Round {
 
     // How many bytes the last answer has.
     fn last_length(&self) -> usize
-        ensures { (told : List (List ℕ × Bool)) (answer : List ℕ × Bool) → map told_in self.now.answers.items ≡ told ++ answer ∷ []
+        ensures { (told : List (List ℕ × Bool)) (answer : List ℕ × Bool)
+            → map told_in self.now.answers.items ≡ told ++ answer ∷ []
             → result ≡ length answer.0 }
     {
         match self.answers.as_slice().last() {
@@ -90,8 +93,10 @@ impl Round {
         world: &mut World,
         macros: &WholeMacros<R>,
     ) -> Result<(), Unadded>
-        ensures closed { OnOk result (round_in self.new world.new.0 ≡ closed (round_in self.old world.old.0)) }
-        ensures made { OnOk result (StaysMade R.Meaning.functions (round_in self.old world.old.0) (round_in self.new world.new.0)) }
+        ensures closed { OnOk result (round_in self.new world.new.0
+            ≡ with_its_position (round_in self.old world.old.0)) }
+        ensures made { OnOk result
+            (StaysMade R.Meaning.functions (round_in self.old world.old.0) (round_in self.new world.new.0)) }
         ensures refused { IfErr result (λ cause. IfRefused cause
             (IsNotClosed R.Meaning.functions (round_in self.old world.old.0))) }
         ensures marks { (worlds : Worlds) → IsMarked worlds world.old.1

@@ -18,7 +18,7 @@ pub(crate) struct PositionPlace {
 
 impl Model for PositionPlace {
     ghost use Rattle.std.specs.Prelude.{◌≡◌};
-    ghost use Rattle.plist_state.specs.Shown.{symbol_of};
+    ghost use Rattle.plist_state.specs.Views.{symbol_of};
     ghost use Rattle.messages.specs.Position.{position_symbol};
 
     ghost Value = { Unit {0} };

@@ -9,7 +9,7 @@ use Rattle.std.specs.List.{list_any}
 use Rattle.std.proofs.lemmas.List.{length_push, take_all, take-take, take-append-le}
 use Rattle.package_sets.specs.declared.sizes.Sizes.{Sizes}
 use Rattle.package_sets.specs.Kept.{Kept, Name, cut, sizes_of, pair_at, AreUpTo}
-use Rattle.package_sets.specs.Changes.{with_name, number_among, with_package, with_symbol, with_import, with_external, with_use}
+use Rattle.package_sets.specs.Changes.{with_name, number_among, with_package, with_symbol, with_import, with_external_number, with_use}
 
 pub cut_itself : (k : Kept) → length k.imported ≡ length k.imports → cut (sizes_of k) k ≡ k
 cut_itself k as_many = λ i. record {
@@ -66,7 +66,7 @@ module _ (n : Sizes) (k : Kept) (less : AreUpTo n (sizes_of k)) where
     imported = take-append-le n.imports k.imported (s ∷ []) (omega (arith, less.imports, as_many)) i;
   }
 
-  pub cut_external : (p s : ℕ) → cut n (with_external k p s) ≡ cut n k
+  pub cut_external : (p s : ℕ) → cut n (with_external_number k p s) ≡ cut n k
   cut_external p s = λ i. record (cut n k) { externals = take-append-le n.externals k.externals ((p, s) ∷ []) less.externals i }
 
   pub cut_use : (p q : ℕ) → cut n (with_use k p q) ≡ cut n k
@@ -106,7 +106,7 @@ module _ (n : Sizes) (k : Kept) (less : AreUpTo n (sizes_of k)) where
     uses = less.uses;
   }
 
-  pub up_to_external : (p s : ℕ) → AreUpTo n (sizes_of (with_external k p s))
+  pub up_to_external : (p s : ℕ) → AreUpTo n (sizes_of (with_external_number k p s))
   up_to_external p s = record {
     names = less.names;
     packages = less.packages;

@@ -8,8 +8,8 @@ use Rattle.std.proofs.lemmas.List.{length_push, get_or_append_left, get_or_push,
 use Rattle.std.proofs.Math.Seq.{take-append_seam}
 use Rattle.std.proofs.lemmas.Map.Keys.{IsDistinct-push}
 use Rattle.package_sets.specs.Kept.{Kept, Name, nothing, pair_at, pair_eq}
-use Rattle.package_sets.specs.Good.{AreDistinctNames, AreDistinctPairs, AreWithin, IsGood, IsImportedByName}
-use Rattle.package_sets.specs.Changes.{with_name, number_among, symbol_named, with_package, with_symbol, with_import, with_external, with_use}
+use Rattle.package_sets.specs.Consistent.{AreDistinctNames, AreDistinctPairs, AreWithin, IsGood, IsImportedByName}
+use Rattle.package_sets.specs.Changes.{with_name, number_among, symbol_named, with_package, with_symbol, with_import, with_external_number, with_use}
 use Rattle.package_sets.proofs.Places.{none_any, any_none, any_some, any_is_within, none_is_length, all_at, all_push, all_weaker}
 
 pub pair_equiv : IsEquivalence pair_eq
@@ -196,7 +196,7 @@ module _ (k : Kept) (good : IsGood k) where
           ap (λ (j : ℕ). (pair_at k.symbols j).1) (get_or_push k.imported s 0 i (good.as_many ∙ last))
           ∙ sym (ap (λ (q : ℕ × ℕ). q.1) (get_or_push k.imports (p, (pair_at k.symbols s).1) (0, 0) i last))
 
-  pub good_external : (p s : ℕ) → p < length k.packages → s < length k.symbols → position (pair_eq (p, s)) k.externals ≡ None → IsGood (with_external k p s)
+  pub good_external : (p s : ℕ) → p < length k.packages → s < length k.symbols → position (pair_eq (p, s)) k.externals ≡ None → IsGood (with_external_number k p s)
   good_external p s inside there none = record {
     distinct = record {
       names = good.distinct.names;

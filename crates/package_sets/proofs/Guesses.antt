@@ -5,7 +5,7 @@ use Rattle.std.specs.Cmp.Lexicographic.{bytes_decides}
 use Rattle.std.proofs.lemmas.Bool.{false≢true}
 use Rattle.std.proofs.lemmas.Map.Keys.{apart_from_distinct}
 use Rattle.package_sets.specs.Kept.{Name, name_at}
-use Rattle.package_sets.specs.Good.{AreDistinctNames}
+use Rattle.package_sets.specs.Consistent.{AreDistinctNames}
 use Rattle.package_sets.proofs.Places.{position_is}
 
 -- names that are distinct have a name at one place

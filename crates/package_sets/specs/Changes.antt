@@ -35,8 +35,8 @@ with_import k p s = record k {
 }
 
 -- where the symbol of number s is external in p
-abbrev pub with_external : Kept → ℕ → ℕ → Kept
-with_external k p s = record k { externals = k.externals ++ (p, s) ∷ [] }
+abbrev pub with_external_number : Kept → ℕ → ℕ → Kept
+with_external_number k p s = record k { externals = k.externals ++ (p, s) ∷ [] }
 
 -- where p uses q
 abbrev pub with_use : Kept → ℕ → ℕ → Kept

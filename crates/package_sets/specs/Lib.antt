@@ -1,7 +1,7 @@
 pub mod Chained
 pub mod Changes
-pub mod Good
+pub mod Consistent
 pub mod Groups
 pub mod Inherited
 pub mod Kept
-pub mod Shown
+pub mod Views

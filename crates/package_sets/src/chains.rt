@@ -122,8 +122,10 @@ impl Chains {
     /// Keeps the first `len` places of what is external. Takes no memory, and time in proportion to what goes.
     pub(crate) fn truncate(&mut self, symbols: &Symbols, externals: &Pairs, len: u32)
         requires within { AllByRecursion (λ e. e.1 < length symbols.now) externals.now }
-        requires chained { AreChained (external_name symbols.now externals.now) (length externals.now) self.old }
-        ensures { AreChained (external_name symbols.now externals.now) (length (take len externals.now)) self.new }
+        requires chained { AreChained (external_name symbols.now externals.now)
+            (length externals.now) self.old }
+        ensures { AreChained (external_name symbols.now externals.now)
+            (length (take len externals.now)) self.new }
     {
         let mut kept = externals.len();
         while kept > len {

@@ -1,7 +1,7 @@
 //! What is added. After a call that fails nothing has changed.
 ghost use Rattle.std.specs.Prelude.{◌≡◌, ◌<◌, length, position, bytes_eq, None, IfOk, OnOk, OnErr};
 ghost use Rattle.package_sets.specs.Kept.{pair_at, pair_eq};
-ghost use Rattle.package_sets.specs.Changes.{symbol_named, with_external, with_import, with_package, with_symbol, with_use};
+ghost use Rattle.package_sets.specs.Changes.{symbol_named, with_external_number, with_import, with_package, with_symbol, with_use};
 
 use crate::PackageSets;
 use std::alloc::AllocError;
@@ -58,7 +58,7 @@ impl PackageSets {
         requires owner { owner < length self.old.packages }
         requires symbol { symbol < length self.old.symbols }
         requires absent { position (pair_eq (owner, symbol)) self.old.externals ≡ None }
-        ensures ok { OnOk result (self.new ≡ with_external self.old owner symbol) }
+        ensures ok { OnOk result (self.new ≡ with_external_number self.old owner symbol) }
         ensures err { OnErr result (self.new ≡ self.old) }
     {
         let name = self.symbols.at(symbol).second;

@@ -1,7 +1,7 @@
 //! Each name once, numbered by its position.
 ghost use Rattle.std.specs.Prelude.{◌≡◌, ◌<◌, ◌++◌, ◌∷◌, [], length, take, position, bytes_eq, None, IfOk, IfSome, OnOk, OnErr};
 ghost use Rattle.package_sets.specs.Kept.{name_at};
-ghost use Rattle.package_sets.specs.Good.{AreDistinctNames};
+ghost use Rattle.package_sets.specs.Consistent.{AreDistinctNames};
 ghost use Rattle.package_sets.specs.Changes.{number_among, with_name};
 
 use crate::Seed;

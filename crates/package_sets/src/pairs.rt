@@ -1,7 +1,7 @@
 //! Each pair once, numbered by its position, and the positions of the pairs of each first number.
 ghost use Rattle.std.specs.Prelude.{◌≡◌, ◌-◌, ◌<◌, ◌++◌, ◌∷◌, [], length, take, position, None, IfOk, OnOk, OnErr};
 ghost use Rattle.package_sets.specs.Kept.{pair_at, pair_eq, positions_of};
-ghost use Rattle.package_sets.specs.Good.{AreDistinctPairs};
+ghost use Rattle.package_sets.specs.Consistent.{AreDistinctPairs};
 ghost use Rattle.package_sets.specs.Groups.{pair_of, HaveSameGroups, IsInGroup};
 
 use crate::{Pair, Seed};

@@ -11,7 +11,7 @@ pub struct Seed {
 }
 
 impl Seed {
-    /// The seed of two words.
+    /// A seed of the hashes of names, made of two words.
     pub fn new(first: u64, second: u64) -> Seed {
         let mut start = DefaultHasher::new();
         start.write_u64(first);

@@ -1,7 +1,7 @@
 //! What is kept of the packages.
 ghost use Rattle.std.specs.Prelude.{◌≡◌, length, IfOk};
 ghost use Rattle.package_sets.specs.Kept.{cut, nothing, sizes_of};
-ghost use Rattle.package_sets.specs.Good.{IsGood};
+ghost use Rattle.package_sets.specs.Consistent.{IsGood};
 ghost use Rattle.package_sets.specs.Chained.{external_name, AreChained};
 
 use crate::chains::Chains;
@@ -48,7 +48,7 @@ impl Model for PackageSets {
 
     ghost coded = { kept_code };
 
-    ghost use Rattle.package_sets.specs.Shown.{kept_of, HasKeptSets};
+    ghost use Rattle.package_sets.specs.Views.{kept_of, HasKeptSets};
 
     ghost view = { kept_of };
 
@@ -90,7 +90,8 @@ impl PackageSets {
         chains: Chains,
     ) -> Result<PackageSets, AllocError>
         requires imported { imported.items ≡ self.now.imported }
-        requires chained { AreChained (external_name self.now.symbols self.now.externals) (length self.now.externals) chains }
+        requires chained { AreChained (external_name self.now.symbols self.now.externals)
+            (length self.now.externals) chains }
         ensures { IfOk result (λ sets. sets ≡ self.now) }
     {
         let names = self.names.copy()?;

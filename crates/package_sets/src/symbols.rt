@@ -1,7 +1,7 @@
 //! Symbols: pairs of a home and a name, each once, which are looked for among those of the name first.
 ghost use Rattle.std.specs.Prelude.{◌≡◌, ◌<◌, ◌++◌, ◌∷◌, [], length, take, position, None, IfOk, OnOk, OnErr};
 ghost use Rattle.package_sets.specs.Kept.{pair_at, pair_eq, positions_of};
-ghost use Rattle.package_sets.specs.Good.{AreDistinctPairs};
+ghost use Rattle.package_sets.specs.Consistent.{AreDistinctPairs};
 ghost use Rattle.package_sets.specs.Groups.{pair_of};
 
 use crate::chains::Chains;

@@ -8,11 +8,11 @@ use Rattle.std.specs.Option.{option_or, option_map_or}
 use Rattle.std.specs.List.{IsDistinct}
 use Rattle.std.specs.FinMap as finite
 use Rattle.package_sets.specs.Kept.{Kept, import_of, name_at, pair_at, pair_eq}
-use Rattle.package_sets.specs.Good.{IsGood}
-use Rattle.package_sets.specs.Changes.{with_external, with_import, with_package, with_use}
+use Rattle.package_sets.specs.Consistent.{IsGood}
+use Rattle.package_sets.specs.Changes.{with_external_number, with_import, with_package, with_use}
 use Rattle.package_table.specs.Table.{Name, Present, Package, empty_package}
 use Rattle.package_table.specs.Numbers.{with_numbered, with_used_package as with_used_number, with_package_made}
-use Rattle.package_table.specs.Meaning.{map_by, number_in, is_shown_in, present_in, package_in, numbers_in, table_of, all_numbers_of, numbered_of}
+use Rattle.package_table.specs.Meaning.{map_by, number_in, is_shown_in, present_in, package_of_number, numbers_in, table_of, all_numbers_of, numbered_of}
 use Rattle.package_table.proofs.Names.{none_some}
 use Rattle.package_table.proofs.Mapped.{position_push, named, got_at, put, more, more_put, none_by}
 use Rattle.package_table.proofs.Meant.{IsKnown, known, unknown, same_pair, other_pair, pair_there, entry_put, home_fits}
@@ -56,7 +56,7 @@ module _ (k : Kept) (good : IsGood k) (N : Name) (new : position (bytes_eq N) k.
   pub name_added : numbered_of (record k { names = k.names ++ N ∷ [] }) ≡ numbered_of k
   unfolding numbered_of
   name_added = λ t. (
-    map_by k.packages (λ p. Some (record { symbols = symbols_same p t; uses = (package_in k p).uses })),
+    map_by k.packages (λ p. Some (record { symbols = symbols_same p t; uses = (package_of_number k p).uses })),
     map_by k.packages (λ p. Some (numbers_same p t)),
   )
     where
@@ -168,19 +168,19 @@ module _ (k : Kept) (good : IsGood k) (P N : Name) (p j i : ℕ) (here : positio
         | None ↦ ap (λ b. is_some (cond b (Some (length ps)) None)) (same_pair a)
       ]
 
-  others_shown : (q x : ℕ) → (q ≢ p) ⊎ (x ≢ i) → present_in (with_external k p i) q x ≡ present_in k q x
+  others_shown : (q x : ℕ) → (q ≢ p) ⊎ (x ≢ i) → present_in (with_external_number k p i) q x ≡ present_in k q x
   others_shown q x apart = ap (λ o. record { home = name_at k.packages (pair_at k.symbols x).0; external = nat_lt q 2 || is_some o }) (other_push k.externals (q, x) (p, i) (other_pair (q, x) (p, i) apart))
 
-  pub external_added : numbered_of (with_external k p i) ≡ with_numbered (numbered_of k) P N (record { home = name_at k.packages (pair_at k.symbols i).0; external = true }) i
+  pub external_added : numbered_of (with_external_number k p i) ≡ with_numbered (numbered_of k) P N (record { home = name_at k.packages (pair_at k.symbols i).0; external = true }) i
   unfolding numbered_of
   external_added = entry_put k good.distinct.names good.distinct.packages P N p j here there (record { home = name_at k.packages (pair_at k.symbols i).0; external = true }) i
-      (number_in k) (present_in (with_external k p i))
-      (λ q m apart. seen_alike k good q m (present_in (with_external k p i) q) (present_in k q) (λ x is_x. others_shown q x (elsewhere q m x apart is_x)))
+      (number_in k) (present_in (with_external_number k p i))
+      (λ q m apart. seen_alike k good q m (present_in (with_external_number k p i) q) (present_in k q) (λ x is_x. others_shown q x (elsewhere q m x apart is_x)))
       (λ q m apart. refl)
-      (ap (option_map (present_in (with_external k p i) p)) is ∙ ap Some (λ t. record { home = name_at k.packages (pair_at k.symbols i).0; external = now_shown t }))
+      (ap (option_map (present_in (with_external_number k p i) p)) is ∙ ap Some (λ t. record { home = name_at k.packages (pair_at k.symbols i).0; external = now_shown t }))
       is
     where
-      now_shown : is_shown_in (with_external k p i) p i ≡ true
+      now_shown : is_shown_in (with_external_number k p i) p i ≡ true
       now_shown = ap (λ b. nat_lt p 2 || b) (shown_push k.externals (p, i)) ∙ or_true (nat_lt p 2)
 
       elsewhere : (q m x : ℕ) → (q ≢ p) ⊎ (m ≢ j) → IsKnown k q m x → (q ≢ p) ⊎ (x ≢ i)
@@ -193,10 +193,10 @@ module _ (k : Kept) (good : IsGood k) (P Q : Name) (p q : ℕ) (here : position 
   use_stays : (a b : ℕ) → (a ≢ p) ⊎ (b ≢ q) → ◌≡◌ {A = Option (Unit {0})} (option_map (λ _. tt) (position (pair_eq (a, b)) (k.uses ++ (p, q) ∷ []))) (option_map (λ _. tt) (position (pair_eq (a, b)) k.uses))
   use_stays a b apart = ap (option_map (λ _. tt {0})) (other_push k.uses (a, b) (p, q) (other_pair (a, b) (p, q) apart))
 
-  uses_same : (a : ℕ) → a ≢ p → (package_in (with_use k p q) a).uses ≡ (package_in k a).uses
+  uses_same : (a : ℕ) → a ≢ p → (package_of_number (with_use k p q) a).uses ≡ (package_of_number k a).uses
   uses_same a apart = λ t. map_by k.packages (λ b. use_stays a b (inl apart) t)
 
-  uses_more : (package_in (with_use k p q) p).uses ≡ finite.insert (package_in k p).uses Q tt
+  uses_more : (package_of_number (with_use k p q) p).uses ≡ finite.insert (package_of_number k p).uses Q tt
   uses_more = put k.packages good.distinct.packages (λ b. option_map (λ _. tt {0}) (position (pair_eq (p, b)) k.uses)) (λ b. option_map (λ _. tt {0}) (position (pair_eq (p, b)) (k.uses ++ (p, q) ∷ []))) Q q tt there
       (λ b _ apart. use_stays p b (inr apart))
       (ap (option_map (λ _. tt {0})) (new_push k.uses (p, q) unused))
@@ -207,10 +207,10 @@ module _ (k : Kept) (good : IsGood k) (P Q : Name) (p q : ℕ) (here : position 
     where
       tables : table_of (with_use k p q) ≡ option_map_or (λ (h : Package). finite.insert (table_of k) P (record h { uses = finite.insert h.uses Q tt })) (finite.get (table_of k) P) (table_of k)
       tables =
-          put k.packages good.distinct.packages (λ a. Some (package_in k a)) (λ a. Some (package_in (with_use k p q) a)) P p (record (package_in k p) { uses = finite.insert (package_in k p).uses Q tt }) here
-          (λ a _ apart t. Some (record { symbols = (package_in k a).symbols; uses = uses_same a apart t }))
-          (λ t. Some (record { symbols = (package_in k p).symbols; uses = uses_more t }))
-          ∙ sym (ap (λ o. option_map_or (λ (h : Package). finite.insert (table_of k) P (record h { uses = finite.insert h.uses Q tt })) o (table_of k)) (got_at k.packages good.distinct.packages (λ a. Some (package_in k a)) P p here))
+          put k.packages good.distinct.packages (λ a. Some (package_of_number k a)) (λ a. Some (package_of_number (with_use k p q) a)) P p (record (package_of_number k p) { uses = finite.insert (package_of_number k p).uses Q tt }) here
+          (λ a _ apart t. Some (record { symbols = (package_of_number k a).symbols; uses = uses_same a apart t }))
+          (λ t. Some (record { symbols = (package_of_number k p).symbols; uses = uses_more t }))
+          ∙ sym (ap (λ o. option_map_or (λ (h : Package). finite.insert (table_of k) P (record h { uses = finite.insert h.uses Q tt })) o (table_of k)) (got_at k.packages good.distinct.packages (λ a. Some (package_of_number k a)) P p here))
 
 -- ---- a package
 module _ (k : Kept) (good : IsGood k) (P : Name) (new : position (bytes_eq P) k.packages ≡ None) where
@@ -238,17 +238,17 @@ module _ (k : Kept) (good : IsGood k) (P : Name) (new : position (bytes_eq P) k.
   unfolding count
   no_number_new j = unknown k good (length k.packages) j (λ i is. (let less : length k.packages < length k.packages = is.owner in absurd (omega (arith, less))))
 
-  package_stays : (p : ℕ) → package_in (with_package k P) p ≡ package_in k p
+  package_stays : (p : ℕ) → package_of_number (with_package k P) p ≡ package_of_number k p
   package_stays p = λ t. record {
     symbols = map_by k.names (λ j. seen_alike k good p j (present_in (with_package k P) p) (present_in k p) (λ x is. home_stays p x is.symbol) t);
     uses = more k.packages good.distinct.packages P new (used p) (no_use p (length k.packages) (inr (omega arith))) t;
   }
 
-  package_new : package_in (with_package k P) count ≡ empty_package
+  package_new : package_of_number (with_package k P) count ≡ empty_package
   unfolding count
   package_new = λ t. record { symbols = symbols t; uses = uses t }
     where
-      symbols : (package_in (with_package k P) (length k.packages)).symbols ≡ finite.empty
+      symbols : (package_of_number (with_package k P) (length k.packages)).symbols ≡ finite.empty
       symbols = (λ t. map_by k.names (λ j. option_map (present_in (with_package k P) (length k.packages)) (no_number_new j t))) ∙ none_by k.names
 
       uses : map_by (k.packages ++ P ∷ []) (used (length k.packages)) ≡ finite.empty
@@ -263,7 +263,7 @@ module _ (k : Kept) (good : IsGood k) (P : Name) (new : position (bytes_eq P) k.
     where
       tables : table_of (with_package k P) ≡ finite.insert (table_of k) P empty_package
       tables =
-          more_put k.packages good.distinct.packages P new (λ p. Some (package_in (with_package k P) p)) empty_package (ap Some package_new)
+          more_put k.packages good.distinct.packages P new (λ p. Some (package_of_number (with_package k P) p)) empty_package (ap Some package_new)
           ∙ ap (λ m. finite.insert m P empty_package) (λ t. map_by k.packages (λ p. Some (package_stays p t)))
 
       all_numbers : all_numbers_of (with_package k P) ≡ finite.insert (all_numbers_of k) P finite.empty

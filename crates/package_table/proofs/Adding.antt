@@ -11,8 +11,8 @@ use Rattle.std.specs.Option.{option_or}
 use Rattle.std.specs.List.{list_any, IsDistinct}
 use Rattle.package_sets.specs.declared.sizes.Sizes.{Sizes}
 use Rattle.package_sets.specs.Kept.{Kept, cut, import_of, name_at, pair_at, pair_eq, sizes_of, AreUpTo}
-use Rattle.package_sets.specs.Good.{IsGood}
-use Rattle.package_sets.specs.Changes.{with_external, with_import, with_name, with_package, with_symbol, with_use, symbol_named, number_among as name_number}
+use Rattle.package_sets.specs.Consistent.{IsGood}
+use Rattle.package_sets.specs.Changes.{with_external_number, with_import, with_name, with_package, with_symbol, with_use, symbol_named, number_among as name_number}
 use Rattle.package_table.specs.Table.{Name, common_lisp, keyword, is_locked}
 use Rattle.package_table.specs.Numbers.{Numbered, with_numbered}
 use Rattle.package_table.specs.Meaning.{number_in, is_shown_in, numbered_of}
@@ -201,7 +201,7 @@ module _ (k : Kept) (good : IsGood k) (p i : ℕ) (none : number_in k p (pair_at
 
 -- ---- what becomes external
 module _ (k : Kept) (good : IsGood k) (p j i : ℕ) (is : number_in k p j ≡ Some i) where
-  pub external_adds : IsGood (with_external k p i) → Adds k (with_external k p i)
+  pub external_adds : IsGood (with_external_number k p i) → Adds k (with_external_number k p i)
   external_adds good_then = record {
     good = good_then;
     packages = λ Q q seen. seen;

@@ -3,7 +3,7 @@
 --     interned_found, interned_new      where the symbol was there, and where it is new
 use Rattle.std.proofs.Common.{◌≡◌, ◌≢◌, ◌⊎◌, Bool, true, false, cond, Option, None, Some, is_some, bytes_eq, refl, sym, ap, subst, ◌∙◌, inl, inr}
 use Rattle.std.specs.Option.{option_map, option_map_or}
-use Rattle.package_table.specs.Table.{Name, Present, Table, keyword, IsPackage, IsExternal, Uses, Finds, FindsNone, IsSound, with_entry}
+use Rattle.package_table.specs.Table.{Name, Present, Table, keyword, IsPackage, IsExternal, Uses, Finds, FindsNone, AreSoundPackages, with_entry}
 use Rattle.package_table.specs.Lookup.{found}
 use Rattle.package_table.specs.Growth.{Grows, IsSameBut}
 use Rattle.package_table.proofs.Names.{none_some}
@@ -18,14 +18,14 @@ pub record Interned (t u : Table) (p n h : Name) (changes : Bool) : Type 0 where
   pub others : IsSameBut t u p n
   pub finds : found u p n ≡ Some h
 
-pub interned_found : (t : Table) (p n h : Name) → IsSound t → found t p n ≡ Some h → Interned t t p n h false
+pub interned_found : (t : Table) (p n h : Name) → AreSoundPackages t → found t p n ≡ Some h → Interned t t p n h false
 interned_found t p n h sound is = record {
   kept = record { sound = sound; grows = grows_same t; told = refl };
   others = record { packages = λ _. refl; finds = λ _ _ _. refl; externals = λ _ _ _. refl };
   finds = is;
 }
 
-module _ (t : Table) (p n : Name) (sound : IsSound t) (there : IsPackage t p) (none : FindsNone t p n) where
+module _ (t : Table) (p n : Name) (sound : AreSoundPackages t) (there : IsPackage t p) (none : FindsNone t p n) where
   abbrev e : Present
   e = record { home = p; external = bytes_eq p keyword }
 
@@ -62,7 +62,7 @@ module _ (t : Table) (p n : Name) (sound : IsSound t) (there : IsPackage t p) (n
   grows : Grows t u
   grows = grows_with_entry t p n e there (λ g found. absurd (none g found)) (λ shown. absurd (none_external shown))
 
-  others : IsSound u → IsSameBut t u p n
+  others : AreSoundPackages u → IsSameBut t u p n
   others sound_then = record {
     packages = package_with_entry t p n e;
     finds = λ q m differ.
@@ -73,7 +73,7 @@ module _ (t : Table) (p n : Name) (sound : IsSound t) (there : IsPackage t p) (n
     externals = λ q m differ. ap (λ (o : Option Present). option_map_or (λ (e : Present). cond e.external (Some e.home) None) o None) (entry_other t p n e q m differ);
   }
 
-  pub interned_new : IsSound u → Interned t u p n p true
+  pub interned_new : AreSoundPackages u → Interned t u p n p true
   interned_new sound_then = record {
     kept = record {
       sound = sound_then;

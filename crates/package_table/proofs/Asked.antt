@@ -9,7 +9,7 @@ use Rattle.std.specs.List.{list_any}
 use Rattle.std.specs.Ordering.{is_eq, eq_by_cmp}
 use Rattle.std.specs.FinMap as finite
 use Rattle.std.specs.FinMap.Entries.{find, is_sorted, below_all}
-use Rattle.package_table.specs.Table.{Name, name_cmp, Present, Package, Table, Uses, Finds, IsExternal, IsPresent, IsSound}
+use Rattle.package_table.specs.Table.{Name, name_cmp, Present, Package, Table, Uses, Finds, IsExternal, IsPresent, AreSoundPackages}
 use Rattle.package_table.specs.Lookup.{found}
 use Rattle.package_table.specs.Changes.{finds_other, user_finds_other, finds_other_than_shown}
 use Rattle.package_table.proofs.Names.{tied_same, same_tied}
@@ -64,7 +64,7 @@ other_found t p h n other =
       | Some g ↦ λ is differs. (g, found_finds t n p g is, unequal_names g h (not-true (bytes_eq g h) differs))
     ] refl other
 
-pub users_other : (t : Table) → IsSound t → (p h n : Name) → IsTrue (user_finds_other t p h n) ↔ ((q : Name) × (g : Name) × Uses t q p × Finds t q n g × (g ≢ h))
+pub users_other : (t : Table) → AreSoundPackages t → (p h n : Name) → IsTrue (user_finds_other t p h n) ↔ ((q : Name) × (g : Name) × Uses t q p × Finds t q n g × (g ≢ h))
 users_other t sound p h n = (from_users, to_users)
   where
     from_users : user_finds_other t p h n ≡ true → (q : Name) × (g : Name) × Uses t q p × Finds t q n g × (g ≢ h)
@@ -81,7 +81,7 @@ users_other t sound p h n = (from_users, to_users)
           | false ↦ λ none. absurd (differs (users_agree t p h n sound none q g used finds))
         ] refl
 
-pub shown_other : (t : Table) → IsSound t → (p q : Name) → IsTrue (finds_other_than_shown t p q) ↔ ((n : Name) × (g : Name) × (h : Name) × Finds t p n g × IsExternal t q n × IsPresent t q n h × (g ≢ h))
+pub shown_other : (t : Table) → AreSoundPackages t → (p q : Name) → IsTrue (finds_other_than_shown t p q) ↔ ((n : Name) × (g : Name) × (h : Name) × Finds t p n g × IsExternal t q n × IsPresent t q n h × (g ≢ h))
 shown_other t sound p q = (from_shown, to_shown)
   where
     from_shown : finds_other_than_shown t p q ≡ true → (n : Name) × (g : Name) × (h : Name) × Finds t p n g × IsExternal t q n × IsPresent t q n h × (g ≢ h)

@@ -12,12 +12,12 @@ use Rattle.std.specs.List.{IsDistinct, AllByRecursion, list_any}
 use Rattle.std.specs.Ordering.{eq_by_cmp}
 use Rattle.std.specs.FinMap as finite
 use Rattle.package_sets.specs.Kept.{Kept, name_at, pair_eq}
-use Rattle.package_sets.specs.Good.{IsGood}
+use Rattle.package_sets.specs.Consistent.{IsGood}
 use Rattle.package_sets.specs.Changes.{symbol_named, with_symbol}
 use Rattle.package_sets.proofs.Places.{all_at}
 use Rattle.package_table.specs.Table.{Name, name_cmp, Package, Table, entry_at, empty_package, package_of_names, common_lisp, common_lisp_user, keyword, common_lisp_package, keyword_package, keyword_names, common_lisp_names, user_package, initial, with_entry, with_used}
 use Rattle.package_table.specs.Numbers.{Numbered}
-use Rattle.package_table.specs.Meaning.{map_by, present_in, package_in, numbered_of}
+use Rattle.package_table.specs.Meaning.{map_by, present_in, package_of_number, numbered_of}
 use Rattle.package_table.specs.Adds.{HasNothing, IsPlaced}
 use Rattle.package_table.proofs.Names.{name_total, name_exact, tied_same, none_some}
 use Rattle.package_table.proofs.Frames.{get_inserted, get_kept, equal_names, equal_itself, unequal_names}
@@ -31,15 +31,15 @@ use Rattle.package_table.proofs.FoundBy.{position_of}
 use Rattle.package_table.proofs.Puts.{insert_twice, unnamed, interned_so}
 
 -- ---- a package of which nothing is kept but its name
-pub empty_in : (k : Kept) → HasNothing k → (p : ℕ) → package_in k p ≡ empty_package
+pub empty_in : (k : Kept) → HasNothing k → (p : ℕ) → package_of_number k p ≡ empty_package
 empty_in k nothing p = λ i. record { symbols = symbols i; uses = uses i }
   where
-    symbols : (package_in k p).symbols ≡ finite.empty
+    symbols : (package_of_number k p).symbols ≡ finite.empty
     symbols =
         (λ i. map_by k.names (λ j. option_map (present_in k p) (option_or (position (pair_eq (p, j)) (nothing.symbols i)) (option_map (λ m. get_or k.imported m 0) (position (pair_eq (p, j)) (nothing.imports i))))))
         ∙ none_by k.names
 
-    uses : (package_in k p).uses ≡ finite.empty
+    uses : (package_of_number k p).uses ≡ finite.empty
     uses = (λ i. map_by k.packages (λ q. option_map (λ _. tt {0}) (position (pair_eq (p, q)) (nothing.uses i)))) ∙ none_by k.packages
 
 -- ---- names that are made one after another

@@ -9,12 +9,12 @@ use Rattle.std.proofs.lemmas.Bool.{false≢true}
 use Rattle.std.specs.Option.{option_or, option_map_or}
 use Rattle.std.specs.FinMap as finite
 use Rattle.package_sets.specs.Kept.{Kept, import_of, name_at, pair_at, pair_eq}
-use Rattle.package_sets.specs.Good.{IsGood}
+use Rattle.package_sets.specs.Consistent.{IsGood}
 use Rattle.package_table.specs.Table.{Name, Present, Package, entry_at, IsPackage, IsPresent}
 use Rattle.package_table.specs.Lookup.{external_home, is_present, is_symbol, is_used}
 use Rattle.package_table.specs.Numbers.{number_at, number_of}
 use Rattle.package_table.specs.Numbering.{IsNumbered, KeepsNumbers}
-use Rattle.package_table.specs.Meaning.{number_in, present_in, package_in, home_in, symbol_name, numbered_of}
+use Rattle.package_table.specs.Meaning.{number_in, present_in, package_of_number, home_in, symbol_name, numbered_of}
 use Rattle.package_table.specs.Adds.{Adds}
 use Rattle.package_table.proofs.Names.{same_some, none_some}
 use Rattle.package_sets.proofs.Growing.{pair_equiv}
@@ -34,13 +34,13 @@ module _ (k : Kept) (good : IsGood k) where
 
   pub package_count : finite.len (numbered_of k).0 ≡ length k.packages
   unfolding numbered_of
-  package_count = count_by k.packages (package_in k) good.distinct.packages
+  package_count = count_by k.packages (package_of_number k) good.distinct.packages
 
   pub package_absent : (P : Name) → finite.get (numbered_of k).0 P ≡ None → position (bytes_eq P) k.packages ≡ None
   package_absent P none =
       elim (position (bytes_eq P) k.packages) as (λ o. position (bytes_eq P) k.packages ≡ o → o ≡ None) [
         | None ↦ λ _. refl
-        | Some p ↦ λ here. absurd (none_some (package_in k p) (sym none ∙ package_at k good P p here))
+        | Some p ↦ λ here. absurd (none_some (package_of_number k p) (sym none ∙ package_at k good P p here))
       ] refl
 
   pub package_is : (P : Name) → IsPackage (numbered_of k).0 P → (p : ℕ) × (position (bytes_eq P) k.packages ≡ Some p)

@@ -7,17 +7,17 @@ use Rattle.std.proofs.Common.{◌≡◌, ◌<◌, Bool, List, [], ◌∷◌, len
 use Rattle.std.specs.List.{AllByRecursion}
 use Rattle.package_sets.specs.declared.sizes.Sizes.{Sizes}
 use Rattle.package_sets.specs.Kept.{Kept}
-use Rattle.package_sets.specs.Good.{IsGood}
+use Rattle.package_sets.specs.Consistent.{IsGood}
 use Rattle.package_table.specs.declared.error.PackageError.{PackageError}
 use Rattle.package_table.specs.declared.packages.Packages.TheInside.{Inside}
-use Rattle.package_table.specs.Table.{Name, Table, IsSound, symbol_count}
-use Rattle.package_table.specs.Changes.{after_intern, Gives, TellsChange, Yields}
-use Rattle.package_table.specs.Growth.{Grows, IsSameBut, Tells}
+use Rattle.package_table.specs.Table.{Name, Table, AreSoundPackages, symbol_count}
+use Rattle.package_table.specs.Changes.{after_intern, AnswersPackages, TellsChange, Yields}
+use Rattle.package_table.specs.Growth.{Grows, IsSameBut, TellsOfChange}
 use Rattle.package_table.specs.Numbers.{Tables, numbered}
 use Rattle.package_table.specs.Numbering.{KeepsNumbers}
 use Rattle.package_table.specs.Meaning.{numbered_of}
 use Rattle.package_table.specs.Adds.{Adds, AddsNoSymbol}
-use Rattle.package_table.specs.Shown.{HasKeptTable, IsMark, IsState, tables_at, tables_of}
+use Rattle.package_table.specs.Views.{HasKeptTable, IsMark, IsState, tables_at, tables_of}
 use Rattle.package_table.proofs.Growing.{Kept as Keeps_sound}
 use Rattle.package_table.proofs.KeptChanges.{stays_after, stays_but, told_after}
 use Rattle.package_table.proofs.Adding.{adds_same}
@@ -59,7 +59,7 @@ pub record Left (ts : Tables) (a b : Inside) : Type 0 where
   pub marked : tables_at a.marks.items b.sets ≡ ts.1.marked
 
 -- what is left of packages that are sound and counted
-left_by : (a : Inside) (ts : Tables) (u : Kept) → tables_of a ≡ ts → HasKeptTable a → Adds a.sets u → IsSound (numbered_of u).0 → Grows (numbered_of a.sets).0 (numbered_of u).0
+left_by : (a : Inside) (ts : Tables) (u : Kept) → tables_of a ≡ ts → HasKeptTable a → Adds a.sets u → AreSoundPackages (numbered_of u).0 → Grows (numbered_of a.sets).0 (numbered_of u).0
     → length u.symbols ≡ symbol_count (numbered_of u).0 → Left ts a (record a { sets = u })
 left_by a ts u seen before adds sound grows counted = record {
   kept = record {
@@ -74,7 +74,7 @@ left_by a ts u seen before adds sound grows counted = record {
 
 pub left_after : {A : Type 0} (a : Inside) (ts : Tables) (u : Kept) (changes : Bool) (r : Result A PackageError) (said : Result Table PackageError)
     → (said ≡ Ok (numbered_of u).0 → Keeps_sound (numbered_of a.sets).0 (numbered_of u).0 changes × (symbol_count (numbered_of u).0 ≡ symbol_count (numbered_of a.sets).0)) → tables_of a ≡ ts → HasKeptTable a
-    → Gives (λ _. (numbered_of u).0) r said → IfErr r (λ _. u ≡ a.sets) → IfOk r (λ _. AddsNoSymbol a.sets u) → Left ts a (record a { sets = u })
+    → AnswersPackages (λ _. (numbered_of u).0) r said → IfErr r (λ _. u ≡ a.sets) → IfOk r (λ _. AddsNoSymbol a.sets u) → Left ts a (record a { sets = u })
 left_after a ts u changes r said kept seen before gives unchanged adds =
     let stays = stays_after (numbered_of a.sets).0 (numbered_of u).0 changes r said before.state.sound gives (same_tables a.sets u r unchanged) kept in
     left_by a ts u seen before (added a.sets u r before.state.good unchanged (adds_alone a.sets u r adds)) stays.sound stays.grows
@@ -85,7 +85,7 @@ pub record LeftBut (ts : Tables) (a b : Inside) (p n : Name) : Type 0 where
   pub others : IsSameBut ts.0 (numbered_of b.sets).0 p n
 
 pub left_interned : {A : Type 0} (a : Inside) (ts : Tables) (u : Kept) (p n : Name) (home : A → Name) (r : Result A PackageError) → All (λ b. b < 128) n → tables_of a ≡ ts → HasKeptTable a
-    → Gives (λ x. (home x, (numbered_of u).0)) r (after_intern (numbered_of a.sets).0 p n) → IfErr r (λ _. u ≡ a.sets) → IfOk r (λ _. Adds a.sets u) → length u.symbols ≡ symbol_count (numbered_of u).0
+    → AnswersPackages (λ x. (home x, (numbered_of u).0)) r (after_intern (numbered_of a.sets).0 p n) → IfErr r (λ _. u ≡ a.sets) → IfOk r (λ _. Adds a.sets u) → length u.symbols ≡ symbol_count (numbered_of u).0
     → LeftBut ts a (record a { sets = u }) p n
 left_interned a ts u p n home r ascii seen before gives unchanged adds counted =
     let stays = stays_but (numbered_of a.sets).0 (numbered_of u).0 p n home r before.state.sound ascii gives (same_tables a.sets u r unchanged) in
@@ -100,7 +100,7 @@ told_change changes (Err e) is = tt
 
 pub told_of : (a : Inside) (ts : Tables) (u : Kept) (changes : Bool) (r : Result Bool PackageError) (said : Result Table PackageError)
     → (said ≡ Ok (numbered_of u).0 → Keeps_sound (numbered_of a.sets).0 (numbered_of u).0 changes × (symbol_count (numbered_of u).0 ≡ symbol_count (numbered_of a.sets).0)) → tables_of a ≡ ts
-    → Gives (λ _. (numbered_of u).0) r said → TellsChange changes r → IfOk r (λ changed. Tells changed ts.0 (numbered_of u).0)
+    → AnswersPackages (λ _. (numbered_of u).0) r said → TellsChange changes r → IfOk r (λ changed. TellsOfChange changed ts.0 (numbered_of u).0)
 told_of a ts u changes r said kept seen gives changed =
-    subst (λ (ts : Tables). IfOk r (λ changed. Tells changed ts.0 (numbered_of u).0)) seen
+    subst (λ (ts : Tables). IfOk r (λ changed. TellsOfChange changed ts.0 (numbered_of u).0)) seen
     (told_after (numbered_of a.sets).0 (numbered_of u).0 (λ _. (numbered_of u).0) (λ changed. changed) changes r said gives (told_change changes r changed) (λ _ is. (kept is).0.told))

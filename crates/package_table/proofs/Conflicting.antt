@@ -10,10 +10,10 @@ use Rattle.std.specs.List.{list_any}
 use Rattle.std.specs.FinMap as finite
 use Rattle.std.specs.Cmp.{both_ways}
 use Rattle.package_sets.specs.Kept.{Kept, name_at, pair_at, pair_eq}
-use Rattle.package_sets.specs.Good.{IsGood}
-use Rattle.package_table.specs.Table.{Name, Present, Package, Uses, Finds, IsPackage, IsPresent, IsExternal, IsJoined, IsSound}
+use Rattle.package_sets.specs.Consistent.{IsGood}
+use Rattle.package_table.specs.Table.{Name, Present, Package, Uses, Finds, IsPackage, IsPresent, IsExternal, IsJoined, AreSoundPackages}
 use Rattle.package_table.specs.Changes.{finds_other, user_finds_other, finds_other_than_shown}
-use Rattle.package_table.specs.Meaning.{number_in, is_shown_in, package_in, home_in, symbol_name, found_number, finds_another, shown_positions, shown_symbol, numbered_of}
+use Rattle.package_table.specs.Meaning.{number_in, is_shown_in, package_of_number, home_in, symbol_name, found_number, finds_another, shown_positions, shown_symbol, numbered_of}
 use Rattle.package_table.specs.Adds.{IsPlaced}
 use Rattle.package_table.proofs.Names.{same_some, none_some}
 use Rattle.package_table.proofs.Frames.{equal_itself, not_equal}
@@ -30,9 +30,9 @@ module _ (k : Kept) (good : IsGood k) where
   -- ---- packages
   -- what is asked of the package of the number q
   abbrev asked : (Name × Package → Bool) → ℕ → Bool
-  asked test q = test (name_at k.packages q, package_in k q)
+  asked test q = test (name_at k.packages q, package_of_number k q)
 
-  pub all_packages : (test : Name × Package → Bool) → ((q : ℕ) → q < length k.packages → test (name_at k.packages q, package_in k q) ≡ false) → list_any test (finite.entries (numbered_of k).0) ≡ false
+  pub all_packages : (test : Name × Package → Bool) → ((q : ℕ) → q < length k.packages → test (name_at k.packages q, package_of_number k q) ≡ false) → list_any test (finite.entries (numbered_of k).0) ≡ false
   all_packages test none =
       elim (list_any test (finite.entries (numbered_of k).0)) as (λ b. list_any test (finite.entries (numbered_of k).0) ≡ b → b ≡ false) [
         | false ↦ λ _. refl
@@ -47,14 +47,14 @@ module _ (k : Kept) (good : IsGood k) where
             | None ↦ λ absent. absurd (none_some h (sym (package_none k good Q absent) ∙ there))
             | Some q ↦ λ at.
                 let n = named Q k.packages q at in
-                (λ i. test (n.1 i, same_some h (package_in k q) (sym there ∙ package_at k good Q q at) i)) ∙ none q n.0
+                (λ i. test (n.1 i, same_some h (package_of_number k q) (sym there ∙ package_at k good Q q at) i)) ∙ none q n.0
           ] refl
 
-  pub some_package : (test : Name × Package → Bool) (q : ℕ) → q < length k.packages → test (name_at k.packages q, package_in k q) ≡ true → list_any test (finite.entries (numbered_of k).0) ≡ true
+  pub some_package : (test : Name × Package → Bool) (q : ℕ) → q < length k.packages → test (name_at k.packages q, package_of_number k q) ≡ true → list_any test (finite.entries (numbered_of k).0) ≡ true
   some_package test q less passes =
-      any_with test (numbered_of k).0 (name_at k.packages q) (package_in k q) (package_at k good (name_at k.packages q) q (position_of k.packages good.distinct.packages q less)) passes
+      any_with test (numbered_of k).0 (name_at k.packages q) (package_of_number k q) (package_at k good (name_at k.packages q) q (position_of k.packages good.distinct.packages q less)) passes
 
-  pub uses_number : (q p : ℕ) → p < length k.packages → is_some (position (pair_eq (q, p)) k.uses) ≡ finite.contains_key (package_in k q).uses (name_at k.packages p)
+  pub uses_number : (q p : ℕ) → p < length k.packages → is_some (position (pair_eq (q, p)) k.uses) ≡ finite.contains_key (package_of_number k q).uses (name_at k.packages p)
   uses_number q p less =
       elim (position (pair_eq (q, p)) k.uses) as (λ o. is_some o ≡ is_some (option_map (λ _. tt {0}) o)) [ None ↦ refl | Some x ↦ refl ]
       ∙ sym (ap is_some (uses_there k good (name_at k.packages q) q p (name_at k.packages p) (position_of k.packages good.distinct.packages p less)))
@@ -62,7 +62,7 @@ module _ (k : Kept) (good : IsGood k) where
   -- whether a package uses p and finds another symbol, by numbers and by names
   pub asked_user : IsJoined (numbered_of k).0 → (q p j : ℕ) (H : Name) → q < length k.packages → p < length k.packages → j < length k.names
       → (is_some (position (pair_eq (q, p)) k.uses) && option_map_or (λ o. not (bytes_eq (home_in k o) H)) (found_number k q j) false)
-      ≡ (finite.contains_key (package_in k q).uses (name_at k.packages p) && finds_other (numbered_of k).0 (name_at k.packages q) H (name_at k.names j))
+      ≡ (finite.contains_key (package_of_number k q).uses (name_at k.packages p) && finds_other (numbered_of k).0 (name_at k.packages q) H (name_at k.names j))
   asked_user joined q p j H q_in p_in j_in = λ i. uses_number q p p_in i && finds i
     where
       finds : option_map_or (λ o. not (bytes_eq (home_in k o) H)) (found_number k q j) false ≡ finds_other (numbered_of k).0 (name_at k.packages q) H (name_at k.names j)
@@ -72,7 +72,7 @@ module _ (k : Kept) (good : IsGood k) where
           (found_by k good (name_at k.packages q) (name_at k.names j) q j (position_of k.packages good.distinct.packages q q_in) (position_of k.names good.distinct.names j j_in) joined)
 
   -- no user, or no symbol by the name
-  pub users_none : IsSound (numbered_of k).0 → (P H N : Name) → (position (bytes_eq P) k.packages ≡ None → user_finds_other (numbered_of k).0 P H N ≡ false) × (position (bytes_eq N) k.names ≡ None → user_finds_other (numbered_of k).0 P H N ≡ false)
+  pub users_none : AreSoundPackages (numbered_of k).0 → (P H N : Name) → (position (bytes_eq P) k.packages ≡ None → user_finds_other (numbered_of k).0 P H N ≡ false) × (position (bytes_eq N) k.names ≡ None → user_finds_other (numbered_of k).0 P H N ≡ false)
   users_none sound P H N = (
     λ none. no_user (λ Q g used _. none_some true (sym (ap (λ (o : Option Package). option_map (λ (_ : Package). true) o) (package_none k good P none)) ∙ there (sound.joined.used Q P used))),
     λ none. no_user (λ Q g _ finds. no_symbol none Q g finds),
@@ -97,7 +97,7 @@ module _ (k : Kept) (good : IsGood k) where
           ] refl
 
   -- ---- what is external in another package
-  module _ (placed : IsPlaced k) (sound : IsSound (numbered_of k).0) (P Q : Name) (p q : ℕ) (here : position (bytes_eq P) k.packages ≡ Some p) (there : position (bytes_eq Q) k.packages ≡ Some q) where
+  module _ (placed : IsPlaced k) (sound : AreSoundPackages (numbered_of k).0) (P Q : Name) (p q : ℕ) (here : position (bytes_eq P) k.packages ≡ Some p) (there : position (bytes_eq Q) k.packages ≡ Some q) where
     shown : Shows k good placed sound Q q there (shown_positions k q) (shown_symbol k q)
     shown = shown_listed k good placed sound Q q there
 

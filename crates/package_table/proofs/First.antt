@@ -10,7 +10,7 @@ use Rattle.lisp_object.specs.Ascii.{is_ascii}
 use Rattle.lisp_object.proofs.Sound.{all_below}
 use Rattle.std.proofs.lemmas.Slice.Eq.{bytes_eq-Decides}
 use Rattle.package_table.specs.Limits.{most_packages, most_symbols, longest_symbol_name}
-use Rattle.package_table.specs.Table.{Name, name_cmp, Present, Package, common_lisp, common_lisp_user, keyword, package_of_names, common_lisp_names, keyword_names, common_lisp_package, keyword_package, user_package, initial, entry_at, IsPackage, IsPresent, Uses, Finds, IsPackageName, IsSymbolName, IsJoined, HasFirst, IsWithin, IsSound, symbol_count, own_count}
+use Rattle.package_table.specs.Table.{Name, name_cmp, Present, Package, common_lisp, common_lisp_user, keyword, package_of_names, common_lisp_names, keyword_names, common_lisp_package, keyword_package, user_package, initial, entry_at, IsPackage, IsPresent, Uses, Finds, IsPackageName, IsSymbolName, IsJoined, HasFirst, IsWithin, AreSoundPackages, symbol_count, own_count}
 use Rattle.package_table.proofs.Names.{name_total, tied_same, same_tied, same_some, none_some}
 use Rattle.package_table.proofs.Seen.{entries_in_order}
 
@@ -270,7 +270,7 @@ within = record {
   symbols = subst (λ n. n ≤ most_symbols) (sym first_count) (omega arith);
 }
 
-pub sound : IsSound initial
+pub sound : AreSoundPackages initial
 sound = record { joined = joined; first = first; within = within }
 
 pub lisp_is_package : IsPackage initial common_lisp

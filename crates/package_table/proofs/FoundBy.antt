@@ -12,11 +12,11 @@ use Rattle.std.specs.Cmp.{IsEquivalence}
 use Rattle.std.specs.Cmp.Lexicographic.{nat_list_eq_equiv}
 use Rattle.std.specs.FinMap as finite
 use Rattle.package_sets.specs.Kept.{Kept, name_at, pair_at, pair_eq, positions_from, positions_of}
-use Rattle.package_sets.specs.Good.{IsGood}
+use Rattle.package_sets.specs.Consistent.{IsGood}
 use Rattle.package_sets.proofs.Places.{all_at, none_any}
 use Rattle.package_table.specs.Table.{Name, Present, Package, Table, entry_at, IsPresent, IsExternal, Uses, Finds, FindsNone, IsJoined}
 use Rattle.package_table.specs.Lookup.{found, external_home}
-use Rattle.package_table.specs.Meaning.{number_in, is_shown_in, present_in, package_in, home_in, shown_number, first_shown, found_number, numbered_of}
+use Rattle.package_table.specs.Meaning.{number_in, is_shown_in, present_in, package_of_number, home_in, shown_number, first_shown, found_number, numbered_of}
 use Rattle.package_table.proofs.Names.{same_some, none_some}
 use Rattle.package_table.proofs.Found.{found_is, finds_none}
 use Rattle.package_table.proofs.Mapped.{position_cons}
@@ -209,7 +209,7 @@ module _ (k : Kept) (good : IsGood k) where
 
   pub used_by : (P Q : Name) (p : ℕ) → position (bytes_eq P) k.packages ≡ Some p → Uses (numbered_of k).0 P Q → (q x : ℕ) × (position (bytes_eq Q) k.packages ≡ Some q) × (position (pair_eq (p, q)) k.uses ≡ Some x)
   used_by P Q p here used =
-      let seen : finite.contains_key (package_in k p).uses Q ≡ true = same_some (finite.contains_key (package_in k p).uses Q) true (sym (ap (option_map (λ (h : Package). finite.contains_key h.uses Q)) (package_at k good P p here)) ∙ used) in
+      let seen : finite.contains_key (package_of_number k p).uses Q ≡ true = same_some (finite.contains_key (package_of_number k p).uses Q) true (sym (ap (option_map (λ (h : Package). finite.contains_key h.uses Q)) (package_at k good P p here)) ∙ used) in
       elim (position (bytes_eq Q) k.packages) as (λ o. position (bytes_eq Q) k.packages ≡ o → (q x : ℕ) × (o ≡ Some q) × (position (pair_eq (p, q)) k.uses ≡ Some x)) [
         | None ↦ λ none. absurd (false≢true (sym (ap is_some (uses_none k good P p Q none)) ∙ seen))
         | Some q ↦ λ there. let at = some_there q (sym (ap is_some (uses_there k good P p q Q there)) ∙ seen) in (q, at.0, refl, at.1)

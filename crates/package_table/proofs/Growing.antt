@@ -9,9 +9,9 @@ use Rattle.std.specs.Option.{option_map, option_and_then, option_map_or}
 use Rattle.std.specs.FinMap as finite
 use Rattle.std.proofs.lemmas.Bool.{false≢true}
 use Rattle.lisp_object.proofs.Tree.{insert_same}
-use Rattle.package_table.specs.Table.{Name, name_cmp, Present, Package, Table, entry_at, IsPackage, IsExternal, Finds, IsSound, with_entry, with_used, with_new_package, empty_package}
+use Rattle.package_table.specs.Table.{Name, name_cmp, Present, Package, Table, entry_at, IsPackage, IsExternal, Finds, AreSoundPackages, with_entry, with_used, with_new_package, empty_package}
 use Rattle.package_table.specs.Lookup.{is_external, is_present, is_used}
-use Rattle.package_table.specs.Growth.{Grows, Tells}
+use Rattle.package_table.specs.Growth.{Grows, TellsOfChange}
 use Rattle.package_table.proofs.Names.{name_total, name_exact, none_some}
 use Rattle.package_table.proofs.Frames.{place_cases, get_inserted, entry_new, entry_other, uses_with_entry, package_with_entry, entry_with_used, uses_still, uses_new, package_with_used, entry_with_new, uses_beside_new, package_with_new}
 use Rattle.package_table.proofs.Keeping.{present_kept}
@@ -19,9 +19,9 @@ use Rattle.package_table.proofs.Found.{external_shows, used_shows}
 
 -- sound packages, in which nothing is lost, and another table where the call says so
 pub record Kept (t u : Table) (changes : Bool) : Type 0 where
-  pub sound : IsSound u
+  pub sound : AreSoundPackages u
   pub grows : Grows t u
-  pub told : Tells changes t u
+  pub told : TellsOfChange changes t u
 
 pub grows_same : (t : Table) → Grows t t
 grows_same t = record { packages = λ _ e. e; homes = λ _ _ _ e. e; externals = λ _ _ e. e; uses = λ _ _ e. e }

@@ -16,12 +16,12 @@ use Rattle.package_table.specs.declared.error.PackageError.{PackageError}
 use Rattle.package_table.specs.declared.error.PackageError.TheVariants.{EmptyName, NoSuchPackage, PackageExists, PackageIsLocked, NameConflict, NotAccessible, Limit}
 use Rattle.package_table.specs.Limits.{most_packages, most_symbols, longest_package_name, longest_symbol_name}
 use Rattle.package_table.specs.declared.standardized.TheConstants.{CL, CL_USER}
-use Rattle.package_table.specs.Table.{Name, name_cmp, Present, Package, Table, entry_at, full_name, is_locked, package_named, common_lisp, common_lisp_user, keyword, IsPackage, IsPresent, IsExternal, Uses, Finds, IsSound, IsPackageName, symbol_count, with_entry, with_used, with_new_package}
+use Rattle.package_table.specs.Table.{Name, name_cmp, Present, Package, Table, entry_at, full_name, is_locked, package_named, common_lisp, common_lisp_user, keyword, IsPackage, IsPresent, IsExternal, Uses, Finds, AreSoundPackages, IsPackageName, symbol_count, with_entry, with_used, with_new_package}
 use Rattle.package_table.specs.Lookup.{found, is_external, is_used}
-use Rattle.package_table.specs.Changes.{after_make, after_intern, after_export, after_import, after_use, intern_changes, export_changes, import_changes, use_changes, with_external, finds_this, finds_other, user_finds_other, finds_other_than_shown, Gives}
+use Rattle.package_table.specs.Changes.{after_make, after_intern, after_export, after_import, after_use, intern_changes, export_changes, import_changes, use_changes, with_external, finds_this, finds_other, user_finds_other, finds_other_than_shown, AnswersPackages}
 use Rattle.package_table.proofs.Names.{tied_same, same_some, none_some}
 use Rattle.package_table.proofs.Frames.{equal_names, unequal_names}
-use Rattle.package_table.specs.Growth.{Grows, IsSameBut, Tells}
+use Rattle.package_table.specs.Growth.{Grows, IsSameBut, TellsOfChange}
 use Rattle.package_table.proofs.Found.{found_finds, found_is, found_none, present_found, external_entry}
 use Rattle.package_table.proofs.Growing.{Kept, grows_same, grows_with_entry, grows_with_used, grows_with_new, differs_entry, differs_external, differs_used, differs_new, entry_again}
 use Rattle.package_table.proofs.Alone.{Interned, interned_found, interned_new}
@@ -45,16 +45,16 @@ open_to_change p e =
 
 -- what an answer says of a change, where it is what the definition says
 pub told_after : {A B : Type 0} (t u : Table) (view : A → B) (flag : A → Bool) (changes : Bool) (r : Result A PackageError) (said : Result B PackageError)
-    → Gives view r said → IfOk r (λ x. flag x ≡ changes) → ((x : A) → said ≡ Ok (view x) → Tells changes t u) → IfOk r (λ x. Tells (flag x) t u)
-told_after t u view flag changes (Ok x) said gives is told = subst (λ (b : Bool). Tells b t u) (sym is) (told x gives)
+    → AnswersPackages view r said → IfOk r (λ x. flag x ≡ changes) → ((x : A) → said ≡ Ok (view x) → TellsOfChange changes t u) → IfOk r (λ x. TellsOfChange (flag x) t u)
+told_after t u view flag changes (Ok x) said gives is told = subst (λ (b : Bool). TellsOfChange b t u) (sym is) (told x gives)
 told_after t u view flag changes (Err e) said gives is told = is
 
-pub kept_after : {A B : Type 0} (P : Table → Type 0) (t u : Table) (view : A → B) (r : Result A PackageError) (said : Result B PackageError) → Gives view r said → IfErr r (λ _. u ≡ t) → ((x : A) → said ≡ Ok (view x) → P u) → P t → P u
+pub kept_after : {A B : Type 0} (P : Table → Type 0) (t u : Table) (view : A → B) (r : Result A PackageError) (said : Result B PackageError) → AnswersPackages view r said → IfErr r (λ _. u ≡ t) → ((x : A) → said ≡ Ok (view x) → P u) → P t → P u
 kept_after P t u view (Ok x) said gives unchanged kept before = kept x gives
 kept_after P t u view (Err e) said gives unchanged kept before = subst P (sym unchanged) before
 
 -- what p finds by the name n, if anything, is the symbol of home h
-only_this : (t : Table) (p h n : Name) → IsSound t → finds_other t p h n ≡ false → (g : Name) → Finds t p n g → g ≡ h
+only_this : (t : Table) (p h n : Name) → AreSoundPackages t → finds_other t p h n ≡ false → (g : Name) → Finds t p n g → g ≡ h
 only_this t p h n sound alike g finds =
     let is : found t p n ≡ Some g = found_is t n sound.joined p g finds in
     let same : not (bytes_eq g h) ≡ false = sym (ap (λ o. option_map_or (λ g. not (bytes_eq g h)) o false) is) ∙ alike in
@@ -84,7 +84,7 @@ second_false : (a b : Bool) → (a && b) ≡ false → a ≡ true → b ≡ fals
 second_false true b e _ = e
 second_false false b e is = absurd (false≢true is)
 
-pub users_agree : (t : Table) (p h n : Name) → IsSound t → user_finds_other t p h n ≡ false → (q g : Name) → Uses t q p → Finds t q n g → g ≡ h
+pub users_agree : (t : Table) (p h n : Name) → AreSoundPackages t → user_finds_other t p h n ≡ false → (q g : Name) → Uses t q p → Finds t q n g → g ≡ h
 users_agree t p h n sound none q g used finds =
     elim (finite.get t q) as (λ o. finite.get t q ≡ o → option_map (λ (k : Package). finite.contains_key k.uses p) o ≡ Some true → g ≡ h) [
       | None ↦ λ _ no. absurd (none_some true no)
@@ -94,7 +94,7 @@ users_agree t p h n sound none q g used finds =
           g finds
     ] refl used
 
-pub shown_agree : (t : Table) (p q : Name) → IsSound t → finds_other_than_shown t p q ≡ false → (n g h : Name) → Finds t p n g → IsExternal t q n → IsPresent t q n h → g ≡ h
+pub shown_agree : (t : Table) (p q : Name) → AreSoundPackages t → finds_other_than_shown t p q ≡ false → (n g h : Name) → Finds t p n g → IsExternal t q n → IsPresent t q n h → g ≡ h
 shown_agree t p q sound none n g h finds shown there =
     elim (finite.get t q) as (λ o. list_any (λ (s : Name × Present). s.1.external && finds_other t p s.1.home s.0) (option_map_or (λ (k : Package). finite.entries k.symbols) o []) ≡ false
     → option_map (λ (e : Present). e.external) (option_and_then (λ (k : Package). finite.get k.symbols n) o) ≡ Some true → option_map (λ (e : Present). e.home) (option_and_then (λ (k : Package). finite.get k.symbols n) o) ≡ Some h → g ≡ h) [
@@ -111,7 +111,7 @@ shown_agree t p q sound none n g h finds shown there =
     ] none shown there
 
 -- a name by which no package is named is no nickname
-fresh_name : (t : Table) (n : Name) → IsSound t → is_some (package_named t n) ≡ false → (full_name n ≡ n) × (finite.get t n ≡ None)
+fresh_name : (t : Table) (n : Name) → AreSoundPackages t → is_some (package_named t n) ≡ false → (full_name n ≡ n) × (finite.get t n ≡ None)
 fresh_name t n sound fresh =
     elim (bytes_eq n CL.now) as (λ b. is_some (cond (finite.contains_key t (cond b common_lisp (cond (bytes_eq n CL_USER.now) common_lisp_user n))) (Some (cond b common_lisp (cond (bytes_eq n CL_USER.now) common_lisp_user n))) None) ≡ false → (cond b common_lisp (cond (bytes_eq n CL_USER.now) common_lisp_user n) ≡ n) × (finite.get t n ≡ None)) [
       | true ↦ λ no. absurd (false≢true (sym (not_there t common_lisp no) ∙ ap is_some sound.first.fixed))
@@ -132,7 +132,7 @@ fresh_name t n sound fresh =
 same_ok : {A : Type 0} (x y : A) → ◌≡◌ {A = Result A PackageError} (Ok x) (Ok y) → x ≡ y
 same_ok x y e = cc
 
-pub kept_make : (t : Table) (n : Name) (u : Table) → IsSound t → All (λ b. b < 128) n → after_make t n ≡ Ok u → Kept t u true × (symbol_count u ≡ symbol_count t)
+pub kept_make : (t : Table) (n : Name) (u : Table) → AreSoundPackages t → All (λ b. b < 128) n → after_make t n ≡ Ok u → Kept t u true × (symbol_count u ≡ symbol_count t)
 kept_make t n u sound ascii is =
     let some = passes (length n == 0) EmptyName _ u is in
     let fresh = passes (is_some (package_named t n)) PackageExists _ u some.1 in
@@ -157,9 +157,9 @@ again_external t p h n this shown =
     let same : here.0 ≡ h = equal_names here.0 h (sym (ap (λ (o : Option Name). option_map_or (λ g. bytes_eq g h) o false) is) ∙ this) in
     entry_again t p n (record { home = h; external = true }) (here.1 ∙ (λ i. Some (record { home = same i; external = true })))
 
-told_export : (t : Table) (p h n : Name) → IsPackage t p → finds_this t p h n ≡ true → Tells (export_changes t p n) t (with_external t p h n)
+told_export : (t : Table) (p h n : Name) → IsPackage t p → finds_this t p h n ≡ true → TellsOfChange (export_changes t p n) t (with_external t p h n)
 told_export t p h n there this =
-    elim (is_external t p n) as (λ b. is_external t p n ≡ b → Tells (not b) t (with_external t p h n)) [
+    elim (is_external t p n) as (λ b. is_external t p n ≡ b → TellsOfChange (not b) t (with_external t p h n)) [
       | true ↦ λ shown. again_external t p h n this shown
       | false ↦ λ hidden. differs_external t p n (record { home = h; external = true }) there refl hidden
     ] refl
@@ -172,7 +172,7 @@ exported_again t p h n shown is =
     let this = passes (not (finds_this t p h n)) NotAccessible _ (with_external t p h n) open_to.1 in
     is ∙ ap Ok (again_external t p h n (not-false _ this.0) shown)
 
-module _ (t : Table) (p n : Name) (sound : IsSound t) where
+module _ (t : Table) (p n : Name) (sound : AreSoundPackages t) where
   pub kept_intern : (h : Name) (u : Table) → All (λ b. b < 128) n → after_intern t p n ≡ Ok (h, u) → Interned t u p n h (intern_changes t p n)
   kept_intern h u ascii is =
       let there = passes (not (finite.contains_key t p)) NoSuchPackage _ (h, u) is in
@@ -237,7 +237,7 @@ module _ (t : Table) (p n : Name) (sound : IsSound t) where
               )
         ] refl alike.1
 
-pub kept_use : (t : Table) (p q : Name) (sound : IsSound t) (u : Table) → after_use t p q ≡ Ok u → Kept t u (use_changes t p q) × (symbol_count u ≡ symbol_count t)
+pub kept_use : (t : Table) (p q : Name) (sound : AreSoundPackages t) (u : Table) → after_use t p q ≡ Ok u → Kept t u (use_changes t p q) × (symbol_count u ≡ symbol_count t)
 kept_use t p q sound u is =
     let there = passes (not (finite.contains_key t p) || not (finite.contains_key t q)) NoSuchPackage _ u is in
     let open_to = passes (is_locked p || bytes_eq q keyword) PackageIsLocked _ u there.1 in
@@ -263,14 +263,14 @@ kept_use t p q sound u is =
 
 -- What each call leaves, whether it is refused or not: sound packages with as many symbols, in which nothing is lost.
 pub record Stays (t u : Table) : Type 0 where
-  pub sound : IsSound u
+  pub sound : AreSoundPackages u
   pub grows : Grows t u
   pub count : symbol_count u ≡ symbol_count t
 
-stays_same : (t : Table) → IsSound t → Stays t t
+stays_same : (t : Table) → AreSoundPackages t → Stays t t
 stays_same t sound = record { sound = sound; grows = grows_same t; count = refl }
 
-pub stays_after : {A : Type 0} (t u : Table) (changes : Bool) (r : Result A PackageError) (said : Result Table PackageError) → IsSound t → Gives (λ _. u) r said → IfErr r (λ _. u ≡ t)
+pub stays_after : {A : Type 0} (t u : Table) (changes : Bool) (r : Result A PackageError) (said : Result Table PackageError) → AreSoundPackages t → AnswersPackages (λ _. u) r said → IfErr r (λ _. u ≡ t)
     → (said ≡ Ok u → Kept t u changes × (symbol_count u ≡ symbol_count t)) → Stays t u
 stays_after t u changes r said sound gives unchanged kept =
     kept_after (Stays t) t u (λ _. u) r said gives unchanged
@@ -278,18 +278,18 @@ stays_after t u changes r said sound gives unchanged kept =
 
 -- the same of `intern`
 pub record StaysBut (t u : Table) (p n : Name) : Type 0 where
-  pub sound : IsSound u
+  pub sound : AreSoundPackages u
   pub grows : Grows t u
   pub others : IsSameBut t u p n
 
-pub stays_but : {A : Type 0} (t u : Table) (p n : Name) (home : A → Name) (r : Result A PackageError) → IsSound t → All (λ b. b < 128) n
-    → Gives (λ x. (home x, u)) r (after_intern t p n) → IfErr r (λ _. u ≡ t) → StaysBut t u p n
+pub stays_but : {A : Type 0} (t u : Table) (p n : Name) (home : A → Name) (r : Result A PackageError) → AreSoundPackages t → All (λ b. b < 128) n
+    → AnswersPackages (λ x. (home x, u)) r (after_intern t p n) → IfErr r (λ _. u ≡ t) → StaysBut t u p n
 stays_but t u p n home r sound ascii gives unchanged =
     kept_after (λ (u : Table). StaysBut t u p n) t u (λ x. (home x, u)) r (after_intern t p n) gives unchanged
     (λ x is. let k = kept_intern t p n sound (home x) u ascii is in record { sound = k.kept.sound; grows = k.kept.grows; others = k.others })
     (record { sound = sound; grows = grows_same t; others = record { packages = λ _. refl; finds = λ _ _ _. refl; externals = λ _ _ _. refl } })
 
-pub found_after : {A : Type 0} (t u : Table) (p n : Name) (home : A → Name) (r : Result A PackageError) → IsSound t → All (λ b. b < 128) n
-    → Gives (λ x. (home x, u)) r (after_intern t p n) → IfOk r (λ x. found u p n ≡ Some (home x))
+pub found_after : {A : Type 0} (t u : Table) (p n : Name) (home : A → Name) (r : Result A PackageError) → AreSoundPackages t → All (λ b. b < 128) n
+    → AnswersPackages (λ x. (home x, u)) r (after_intern t p n) → IfOk r (λ x. found u p n ≡ Some (home x))
 found_after t u p n home (Ok x) sound ascii gives = (kept_intern t p n sound (home x) u ascii gives).finds
 found_after t u p n home (Err e) sound ascii gives = tt

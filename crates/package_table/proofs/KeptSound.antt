@@ -7,7 +7,7 @@ use Rattle.std.proofs.lemmas.Bool.{false≢true}
 use Rattle.std.specs.Option.{option_map}
 use Rattle.std.specs.FinMap as finite
 use Rattle.package_table.specs.Limits.{most_packages, most_symbols}
-use Rattle.package_table.specs.Table.{Name, Present, Package, Table, entry_at, IsPackage, IsPresent, IsExternal, Uses, Finds, FindsNone, HasFirst, IsWithin, IsSound, IsPackageName, IsSymbolName, common_lisp, common_lisp_user, keyword, symbol_count, with_entry, with_used, with_new_package, empty_package}
+use Rattle.package_table.specs.Table.{Name, Present, Package, Table, entry_at, IsPackage, IsPresent, IsExternal, Uses, Finds, FindsNone, HasFirst, IsWithin, AreSoundPackages, IsPackageName, IsSymbolName, common_lisp, common_lisp_user, keyword, symbol_count, with_entry, with_used, with_new_package, empty_package}
 use Rattle.package_table.proofs.Frames.{place_cases, name_cases, equal_names, get_with_other, get_kept, entry_new, entry_other, uses_with_entry, package_with_entry, entry_with_used, uses_either, uses_still, package_with_used, entry_with_new, uses_with_new, uses_beside_new, other_than_new}
 use Rattle.package_table.proofs.Keeping.{present_at_home, present_either, present_kept, uses_kept, joined_with_entry, joined_with_used, joined_with_new}
 use Rattle.package_table.proofs.Counting.{symbols_new, symbols_from_elsewhere, symbols_again, symbols_with_used, symbols_with_new, len_with_package, len_with_new}
@@ -93,8 +93,8 @@ within_with_entry t p n e there good count within = record {
   symbols = count;
 }
 
-module _ (t : Table) (p n : Name) (sound : IsSound t) (there : IsPackage t p) (open_to : p ≢ common_lisp) where
-  pub sound_interned : FindsNone t p n → IsSymbolName n → symbol_count t < most_symbols → IsSound (with_entry t p n (record { home = p; external = bytes_eq p keyword }))
+module _ (t : Table) (p n : Name) (sound : AreSoundPackages t) (there : IsPackage t p) (open_to : p ≢ common_lisp) where
+  pub sound_interned : FindsNone t p n → IsSymbolName n → symbol_count t < most_symbols → AreSoundPackages (with_entry t p n (record { home = p; external = bytes_eq p keyword }))
   sound_interned none good few =
       let e : Present = record { home = p; external = bytes_eq p keyword } in
       let finds : (g : Name) → Finds t p n g → g ≡ e.home = λ g found. absurd (none g found) in
@@ -115,7 +115,7 @@ module _ (t : Table) (p n : Name) (sound : IsSound t) (there : IsPackage t p) (o
         let elsewhere : h ≢ p = λ (is : h ≡ p). (let there_too : Some h ≡ None = sym (subst (λ (x : Name). IsPresent t x n h) is at_home) ∙ ap (option_map (λ (e : Present). e.home)) none in cc) in
         symbols_from_elsewhere t p n (record { home = h; external = false }) there none elsewhere
 
-    pub sound_imported : ((g : Name) → Finds t p n g → g ≡ h) → entry_at t p n ≡ None → IsSound (with_entry t p n (record { home = h; external = false }))
+    pub sound_imported : ((g : Name) → Finds t p n g → g ≡ h) → entry_at t p n ≡ None → AreSoundPackages (with_entry t p n (record { home = h; external = false }))
     sound_imported finds none =
         let e : Present = record { home = h; external = false } in
         record {
@@ -138,7 +138,7 @@ module _ (t : Table) (p n : Name) (sound : IsSound t) (there : IsPackage t p) (o
     pub count_exported : symbol_count (with_entry t p n (record { home = h; external = true })) ≡ symbol_count t
     count_exported = same_count (entry_at t p n) refl
 
-    pub sound_exported : IsSound (with_entry t p n (record { home = h; external = true }))
+    pub sound_exported : AreSoundPackages (with_entry t p n (record { home = h; external = true }))
     sound_exported =
         let e : Present = record { home = h; external = true } in
         let only : (g : Name) → Finds t p n g → g ≡ h = λ g found. sound.joined.one p n g h found finds in
@@ -148,8 +148,8 @@ module _ (t : Table) (p n : Name) (sound : IsSound t) (there : IsPackage t p) (o
           within = within_with_entry t p n e there (sound.within.symbol_names h n h at_its_home) (let same = count_exported in let few = sound.within.symbols in omega (arith, same, few)) sound.within;
         }
 
-module _ (t : Table) (p q : Name) (sound : IsSound t) (there : IsPackage t p) (open_to : p ≢ common_lisp) (no_keyword : p ≢ keyword) where
-  pub sound_used : IsPackage t q → q ≢ keyword → q ≢ p → ((n g h : Name) → Finds t p n g → IsExternal t q n → IsPresent t q n h → g ≡ h) → IsSound (with_used t p q)
+module _ (t : Table) (p q : Name) (sound : AreSoundPackages t) (there : IsPackage t p) (open_to : p ≢ common_lisp) (no_keyword : p ≢ keyword) where
+  pub sound_used : IsPackage t q → q ≢ keyword → q ≢ p → ((n g h : Name) → Finds t p n g → IsExternal t q n → IsPresent t q n h → g ≡ h) → AreSoundPackages (with_used t p q)
   sound_used used_there no_keyword_used other agree = record {
     joined = joined_with_used t p q used_there other agree sound.joined;
     first = first_with_used t p q there open_to no_keyword no_keyword_used sound.first;
@@ -161,7 +161,7 @@ module _ (t : Table) (p q : Name) (sound : IsSound t) (there : IsPackage t p) (o
     };
   }
 
-pub sound_made : (t : Table) (p : Name) → IsSound t → finite.get t p ≡ None → IsPackageName p → finite.len t < most_packages → IsSound (with_new_package t p)
+pub sound_made : (t : Table) (p : Name) → AreSoundPackages t → finite.get t p ≡ None → IsPackageName p → finite.len t < most_packages → AreSoundPackages (with_new_package t p)
 sound_made t p sound absent good few = record {
   joined = joined_with_new t p absent sound.joined;
   first = first_with_new t p absent sound.first;

@@ -10,11 +10,11 @@ use Rattle.std.specs.FinMap as finite
 use Rattle.std.specs.FinMap.Entries.{find, is_sorted}
 use Rattle.std.specs.Cmp.{both_ways}
 use Rattle.package_sets.specs.Kept.{Kept, import_of, name_at, pair_at, pair_eq, positions_from, positions_of}
-use Rattle.package_sets.specs.Good.{IsGood}
+use Rattle.package_sets.specs.Consistent.{IsGood}
 use Rattle.package_sets.proofs.Places.{any_some, any_none, all_at}
-use Rattle.package_table.specs.Table.{Name, name_cmp, Present, Package, Table, common_lisp, common_lisp_names, common_lisp_package, keyword, is_locked, entry_at, IsPresent, IsSound}
+use Rattle.package_table.specs.Table.{Name, name_cmp, Present, Package, Table, common_lisp, common_lisp_names, common_lisp_package, keyword, is_locked, entry_at, IsPresent, AreSoundPackages}
 use Rattle.package_table.specs.Readers.{present, own_names, external_names, imports, used_names}
-use Rattle.package_table.specs.Meaning.{number_in, is_shown_in, present_in, package_in, home_in, symbol_name, shown_positions, shown_symbol, numbered_of}
+use Rattle.package_table.specs.Meaning.{number_in, is_shown_in, present_in, package_of_number, home_in, symbol_name, shown_positions, shown_symbol, numbered_of}
 use Rattle.package_table.specs.Adds.{IsPlaced}
 use Rattle.package_table.proofs.Names.{same_some, none_some, same_tied}
 use Rattle.package_table.proofs.Frames.{equal_names, equal_itself}
@@ -110,7 +110,7 @@ shown_symbol_fits k good q i =
       | false ↦ λ less. (all_at (λ (p : ℕ × ℕ). (p.0 < length k.packages) × (p.1 < length k.symbols)) k.externals good.within.externals (get_or (positions_of q k.externals) i 0) (0, 0) (place_fits q k.externals i less)).1
     ]
 
-module _ (k : Kept) (good : IsGood k) (placed : IsPlaced k) (sound : IsSound (numbered_of k).0) (Q : Name) (q : ℕ) (here : position (bytes_eq Q) k.packages ≡ Some q) where
+module _ (k : Kept) (good : IsGood k) (placed : IsPlaced k) (sound : AreSoundPackages (numbered_of k).0) (Q : Name) (q : ℕ) (here : position (bytes_eq Q) k.packages ≡ Some q) where
   -- ---- a locked package
   lisp_home : (N h : Name) → IsPresent (numbered_of k).0 common_lisp N h → h ≡ common_lisp
   unfolding common_lisp_package
@@ -154,10 +154,10 @@ module _ (k : Kept) (good : IsGood k) (placed : IsPlaced k) (sound : IsSound (nu
         same_some (pair_at k.symbols (g x)).1 (pair_at k.symbols (g y)).1 (sym (fits x px) ∙ ap (λ n. position (bytes_eq n) k.names) (equal_names (symbol_name k (g x)) (symbol_name k (g y)) same) ∙ fits y py) in
         apart x y px py (same_some (g x) (g y) (sym (inside x px).0 ∙ ap (number_in k q) name ∙ (inside y py).0))
 
-    symbols_at : (n : Name) (j : ℕ) → position (bytes_eq n) k.names ≡ Some j → finite.get (package_in k q).symbols n ≡ option_map (present_in k q) (number_in k q j)
+    symbols_at : (n : Name) (j : ℕ) → position (bytes_eq n) k.names ≡ Some j → finite.get (package_of_number k q).symbols n ≡ option_map (present_in k q) (number_in k q j)
     symbols_at n j is = got_at k.names good.distinct.names (λ j. option_map (present_in k q) (number_in k q j)) n j is
 
-    listed_from : (n : Name) → list_any (λ x. bytes_eq n (symbol_name k (g x))) xs ≡ true → option_map_or test (finite.get (package_in k q).symbols n) false ≡ true
+    listed_from : (n : Name) → list_any (λ x. bytes_eq n (symbol_name k (g x))) xs ≡ true → option_map_or test (finite.get (package_of_number k q).symbols n) false ≡ true
     listed_from n some =
         let at = any_in (λ x. bytes_eq n (symbol_name k (g x))) xs some in
         let px = all_any P xs all at.0 at.1 in
@@ -167,7 +167,7 @@ module _ (k : Kept) (good : IsGood k) (placed : IsPlaced k) (sound : IsSound (nu
         ∙ ap (option_map (present_in k q)) (inside at.0 px).0)
         ∙ (inside at.0 px).1
 
-    listed_to : (n : Name) → option_map_or test (finite.get (package_in k q).symbols n) false ≡ true → list_any (λ x. bytes_eq n (symbol_name k (g x))) xs ≡ true
+    listed_to : (n : Name) → option_map_or test (finite.get (package_of_number k q).symbols n) false ≡ true → list_any (λ x. bytes_eq n (symbol_name k (g x))) xs ≡ true
     listed_to n some =
         elim (position (bytes_eq n) k.names) as (λ o. position (bytes_eq n) k.names ≡ o → list_any (λ x. bytes_eq n (symbol_name k (g x))) xs ≡ true) [
           | None ↦ λ none. absurd (false≢true (sym (ap (λ o. option_map_or test o false) (got_none k.names good.distinct.names (λ j. option_map (present_in k q) (number_in k q j)) n none)) ∙ some))
@@ -186,9 +186,9 @@ module _ (k : Kept) (good : IsGood k) (placed : IsPlaced k) (sound : IsSound (nu
 
     pub listed : (result : List Name) → IsPermutation (map (λ x. symbol_name k (g x)) xs) result → IsSorted name_cmp result → result ≡ map (λ s. s.0) (filter (λ s. test s.1) (present (numbered_of k).0 Q))
     listed result moved sorted =
-        sorted_is (map (λ x. symbol_name k (g x)) xs) result (map (λ s. s.0) (filter (λ s. test s.1) (finite.entries (package_in k q).symbols)))
-        (distinct_mapped P (λ x. symbol_name k (g x)) injective xs distinct all) moved sorted (kept_rise (λ s. test s.1) (package_in k q).symbols)
-        (λ n. any_mapped n (λ x. symbol_name k (g x)) xs ∙ both_ways _ _ (listed_from n) (listed_to n) ∙ sym (kept_among (λ s. test s.1) (package_in k q).symbols n))
+        sorted_is (map (λ x. symbol_name k (g x)) xs) result (map (λ s. s.0) (filter (λ s. test s.1) (finite.entries (package_of_number k q).symbols)))
+        (distinct_mapped P (λ x. symbol_name k (g x)) injective xs distinct all) moved sorted (kept_rise (λ s. test s.1) (package_of_number k q).symbols)
+        (λ n. any_mapped n (λ x. symbol_name k (g x)) xs ∙ both_ways _ _ (listed_from n) (listed_to n) ∙ sym (kept_among (λ s. test s.1) (package_of_number k q).symbols n))
         ∙ sym (ap (λ o. map (λ s. s.0) (filter (λ (s : Name × Present). test s.1) (option_map_or (λ (h : Package). finite.entries h.symbols) o []))) (package_at k good Q q here))
 
   -- x is the place of one of the pairs that begin with q
@@ -314,24 +314,24 @@ module _ (k : Kept) (good : IsGood k) (placed : IsPlaced k) (sound : IsSound (nu
 
   pub used_listed : (result : List Name) → IsPermutation (map (λ x. name_at k.packages (pair_at k.uses x).1) (positions_of q k.uses)) result → IsSorted name_cmp result → result ≡ used_names (numbered_of k).0 Q
   used_listed result moved sorted =
-      sorted_is (map (λ x. name_at k.packages (pair_at k.uses x).1) (positions_of q k.uses)) result (finite.keys (package_in k q).uses)
+      sorted_is (map (λ x. name_at k.packages (pair_at k.uses x).1) (positions_of q k.uses)) result (finite.keys (package_of_number k q).uses)
       (distinct_mapped (IsOf k.uses) (λ x. name_at k.packages (pair_at k.uses x).1)
       (λ x y at to same.
       let one : (pair_at k.uses x).1 ≡ (pair_at k.uses y).1 = same_some (pair_at k.uses x).1 (pair_at k.uses y).1 (sym (used_position x at) ∙ ap (λ n. position (bytes_eq n) k.packages) (equal_names (name_at k.packages (pair_at k.uses x).1) (name_at k.packages (pair_at k.uses y).1) same) ∙ used_position y to) in
       same_some x y (sym (place k.uses good.distinct.uses x at) ∙ ap (λ (r : ℕ). position (pair_eq (q, r)) k.uses) one ∙ place k.uses good.distinct.uses y to))
       (positions_of q k.uses) (positions_apart q 0 k.uses) (all_of k.uses))
-      moved sorted (keys_rise (package_in k q).uses)
-      (λ n. any_mapped n (λ x. name_at k.packages (pair_at k.uses x).1) (positions_of q k.uses) ∙ both_ways _ _ (used_from n) (used_to n) ∙ sym (keys_among (package_in k q).uses n))
+      moved sorted (keys_rise (package_of_number k q).uses)
+      (λ n. any_mapped n (λ x. name_at k.packages (pair_at k.uses x).1) (positions_of q k.uses) ∙ both_ways _ _ (used_from n) (used_to n) ∙ sym (keys_among (package_of_number k q).uses n))
       ∙ sym (ap (λ o. option_map_or (λ (h : Package). finite.keys h.uses) o []) (package_at k good Q q here))
     where
-      used_from : (n : Name) → list_any (λ x. bytes_eq n (name_at k.packages (pair_at k.uses x).1)) (positions_of q k.uses) ≡ true → finite.contains_key (package_in k q).uses n ≡ true
+      used_from : (n : Name) → list_any (λ x. bytes_eq n (name_at k.packages (pair_at k.uses x).1)) (positions_of q k.uses) ≡ true → finite.contains_key (package_of_number k q).uses n ≡ true
       used_from n some =
           let at = any_in (λ x. bytes_eq n (name_at k.packages (pair_at k.uses x).1)) (positions_of q k.uses) some in
           let here_x = all_any (IsOf k.uses) (positions_of q k.uses) (all_of k.uses) at.0 at.1 in
           let there : position (bytes_eq n) k.packages ≡ Some (pair_at k.uses at.0).1 = ap (λ m. position (bytes_eq m) k.packages) (equal_names n (name_at k.packages (pair_at k.uses at.0).1) at.2) ∙ used_position at.0 here_x in
           ap is_some (uses_there k good Q q (pair_at k.uses at.0).1 n there ∙ ap (option_map (λ _. tt {0})) (place k.uses good.distinct.uses at.0 here_x))
 
-      used_to : (n : Name) → finite.contains_key (package_in k q).uses n ≡ true → list_any (λ x. bytes_eq n (name_at k.packages (pair_at k.uses x).1)) (positions_of q k.uses) ≡ true
+      used_to : (n : Name) → finite.contains_key (package_of_number k q).uses n ≡ true → list_any (λ x. bytes_eq n (name_at k.packages (pair_at k.uses x).1)) (positions_of q k.uses) ≡ true
       used_to n some =
           elim (position (bytes_eq n) k.packages) as (λ o. position (bytes_eq n) k.packages ≡ o → list_any (λ x. bytes_eq n (name_at k.packages (pair_at k.uses x).1)) (positions_of q k.uses) ≡ true) [
             | None ↦ λ none. absurd (false≢true (sym (ap is_some (uses_none k good Q q n none)) ∙ some))

@@ -10,7 +10,7 @@ use Rattle.package_sets.specs.Kept.{Kept, cut, sizes_of, AreUpTo}
 use Rattle.package_sets.proofs.Places.{all_at}
 use Rattle.package_table.specs.Numbering.{IsNumbered, IsNumberedSound}
 use Rattle.package_table.specs.Meaning.{numbered_of}
-use Rattle.package_table.specs.Shown.{IsMark, IsState, IsRising, tables_at}
+use Rattle.package_table.specs.Views.{IsMark, IsState, IsRising, tables_at}
 use Rattle.package_sets.proofs.Cut.{cut_itself, cut_cut, up_to_itself}
 use Rattle.package_table.proofs.ByName.{numbers_always}
 

@@ -11,10 +11,10 @@ use Rattle.std.specs.Option.{option_or, option_map_or}
 use Rattle.std.specs.List.{IsDistinct}
 use Rattle.std.specs.FinMap as finite
 use Rattle.package_sets.specs.Kept.{Kept, import_of, pair_at, pair_eq}
-use Rattle.package_sets.specs.Good.{IsGood, AreWithin}
+use Rattle.package_sets.specs.Consistent.{IsGood, AreWithin}
 use Rattle.package_table.specs.Table.{Name, name_cmp, Present, Package, entry_at, with_entry}
 use Rattle.package_table.specs.Numbers.{Numbered, number_at, with_numbers, with_numbered}
-use Rattle.package_table.specs.Meaning.{map_by, number_in, present_in, package_in, numbers_in, table_of, all_numbers_of, numbered_of}
+use Rattle.package_table.specs.Meaning.{map_by, number_in, present_in, package_of_number, numbers_in, table_of, all_numbers_of, numbered_of}
 use Rattle.package_sets.proofs.Places.{all_at}
 use Rattle.package_table.proofs.Names.{same_some, none_some}
 use Rattle.package_table.proofs.Mapped.{got_at, got_none, same, put}
@@ -97,13 +97,13 @@ module _ (k : Kept) (good : IsGood k) where
 
 -- ---- what is at a name
 module _ (k : Kept) (good : IsGood k) (P : Name) where
-  pub package_at : (p : ℕ) → position (bytes_eq P) k.packages ≡ Some p → finite.get (numbered_of k).0 P ≡ Some (package_in k p)
+  pub package_at : (p : ℕ) → position (bytes_eq P) k.packages ≡ Some p → finite.get (numbered_of k).0 P ≡ Some (package_of_number k p)
   unfolding numbered_of
-  package_at p is = got_at k.packages good.distinct.packages (λ p. Some (package_in k p)) P p is
+  package_at p is = got_at k.packages good.distinct.packages (λ p. Some (package_of_number k p)) P p is
 
   pub package_none : position (bytes_eq P) k.packages ≡ None → finite.get (numbered_of k).0 P ≡ None
   unfolding numbered_of
-  package_none none = got_none k.packages good.distinct.packages (λ p. Some (package_in k p)) P none
+  package_none none = got_none k.packages good.distinct.packages (λ p. Some (package_of_number k p)) P none
 
   pub numbers_there : (p : ℕ) → position (bytes_eq P) k.packages ≡ Some p → finite.get (numbered_of k).1 P ≡ Some (numbers_in k p)
   unfolding numbered_of
@@ -131,10 +131,10 @@ module _ (k : Kept) (good : IsGood k) (P : Name) where
         ∙ got_none k.names good.distinct.names (number_in k p) N none
 
   -- whether a package uses another
-  pub uses_there : (p q : ℕ) (Q : Name) → position (bytes_eq Q) k.packages ≡ Some q → finite.get (package_in k p).uses Q ≡ option_map (λ _. tt) (position (pair_eq (p, q)) k.uses)
+  pub uses_there : (p q : ℕ) (Q : Name) → position (bytes_eq Q) k.packages ≡ Some q → finite.get (package_of_number k p).uses Q ≡ option_map (λ _. tt) (position (pair_eq (p, q)) k.uses)
   uses_there p q Q is = got_at k.packages good.distinct.packages (λ q. option_map (λ _. tt {0}) (position (pair_eq (p, q)) k.uses)) Q q is
 
-  pub uses_none : (p : ℕ) (Q : Name) → position (bytes_eq Q) k.packages ≡ None → finite.get (package_in k p).uses Q ≡ None
+  pub uses_none : (p : ℕ) (Q : Name) → position (bytes_eq Q) k.packages ≡ None → finite.get (package_of_number k p).uses Q ≡ None
   uses_none p Q none = got_none k.packages good.distinct.packages (λ q. option_map (λ _. tt {0}) (position (pair_eq (p, q)) k.uses)) Q none
 
 -- ---- an entry
@@ -157,18 +157,18 @@ module _ (k : Kept) (names : IsDistinct bytes_eq k.names) (packages : IsDistinct
   unfolding numbered_of package_then
   entry_put = λ t. (tables t, all_numbers t)
     where
-      symbols_stay : (q : ℕ) → q ≢ p → map_by k.names (λ m. option_map (seen q) (numbers q m)) ≡ (package_in k q).symbols
+      symbols_stay : (q : ℕ) → q ≢ p → map_by k.names (λ m. option_map (seen q) (numbers q m)) ≡ (package_of_number k q).symbols
       symbols_stay q apart = same k.names names (λ m. option_map (present_in k q) (number_in k q m)) (λ m. option_map (seen q) (numbers q m)) (λ m _. entries_stay q m (inl apart))
 
-      symbols_put : map_by k.names (λ m. option_map (seen p) (numbers p m)) ≡ finite.insert (package_in k p).symbols N e
+      symbols_put : map_by k.names (λ m. option_map (seen p) (numbers p m)) ≡ finite.insert (package_of_number k p).symbols N e
       symbols_put = put k.names names (λ m. option_map (present_in k p) (number_in k p m)) (λ m. option_map (seen p) (numbers p m)) N j e there (λ m _ apart. entries_stay p m (inr apart)) entry_is
 
       tables : map_by k.packages (λ q. Some (package_then q)) ≡ with_entry (table_of k) P N e
       tables =
-          put k.packages packages (λ q. Some (package_in k q)) (λ q. Some (package_then q)) P p (record (package_in k p) { symbols = finite.insert (package_in k p).symbols N e }) here
+          put k.packages packages (λ q. Some (package_of_number k q)) (λ q. Some (package_then q)) P p (record (package_of_number k p) { symbols = finite.insert (package_of_number k p).symbols N e }) here
           (λ q _ apart t. Some (record { symbols = symbols_stay q apart t; uses = uses_by k q }))
           (λ t. Some (record { symbols = symbols_put t; uses = uses_by k p }))
-          ∙ sym (ap (λ o. option_map_or (λ (h : Package). finite.insert (table_of k) P (record h { symbols = finite.insert h.symbols N e })) o (table_of k)) (got_at k.packages packages (λ q. Some (package_in k q)) P p here))
+          ∙ sym (ap (λ o. option_map_or (λ (h : Package). finite.insert (table_of k) P (record h { symbols = finite.insert h.symbols N e })) o (table_of k)) (got_at k.packages packages (λ q. Some (package_of_number k q)) P p here))
 
       all_numbers : map_by k.packages (λ q. Some (map_by k.names (numbers q))) ≡ with_numbers (all_numbers_of k) P (λ m. finite.insert m N i)
       all_numbers =

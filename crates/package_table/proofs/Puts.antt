@@ -8,8 +8,8 @@ use Rattle.std.specs.Option.{option_or, option_map_or}
 use Rattle.std.specs.Ordering.{eq_by_cmp}
 use Rattle.std.specs.FinMap as finite
 use Rattle.package_sets.specs.Kept.{Kept, import_of, name_at, pair_at, pair_eq, positions_of}
-use Rattle.package_sets.specs.Good.{IsGood}
-use Rattle.package_sets.specs.Changes.{symbol_named, with_external, with_import, with_symbol}
+use Rattle.package_sets.specs.Consistent.{IsGood}
+use Rattle.package_sets.specs.Changes.{symbol_named, with_external_number, with_import, with_symbol}
 use Rattle.package_table.specs.Table.{Name, name_cmp, Present, Package, Table, entry_at, with_entry, common_lisp, keyword, is_locked, IsJoined, IsPresent}
 use Rattle.package_table.specs.Lookup.{found, is_external}
 use Rattle.package_table.specs.Changes.{finds_this}
@@ -159,7 +159,7 @@ module _ (k : Kept) (good : IsGood k) (P N : Name) (p : ℕ) (here : position (b
         ap (home_in k) (same_some i found_it.0 (sym is ∙ found_it.1)) ∙ found_it.2
 
     -- it is present in p
-    pub shown_present : (i : ℕ) (H : Name) → number_in k p j ≡ Some i → home_in k i ≡ H → numbered_of (with_external k p i) ≡ with_numbered (numbered_of k) P N (record { home = H; external = true }) i
+    pub shown_present : (i : ℕ) (H : Name) → number_in k p j ≡ Some i → home_in k i ≡ H → numbered_of (with_external_number k p i) ≡ with_numbered (numbered_of k) P N (record { home = H; external = true }) i
     shown_present i H is home = external_added k good P N p j i here there is ∙ ap (λ h. with_numbered (numbered_of k) P N (record { home = h; external = true }) i) home
 
     -- it is not, and becomes so
@@ -170,15 +170,15 @@ module _ (k : Kept) (good : IsGood k) (P N : Name) (p : ℕ) (here : position (b
       then_number : number_in (with_import k p i) p (pair_at k.symbols i).1 ≡ Some i
       then_number = import_new_number k good P N p i here less (there ∙ ap Some (sym name)) then_none
 
-      pub shown_inherited : (H : Name) → home_in k i ≡ H → (numbered_of (with_external (with_import k p i) p i)).0 ≡ with_entry (numbered_of k).0 P N (record { home = H; external = true })
+      pub shown_inherited : (H : Name) → home_in k i ≡ H → (numbered_of (with_external_number (with_import k p i) p i)).0 ≡ with_entry (numbered_of k).0 P N (record { home = H; external = true })
       shown_inherited H home =
           ap (λ (s : Numbered). s.0) (external_added (with_import k p i) good_then P N p (pair_at k.symbols i).1 i here (there ∙ ap Some (sym name)) then_number)
           ∙ ap (λ (s : Numbered). with_entry s.0 P N (record { home = home_in k i; external = true })) (import_added k good P N p i here less (there ∙ ap Some (sym name)) then_none)
           ∙ entry_twice (numbered_of k).0 P N (present_in k p i) (record { home = home_in k i; external = true })
           ∙ ap (λ h. with_entry (numbered_of k).0 P N (record { home = h; external = true })) home
 
-      pub inherited_adds : IsGood (with_external (with_import k p i) p i) → Adds k (with_external (with_import k p i) p i)
-      inherited_adds good_after = adds_both k (with_import k p i) (with_external (with_import k p i) p i) (import_adds k good p i then_none good_then) (external_adds (with_import k p i) good_then p (pair_at k.symbols i).1 i then_number good_after)
+      pub inherited_adds : IsGood (with_external_number (with_import k p i) p i) → Adds k (with_external_number (with_import k p i) p i)
+      inherited_adds good_after = adds_both k (with_import k p i) (with_external_number (with_import k p i) p i) (import_adds k good p i then_none good_then) (external_adds (with_import k p i) good_then p (pair_at k.symbols i).1 i then_number good_after)
 
 -- what is not external is not kept as external
 pub not_external : (k : Kept) → IsGood k → (P N : Name) (p j i : ℕ) → position (bytes_eq P) k.packages ≡ Some p → position (bytes_eq N) k.names ≡ Some j → number_in k p j ≡ Some i

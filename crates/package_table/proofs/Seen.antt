@@ -12,7 +12,7 @@ use Rattle.std.specs.FinMap.{is_sorted}
 use Rattle.lisp_object.proofs.Tree as tree
 use Rattle.lisp_object.proofs.TreeEntries as tree_entries
 use Rattle.package_table.specs.Table.{Name, name_cmp}
-use Rattle.package_table.specs.Kept.{as_map}
+use Rattle.package_table.specs.KeptTrees.{as_map}
 use Rattle.package_table.proofs.Names.{name_total, name_exact}
 
 pub copied : {A B : Type 0} (g : A → B) (r : Option (Bor A)) → option_map (λ x. g x.now) r ≡ option_map g (option_copied r)

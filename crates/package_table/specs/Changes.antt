@@ -15,6 +15,7 @@ use Rattle.package_table.specs.Readers.{present}
 abbrev pub is_full_of_packages : Table → Bool
 is_full_of_packages t = nat_le most_packages (finite.len t)
 
+-- there may be no symbol more
 abbrev pub is_full_of_symbols : Table → Bool
 is_full_of_symbols t = nat_le most_symbols (symbol_count t)
 
@@ -93,20 +94,23 @@ after_use t p q =
 abbrev pub intern_changes : Table → Name → Name → Bool
 intern_changes t p n = is_none (found t p n)
 
+-- whether EXPORT changes something: the symbol is not external yet
 abbrev pub export_changes : Table → Name → Name → Bool
 export_changes t p n = not (is_external t p n)
 
+-- whether IMPORT changes something: the symbol is not present yet
 abbrev pub import_changes : Table → Name → Name → Bool
 import_changes t p n = not (is_present t p n)
 
+-- whether USE-PACKAGE changes something: it is another package, and not used yet
 abbrev pub use_changes : Table → Name → Name → Bool
 use_changes t p q = not (bytes_eq p q || is_used t p q)
 
 -- A call answers what the definition says. That a growth was refused it answers only if the definition refuses nothing.
-abbrev pub Gives : {A B : Type 0} → (A → B) → Result A PackageError → Result B PackageError → Type 0
-Gives view (Ok x) said = said ≡ Ok (view x)
-Gives view (Err OutOfMemory) said = IsOk said
-Gives view (Err e) said = said ≡ Err e
+abbrev pub AnswersPackages : {A B : Type 0} → (A → B) → Result A PackageError → Result B PackageError → Type 0
+AnswersPackages view (Ok x) said = said ≡ Ok (view x)
+AnswersPackages view (Err OutOfMemory) said = IsOk said
+AnswersPackages view (Err e) said = said ≡ Err e
 
 -- A call that is not refused answers v.
 abbrev pub Yields : {B : Type 0} → Result B PackageError → B → Type 0

@@ -18,6 +18,6 @@ pub record IsSameBut (t u : Table) (p n : Name) : Type 0 where
   pub externals : (q m : Name) → (q ≢ p) ⊎ (m ≢ n) → external_home u q m ≡ external_home t q m
 
 -- whether the table changed
-abbrev pub Tells : Bool → Table → Table → Type 0
-Tells true t u = u ≢ t
-Tells false t u = u ≡ t
+abbrev pub TellsOfChange : Bool → Table → Table → Type 0
+TellsOfChange true t u = u ≢ t
+TellsOfChange false t u = u ≡ t

@@ -1,5 +1,5 @@
 pub mod Limits
-pub mod Errors
+pub mod ErrorNumbers
 pub mod Table
 pub mod Lookup
 pub mod Symbols
@@ -11,5 +11,5 @@ pub mod Changes
 pub mod Growth
 pub mod Meaning
 pub mod Adds
-pub mod Kept
-pub mod Shown
+pub mod KeptTrees
+pub mod Views

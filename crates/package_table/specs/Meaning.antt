@@ -60,8 +60,8 @@ module _ (k : Kept) where
   finds_another p i = option_map_or (λ o. not (bytes_eq (home_in o) (home_in i))) (found_number p (pair_at k.symbols i).1) false
 
   -- what the package p has, and the numbers of its symbols
-  abbrev pub package_in : ℕ → Package
-  package_in p = record {
+  abbrev pub package_of_number : ℕ → Package
+  package_of_number p = record {
     symbols = map_by k.names (λ j. option_map (present_in p) (number_in p j));
     uses = map_by k.packages (λ q. option_map (λ _. tt) (position (pair_eq (p, q)) k.uses));
   }
@@ -70,7 +70,7 @@ module _ (k : Kept) where
   numbers_in p = map_by k.names (number_in p)
 
   abbrev pub table_of : Table
-  table_of = map_by k.packages (λ p. Some (package_in p))
+  table_of = map_by k.packages (λ p. Some (package_of_number p))
 
   abbrev pub all_numbers_of : Numbers
   all_numbers_of = map_by k.packages (λ p. Some (numbers_in p))

@@ -1,6 +1,6 @@
 -- How symbols are numbered: one number for one symbol, for as long as there is the symbol.
 use Rattle.std.specs.Prelude.{◌≡◌, ◌<◌, ℕ, Some}
-use Rattle.package_table.specs.Table.{Name, IsPresent, IsSound, symbol_count}
+use Rattle.package_table.specs.Table.{Name, IsPresent, AreSoundPackages, symbol_count}
 use Rattle.package_table.specs.Numbers.{Numbered, number_at}
 
 -- Each symbol has a number below the count, and two symbols have two.
@@ -10,7 +10,7 @@ pub record IsNumbered (s : Numbered) (count : ℕ) : Type 0 where
 
 -- sound packages, whose symbols have numbers below how many there are
 abbrev pub IsNumberedSound : Numbered → Type 0
-IsNumberedSound s = IsSound s.0 × IsNumbered s (symbol_count s.0)
+IsNumberedSound s = AreSoundPackages s.0 × IsNumbered s (symbol_count s.0)
 
 -- Each symbol that was there keeps its number.
 abbrev pub KeepsNumbers : Numbered → Numbered → Type 0

@@ -68,6 +68,7 @@ abbrev pub is_locked : Name → Bool
 is_locked p = if bytes_eq p common_lisp then true else bytes_eq p keyword
 
 module _ (t : Table) where
+  -- there is a package of this name
   abbrev pub IsPackage : Name → Type 0
   IsPackage p = IsTrue (finite.contains_key t p)
 
@@ -75,6 +76,7 @@ module _ (t : Table) where
   abbrev pub package_named : Name → Option Name
   package_named n = if finite.contains_key t (full_name n) then Some (full_name n) else None
 
+  -- what is present in a package by a name, inherited symbols aside
   abbrev pub entry_at : Name → Name → Option Present
   entry_at p n = option_and_then (λ k. finite.get k.symbols n) (finite.get t p)
 
@@ -94,6 +96,7 @@ module _ (t : Table) where
   abbrev pub Finds : Name → Name → Name → Type 0
   Finds p n h = IsPresent p n h ⊎ ((q : Name) × Uses p q × IsExternal q n × IsPresent q n h)
 
+  -- the package finds no symbol by the name
   abbrev pub FindsNone : Name → Name → Type 0
   FindsNone p n = (h : Name) → Finds p n h → ⊥
 
@@ -117,6 +120,7 @@ with_entry t p n e = with_changed_package t p (λ k. record k { symbols = finite
 abbrev pub with_used : Table → Name → Name → Table
 with_used t p q = with_changed_package t p (λ k. record k { uses = finite.insert k.uses q tt })
 
+-- a package with no symbol, which uses none
 abbrev pub empty_package : Package
 empty_package = record { symbols = finite.empty; uses = finite.empty }
 
@@ -149,9 +153,11 @@ keyword_names =
     codes "STD-QUOTE" ∷ codes "STD-RADIX" ∷ codes "STD-STRING" ∷ codes "STD-UNINTERNED" ∷ codes "STD-VECTOR" ∷
     codes "UPCASE" ∷ codes "USER" ∷ []
 
+-- COMMON-LISP, with the symbols that it has from the first on, each external
 unfoldable pub common_lisp_package : Package
 common_lisp_package = package_of_names common_lisp common_lisp_names
 
+-- KEYWORD, with the keywords that it has from the first on
 unfoldable pub keyword_package : Package
 keyword_package = package_of_names keyword keyword_names
 
@@ -202,7 +208,7 @@ pub record IsWithin (t : Table) : Type 0 where
   pub symbols : symbol_count t ≤ most_symbols
 
 -- what holds of all packages
-pub record IsSound (t : Table) : Type 0 where
+pub record AreSoundPackages (t : Table) : Type 0 where
   pub joined : IsJoined t
   pub first : HasFirst t
   pub within : IsWithin t

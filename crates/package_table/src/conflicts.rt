@@ -2,9 +2,9 @@
 ghost use Rattle.std.specs.Prelude.{◌≡◌, ◌<◌, ◌&&◌, false, nat_lt, length};
 ghost use Rattle.std.specs.FinMap as finite;
 ghost use Rattle.package_sets.specs.Kept.{name_at};
-ghost use Rattle.package_table.specs.Table.{IsJoined, IsPackage, IsSound};
+ghost use Rattle.package_table.specs.Table.{IsJoined, IsPackage, AreSoundPackages};
 ghost use Rattle.package_table.specs.Changes.{finds_this, finds_other, user_finds_other, finds_other_than_shown};
-ghost use Rattle.package_table.specs.Meaning.{finds_another, numbered_of, package_in, shown_positions, shown_symbol};
+ghost use Rattle.package_table.specs.Meaning.{finds_another, numbered_of, package_of_number, shown_positions, shown_symbol};
 ghost use Rattle.package_table.specs.Adds.{IsPlaced};
 
 use crate::limits::LOCKED_PACKAGES;
@@ -40,7 +40,7 @@ fn finds_as_user(sets: &PackageSets, user: u32, owner: u32, home: &[u8], name: u
     requires name { name < length sets.now.names }
     requires joined { IsJoined (numbered_of sets.now).0 }
     ensures { let k = sets.now in let at = name_at k.packages in
-        result ≡ (finite.contains_key (package_in k user).uses (at owner)
+        result ≡ (finite.contains_key (package_of_number k user).uses (at owner)
         && finds_other (numbered_of k).0 (at user) home.now (name_at k.names name)) }
 {
     sets.goodness();
@@ -56,7 +56,7 @@ fn finds_as_user(sets: &PackageSets, user: u32, owner: u32, home: &[u8], name: u
 /// Whether a package that uses `owner` finds another symbol than that of this home by its name. Only those that use it
 /// look the name up.
 pub(crate) fn user_finds_other(sets: &PackageSets, owner: &[u8], home: &[u8], name: &[u8]) -> bool
-    requires { IsSound (numbered_of sets.now).0 }
+    requires { AreSoundPackages (numbered_of sets.now).0 }
     ensures { result ≡ user_finds_other (numbered_of sets.now).0 owner.now home.now name.now }
 {
     sets.goodness();
@@ -116,7 +116,7 @@ pub(crate) fn shown_symbol(sets: &PackageSets, owner: u32, position: u32) -> u32
 pub(crate) fn finds_other_than_shown(sets: &PackageSets, owner: &[u8], used: &[u8]) -> bool
     requires owner { IsPackage (numbered_of sets.now).0 owner.now }
     requires used { IsPackage (numbered_of sets.now).0 used.now }
-    requires sound { IsSound (numbered_of sets.now).0 }
+    requires sound { AreSoundPackages (numbered_of sets.now).0 }
     requires placed { IsPlaced sets.now }
     ensures { result ≡ finds_other_than_shown (numbered_of sets.now).0 owner.now used.now }
 {

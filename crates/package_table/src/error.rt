@@ -1,6 +1,6 @@
 //! Why a call on packages is refused.
 ghost use Rattle.std.specs.Prelude.{◌≡◌};
-ghost use Rattle.package_table.specs.Errors.{package_error_number};
+ghost use Rattle.package_table.specs.ErrorNumbers.{package_error_number};
 
 use lisp_object::refusal;
 use std::alloc::AllocError;

@@ -1,8 +1,8 @@
 //! `export`: a symbol becomes external.
 ghost use Rattle.std.specs.Prelude.{◌≡◌, IfErr, IfOk};
-ghost use Rattle.package_table.specs.Table.{IsSound};
-ghost use Rattle.package_table.specs.Changes.{after_export, export_changes, with_external, Gives, RunsOutOnlyIf, TellsChange, Yields};
-ghost use Rattle.package_table.specs.Growth.{Grows, Tells};
+ghost use Rattle.package_table.specs.Table.{AreSoundPackages};
+ghost use Rattle.package_table.specs.Changes.{after_export, export_changes, with_external, AnswersPackages, RunsOutOnlyIf, TellsChange, Yields};
+ghost use Rattle.package_table.specs.Growth.{Grows, TellsOfChange};
 ghost use Rattle.package_table.specs.Numbers.{numbered};
 ghost use Rattle.package_table.specs.Numbering.{KeepsNumbers};
 ghost use Rattle.package_table.specs.Meaning.{numbered_of};
@@ -23,9 +23,9 @@ fn export_refusal(
     home: &[u8],
     name: &[u8],
 ) -> Result<bool, PackageError>
-    requires { IsSound (numbered_of sets.now).0 }
+    requires { AreSoundPackages (numbered_of sets.now).0 }
     ensures gives { let t = (numbered_of sets.now).0 in
-        Gives (λ _. with_external t owner.now home.now name.now) result
+        AnswersPackages (λ _. with_external t owner.now home.now name.now) result
         (after_export t owner.now home.now name.now) }
     ensures changes { TellsChange
         (export_changes (numbered_of sets.now).0 owner.now name.now) result }
@@ -51,9 +51,9 @@ fn export_symbol(
     home: &[u8],
     name: &[u8],
 ) -> Result<bool, PackageError>
-    requires sound { IsSound (numbered_of sets.old).0 }
+    requires sound { AreSoundPackages (numbered_of sets.old).0 }
     requires placed { IsPlaced sets.old }
-    ensures gives { Gives (λ _. (numbered_of sets.new).0) result
+    ensures gives { AnswersPackages (λ _. (numbered_of sets.new).0) result
         (after_export (numbered_of sets.old).0 owner.now home.now name.now) }
     ensures changed { TellsChange
         (export_changes (numbered_of sets.old).0 owner.now name.now) result }
@@ -77,10 +77,10 @@ impl Packages {
     /// `NotAccessible` if `owner` does not find this symbol by its name; `NameConflict` if a package that uses
     /// `owner` finds another symbol by that name; `OutOfMemory` if memory runs out. Nothing is changed then.
     pub fn export(&mut self, owner: &[u8], home: &[u8], name: &[u8]) -> Result<bool, PackageError>
-        ensures gives { Gives (λ _. self.new.0) result
+        ensures gives { AnswersPackages (λ _. self.new.0) result
             (after_export self.old.0 owner.now home.now name.now) }
         ensures changed { Yields result (export_changes self.old.0 owner.now name.now) }
-        ensures exactly { IfOk result (λ changed. Tells changed self.old.0 self.new.0) }
+        ensures exactly { IfOk result (λ changed. TellsOfChange changed self.old.0 self.new.0) }
         ensures grows { Grows self.old.0 self.new.0 }
         ensures memory { IfErr result
             (RunsOutOnlyIf (export_changes self.old.0 owner.now name.now)) }

@@ -1,8 +1,8 @@
 //! `import`: a symbol becomes present.
 ghost use Rattle.std.specs.Prelude.{◌≡◌, IfErr, IfOk};
 ghost use Rattle.package_table.specs.Table.{IsJoined, IsPresent};
-ghost use Rattle.package_table.specs.Changes.{after_import, import_changes, with_present, Gives, RunsOutOnlyIf, TellsChange, Yields};
-ghost use Rattle.package_table.specs.Growth.{Grows, Tells};
+ghost use Rattle.package_table.specs.Changes.{after_import, import_changes, with_present, AnswersPackages, RunsOutOnlyIf, TellsChange, Yields};
+ghost use Rattle.package_table.specs.Growth.{Grows, TellsOfChange};
 ghost use Rattle.package_table.specs.Numbers.{numbered};
 ghost use Rattle.package_table.specs.Numbering.{KeepsNumbers};
 ghost use Rattle.package_table.specs.Meaning.{numbered_of};
@@ -25,7 +25,7 @@ fn import_refusal(
 ) -> Result<bool, PackageError>
     requires { IsJoined (numbered_of sets.now).0 }
     ensures gives { let t = (numbered_of sets.now).0 in
-        Gives (λ _. with_present t owner.now home.now name.now) result
+        AnswersPackages (λ _. with_present t owner.now home.now name.now) result
         (after_import t owner.now home.now name.now) }
     ensures changes { TellsChange
         (import_changes (numbered_of sets.now).0 owner.now name.now) result }
@@ -51,7 +51,7 @@ fn import_symbol(
     requires symbol { IsPresent (numbered_of sets.old).0 home.now name.now home.now }
     requires joined { IsJoined (numbered_of sets.old).0 }
     requires placed { IsPlaced sets.old }
-    ensures gives { Gives (λ _. (numbered_of sets.new).0) result
+    ensures gives { AnswersPackages (λ _. (numbered_of sets.new).0) result
         (after_import (numbered_of sets.old).0 owner.now home.now name.now) }
     ensures changed { TellsChange
         (import_changes (numbered_of sets.old).0 owner.now name.now) result }
@@ -77,12 +77,12 @@ impl Packages {
     /// changed then.
     pub fn import(&mut self, owner: &[u8], home: &[u8], name: &[u8]) -> Result<bool, PackageError>
         requires { IsPresent self.old.0 home.now name.now home.now }
-        ensures gives { Gives (λ _. self.new.0) result
+        ensures gives { AnswersPackages (λ _. self.new.0) result
             (after_import self.old.0 owner.now home.now name.now) }
         ensures changed { Yields result (import_changes self.old.0 owner.now name.now) }
-        ensures exactly { IfOk result (λ changed. Tells changed self.old.0 self.new.0) }
+        ensures exactly { IfOk result (λ changed. TellsOfChange changed self.old.0 self.new.0) }
 
-        // What stays.
+        // Nothing goes, each symbol keeps its number, and after an error nothing has changed.
         ensures grows { Grows self.old.0 self.new.0 }
         ensures memory { IfErr result
             (RunsOutOnlyIf (import_changes self.old.0 owner.now name.now)) }

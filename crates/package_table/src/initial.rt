@@ -95,7 +95,7 @@ fn add_names(sets: &mut PackageSets, owner: u32, names: &[&[u8]]) -> Result<(), 
         (λ _. (numbered_of sets.new).0
         ≡ finite.insert (numbered_of sets.old).0 p (package_of_names p (names_of names.now))) }
 
-    // What stays, and how many symbols there are then.
+    // One symbol more for each name; packages, imports, external symbols and uses are as they were.
     ensures packages { IfOk result (λ _. sets.new.packages ≡ sets.old.packages) }
     ensures imports { IfOk result (λ _. sets.new.imports ≡ sets.old.imports) }
     ensures externals { IfOk result (λ _. sets.new.externals ≡ sets.old.externals) }

@@ -3,8 +3,8 @@ ghost use Rattle.std.specs.Prelude.{◌≡◌, ◌<◌, All, Some, IfErr, IfOk, 
 ghost use Rattle.package_sets.specs.Kept.{name_at};
 ghost use Rattle.package_table.specs.Table.{IsJoined, IsPackage, symbol_count};
 ghost use Rattle.package_table.specs.Lookup.{found};
-ghost use Rattle.package_table.specs.Changes.{after_intern, intern_changes, Gives};
-ghost use Rattle.package_table.specs.Growth.{Grows, IsSameBut, Tells};
+ghost use Rattle.package_table.specs.Changes.{after_intern, intern_changes, AnswersPackages};
+ghost use Rattle.package_table.specs.Growth.{Grows, IsSameBut, TellsOfChange};
 ghost use Rattle.package_table.specs.Numbers.{numbered};
 ghost use Rattle.package_table.specs.Numbering.{KeepsNumbers};
 ghost use Rattle.package_table.specs.Meaning.{numbered_of};
@@ -39,8 +39,8 @@ fn intern_in(
     requires joined { IsJoined (numbered_of sets.old).0 }
     requires placed { IsPlaced sets.old }
 
-    // What interning gives, and what is kept of the numbers.
-    ensures gives { Gives (λ interned. (interned.home, (numbered_of sets.new).0)) result
+    // It gives what the definition says; numbers are only added, and after an error nothing has changed.
+    ensures gives { AnswersPackages (λ interned. (interned.home, (numbered_of sets.new).0)) result
         (after_intern (numbered_of sets.old).0 (name_at sets.old.packages owner) name.now) }
     ensures is_new { let p = name_at sets.old.packages owner in IfOk result
         (λ interned. interned.is_new ≡ intern_changes (numbered_of sets.old).0 p name.now) }
@@ -76,7 +76,7 @@ fn intern_symbol(
     requires counted { length sets.old.symbols ≡ symbol_count (numbered_of sets.old).0 }
     requires joined { IsJoined (numbered_of sets.old).0 }
     requires placed { IsPlaced sets.old }
-    ensures gives { Gives (λ interned. (interned.home, (numbered_of sets.new).0)) result
+    ensures gives { AnswersPackages (λ interned. (interned.home, (numbered_of sets.new).0)) result
         (after_intern (numbered_of sets.old).0 owner.now name.now) }
     ensures is_new { IfOk result
         (λ interned. interned.is_new ≡ intern_changes (numbered_of sets.old).0 owner.now name.now) }
@@ -100,15 +100,15 @@ impl Packages {
     /// out. Nothing is changed then.
     pub fn intern(&mut self, owner: &[u8], name: &[u8]) -> Result<Interned, PackageError>
         requires { All (λ b. b < 128) name.now }
-        ensures gives { Gives (λ interned. (interned.home, self.new.0)) result
+        ensures gives { AnswersPackages (λ interned. (interned.home, self.new.0)) result
             (after_intern self.old.0 owner.now name.now) }
         ensures is_new { IfOk result
             (λ interned. interned.is_new ≡ intern_changes self.old.0 owner.now name.now) }
-        ensures exactly { IfOk result (λ interned. Tells interned.is_new self.old.0 self.new.0) }
+        ensures exactly { IfOk result (λ interned. TellsOfChange interned.is_new self.old.0 self.new.0) }
         ensures finds { IfOk result
             (λ interned. found self.new.0 owner.now name.now ≡ Some interned.home) }
 
-        // What stays.
+        // No other name finds another symbol, nothing goes, and each symbol keeps its number; after an error nothing has changed.
         ensures others { IsSameBut self.old.0 self.new.0 owner.now name.now }
         ensures grows { Grows self.old.0 self.new.0 }
         ensures unchanged { IfErr result (λ _. self.new ≡ self.old) }

@@ -32,7 +32,7 @@
 //! # Laws for the crates above
 //!
 //! Their definitions are those of specs/Table.antt, Lookup, Resolving, Readers, Changes, Growth, Numbers, Numbering,
-//! Symbols, Limits and Errors, and `as_map` of specs/Kept.antt. These lemmas keep their names:
+//! Symbols, Limits and Errors, and `as_map` of specs/KeptTrees.antt. These lemmas keep their names:
 //!
 //! - proofs/Found.antt: look-ups (`found_is`, `found_finds`, `found_none`, `finds_none`, `present_found`,
 //!   `external_shows`, `shows_external`, `used_shows`, `external_entry`).

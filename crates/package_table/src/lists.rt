@@ -2,7 +2,7 @@
 ghost use Rattle.std.specs.Prelude.{◌≡◌, ◌<◌, map, length, get_or, position, bytes_eq, Some, IfOk, IfErr, MatchResult};
 ghost use Rattle.std.specs.List.{AllByRecursion};
 ghost use Rattle.package_sets.specs.Kept.{name_at, pair_at, positions_of};
-ghost use Rattle.package_table.specs.Table.{IsPackage, IsSound};
+ghost use Rattle.package_table.specs.Table.{IsPackage, AreSoundPackages};
 ghost use Rattle.package_table.specs.Readers.{home_at, names_of, package_names, used_names, own_names, external_names, imports, ListRefused};
 ghost use Rattle.package_table.specs.Meaning.{numbered_of, shown_positions, shown_symbol, symbol_name};
 ghost use Rattle.package_table.specs.Adds.{IsPlaced};
@@ -134,7 +134,7 @@ pub(crate) fn uses(
     alloc: Global,
     owner: &[u8],
 ) -> Result<Items<Bytes>, PackageError>
-    requires sound { IsSound (numbered_of sets.now).0 }
+    requires sound { AreSoundPackages (numbered_of sets.now).0 }
     requires placed { IsPlaced sets.now }
     ensures list { IfOk result (λ names. names ≡ used_names (numbered_of sets.now).0 owner.now) }
     ensures there { IfOk result (λ _. IsPackage (numbered_of sets.now).0 owner.now) }
@@ -153,7 +153,7 @@ pub(crate) fn own_names<'a>(
     alloc: Global,
     owner: &[u8],
 ) -> Result<Vec<&'a [u8]>, PackageError>
-    requires sound { IsSound (numbered_of sets.now).0 }
+    requires sound { AreSoundPackages (numbered_of sets.now).0 }
     requires placed { IsPlaced sets.now }
     ensures list { IfOk result
         (λ names. names_of names.items ≡ own_names (numbered_of sets.now).0 owner.now) }
@@ -173,7 +173,7 @@ pub(crate) fn external_names<'a>(
     alloc: Global,
     owner: &[u8],
 ) -> Result<Vec<&'a [u8]>, PackageError>
-    requires sound { IsSound (numbered_of sets.now).0 }
+    requires sound { AreSoundPackages (numbered_of sets.now).0 }
     requires placed { IsPlaced sets.now }
     ensures list { IfOk result
         (λ names. names_of names.items ≡ external_names (numbered_of sets.now).0 owner.now) }
@@ -193,7 +193,7 @@ pub(crate) fn own(
     alloc: Global,
     owner: &[u8],
 ) -> Result<Items<Bytes>, PackageError>
-    requires sound { IsSound (numbered_of sets.now).0 }
+    requires sound { AreSoundPackages (numbered_of sets.now).0 }
     requires placed { IsPlaced sets.now }
     ensures list { IfOk result (λ names. names ≡ own_names (numbered_of sets.now).0 owner.now) }
     ensures there { IfOk result (λ _. IsPackage (numbered_of sets.now).0 owner.now) }
@@ -209,7 +209,7 @@ pub(crate) fn externals(
     alloc: Global,
     owner: &[u8],
 ) -> Result<Items<Bytes>, PackageError>
-    requires sound { IsSound (numbered_of sets.now).0 }
+    requires sound { AreSoundPackages (numbered_of sets.now).0 }
     requires placed { IsPlaced sets.now }
     ensures list { IfOk result
         (λ names. names ≡ external_names (numbered_of sets.now).0 owner.now) }
@@ -262,7 +262,7 @@ pub(crate) fn imports(
     alloc: Global,
     owner: &[u8],
 ) -> Result<Items<(Bytes, Bytes)>, PackageError>
-    requires sound { IsSound (numbered_of sets.now).0 }
+    requires sound { AreSoundPackages (numbered_of sets.now).0 }
     requires placed { IsPlaced sets.now }
     ensures list { IfOk result (λ names. names ≡ imports (numbered_of sets.now).0 owner.now) }
     ensures there { IfOk result (λ _. IsPackage (numbered_of sets.now).0 owner.now) }

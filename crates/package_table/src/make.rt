@@ -1,7 +1,7 @@
 //! `make`: a new package.
 ghost use Rattle.std.specs.Prelude.{◌≡◌, ◌<◌, All, IfErr, IfOk};
-ghost use Rattle.package_table.specs.Table.{IsSound, with_new_package};
-ghost use Rattle.package_table.specs.Changes.{after_make, Gives};
+ghost use Rattle.package_table.specs.Table.{AreSoundPackages, with_new_package};
+ghost use Rattle.package_table.specs.Changes.{after_make, AnswersPackages};
 ghost use Rattle.package_table.specs.Growth.{Grows};
 ghost use Rattle.package_table.specs.Numbers.{numbered};
 ghost use Rattle.package_table.specs.Numbering.{KeepsNumbers};
@@ -18,7 +18,7 @@ use package_sets::PackageSets;
 // The first reason to refuse a new package of this name.
 fn make_refusal(sets: &PackageSets, name: &[u8]) -> Result<(), PackageError>
     ensures { let t = (numbered_of sets.now).0 in
-        Gives (λ _. with_new_package t name.now) result (after_make t name.now) }
+        AnswersPackages (λ _. with_new_package t name.now) result (after_make t name.now) }
 {
     if name.is_empty() {
         return Err(PackageError::EmptyName);
@@ -33,8 +33,8 @@ fn make_refusal(sets: &PackageSets, name: &[u8]) -> Result<(), PackageError>
 }
 
 fn make_package(sets: &mut PackageSets, name: &[u8]) -> Result<(), PackageError>
-    requires { IsSound (numbered_of sets.old).0 }
-    ensures gives { Gives (λ _. (numbered_of sets.new).0) result
+    requires { AreSoundPackages (numbered_of sets.old).0 }
+    ensures gives { AnswersPackages (λ _. (numbered_of sets.new).0) result
         (after_make (numbered_of sets.old).0 name.now) }
     ensures unchanged { IfErr result (λ _. sets.new ≡ sets.old) }
     ensures adds { IfOk result (λ _. AddsNoSymbol sets.old sets.new) }
@@ -53,7 +53,7 @@ impl Packages {
     /// Nothing is changed then.
     pub fn make(&mut self, name: &[u8]) -> Result<(), PackageError>
         requires { All (λ b. b < 128) name.now }
-        ensures gives { Gives (λ _. self.new.0) result (after_make self.old.0 name.now) }
+        ensures gives { AnswersPackages (λ _. self.new.0) result (after_make self.old.0 name.now) }
         ensures grows { Grows self.old.0 self.new.0 }
         ensures unchanged { IfErr result (λ _. self.new ≡ self.old) }
         ensures numbers { KeepsNumbers (numbered self.old) (numbered self.new) }

@@ -1,6 +1,6 @@
 //! The packages, and the calls on them.
 ghost use Rattle.std.specs.Prelude.{◌≡◌, [], IfOk, IfErr, IfSome, All, option_map};
-ghost use Rattle.package_table.specs.Table.{initial, is_locked, package_named, symbol_count, IsPackage, IsSound};
+ghost use Rattle.package_table.specs.Table.{initial, is_locked, package_named, symbol_count, IsPackage, AreSoundPackages};
 ghost use Rattle.package_table.specs.Numbers.{numbered, without_marks};
 ghost use Rattle.package_table.specs.Numbering.{IsNumbered, IsNumberedSound};
 ghost use Rattle.package_table.specs.Resolving.{resolution, external_resolution, internal_resolution, resolution_of, AnswersLookUp};
@@ -43,7 +43,7 @@ impl Model for Packages {
 
     ghost coded = { tables_code };
 
-    ghost use Rattle.package_table.specs.Shown.{tables_of, HasKeptTable};
+    ghost use Rattle.package_table.specs.Views.{tables_of, HasKeptTable};
 
     ghost view = { tables_of };
 
@@ -87,7 +87,7 @@ impl Packages {
 
     /// What holds of all packages: no package finds two symbols by one name, and so on. For proofs: it does nothing.
     pub fn soundness(&self)
-        ensures { IsSound self.now.0 }
+        ensures { AreSoundPackages self.now.0 }
     {
         self.sets.goodness();
     }

@@ -2,8 +2,8 @@
 ghost use Rattle.std.specs.Prelude.{◌≡◌, ◌<◌, ◌+◌, false, true, length, bytes_eq, Some, None, IfOk, OnOk, OnErr};
 ghost use Rattle.std.specs.FinMap as finite;
 ghost use Rattle.package_sets.specs.Kept.{name_at, pair_at, pair_eq};
-ghost use Rattle.package_sets.specs.Good.{IsGood};
-ghost use Rattle.package_sets.specs.Changes.{with_external, with_import};
+ghost use Rattle.package_sets.specs.Consistent.{IsGood};
+ghost use Rattle.package_sets.specs.Changes.{with_external_number, with_import};
 ghost use Rattle.package_table.specs.Table.{common_lisp, entry_at, is_locked, keyword, with_entry, with_new_package, with_used, IsJoined, IsPackage, IsPresent};
 ghost use Rattle.package_table.specs.Lookup.{found, is_external, is_used};
 ghost use Rattle.package_table.specs.Changes.{finds_this};
@@ -92,7 +92,7 @@ fn import_and_show(sets: &mut PackageSets, owner: u32, symbol: u32) -> Result<()
     requires placed { IsPlaced sets.old }
     ensures good { IfOk result (λ _. IsGood (with_import sets.old owner symbol)) }
     ensures ok { OnOk result
-        (sets.new ≡ with_external (with_import sets.old owner symbol) owner symbol) }
+        (sets.new ≡ with_external_number (with_import sets.old owner symbol) owner symbol) }
     ensures err { OnErr result (sets.new ≡ sets.old) }
 {
     sets.goodness();

@@ -1,8 +1,8 @@
 //! `use_package`: a package uses another.
 ghost use Rattle.std.specs.Prelude.{◌≡◌, if◌then◌else◌, IfErr, IfOk};
-ghost use Rattle.package_table.specs.Table.{with_used, IsSound};
-ghost use Rattle.package_table.specs.Changes.{after_use, use_changes, Gives, RunsOutOnlyIf, TellsChange, Yields};
-ghost use Rattle.package_table.specs.Growth.{Grows, Tells};
+ghost use Rattle.package_table.specs.Table.{with_used, AreSoundPackages};
+ghost use Rattle.package_table.specs.Changes.{after_use, use_changes, AnswersPackages, RunsOutOnlyIf, TellsChange, Yields};
+ghost use Rattle.package_table.specs.Growth.{Grows, TellsOfChange};
 ghost use Rattle.package_table.specs.Numbers.{numbered};
 ghost use Rattle.package_table.specs.Numbering.{KeepsNumbers};
 ghost use Rattle.package_table.specs.Meaning.{numbered_of};
@@ -18,10 +18,10 @@ use package_sets::PackageSets;
 
 // The first reason to refuse that `owner` uses `used`, and else whether it does not use it yet.
 fn use_refusal(sets: &PackageSets, owner: &[u8], used: &[u8]) -> Result<bool, PackageError>
-    requires sound { IsSound (numbered_of sets.now).0 }
+    requires sound { AreSoundPackages (numbered_of sets.now).0 }
     requires placed { IsPlaced sets.now }
     ensures gives { let t = (numbered_of sets.now).0 in
-        Gives (λ changes. if changes then with_used t owner.now used.now else t) result
+        AnswersPackages (λ changes. if changes then with_used t owner.now used.now else t) result
         (after_use t owner.now used.now) }
     ensures changes { TellsChange (use_changes (numbered_of sets.now).0 owner.now used.now) result }
 {
@@ -41,9 +41,9 @@ fn use_refusal(sets: &PackageSets, owner: &[u8], used: &[u8]) -> Result<bool, Pa
 }
 
 fn use_other(sets: &mut PackageSets, owner: &[u8], used: &[u8]) -> Result<bool, PackageError>
-    requires sound { IsSound (numbered_of sets.old).0 }
+    requires sound { AreSoundPackages (numbered_of sets.old).0 }
     requires placed { IsPlaced sets.old }
-    ensures gives { Gives (λ _. (numbered_of sets.new).0) result
+    ensures gives { AnswersPackages (λ _. (numbered_of sets.new).0) result
         (after_use (numbered_of sets.old).0 owner.now used.now) }
     ensures changed { TellsChange (use_changes (numbered_of sets.old).0 owner.now used.now) result }
     ensures unchanged { IfErr result (λ _. sets.new ≡ sets.old) }
@@ -66,9 +66,9 @@ impl Packages {
     /// KEYWORD, or `used` is KEYWORD; `NameConflict` if `owner` finds another symbol by the name of one that is
     /// external in `used`; `OutOfMemory` if memory runs out. Nothing is changed then.
     pub fn use_package(&mut self, owner: &[u8], used: &[u8]) -> Result<bool, PackageError>
-        ensures gives { Gives (λ _. self.new.0) result (after_use self.old.0 owner.now used.now) }
+        ensures gives { AnswersPackages (λ _. self.new.0) result (after_use self.old.0 owner.now used.now) }
         ensures changed { Yields result (use_changes self.old.0 owner.now used.now) }
-        ensures exactly { IfOk result (λ changed. Tells changed self.old.0 self.new.0) }
+        ensures exactly { IfOk result (λ changed. TellsOfChange changed self.old.0 self.new.0) }
         ensures grows { Grows self.old.0 self.new.0 }
         ensures memory { IfErr result (RunsOutOnlyIf (use_changes self.old.0 owner.now used.now)) }
         ensures unchanged { IfErr result (λ _. self.new ≡ self.old) }

@@ -5,7 +5,7 @@ use Rattle.std.specs.Int.{w16, w64, to_le_bytes}
 use Rattle.std.specs.List.{flat_map}
 use Rattle.canon_printer.specs.Printed.{printed}
 use Rattle.deferred_disk.specs.Calls.{first_calls}
-use Rattle.deferred_disk.specs.Disk.{calls_of, pending_of, state_of}
+use Rattle.deferred_disk.specs.Disk.{calls_of, pending_of, state_by_calls}
 use Rattle.disk_trait.specs.Orders.{OrderValue}
 use Rattle.deferred_disk.specs.declared.disk.DeferredDisk.{DeferredDisk}
 use Rattle.lisp_object.specs.Datum.{object_of}
@@ -65,7 +65,7 @@ pub record IsOpenedOn {R : Type 0} (a b : List ℕ) (limit : ℕ) (store : Store
   pub disk : DeferredDisk
   pub begins : calls_of disk ≡ first_calls a b
   pub macros : R
-  pub opened : IsOpened six_functions state_of disk macros limit store
+  pub opened : IsOpened six_functions state_by_calls disk macros limit store
 
 -- they were refused with this number
 pub record IsUnopenedOn (a b : List ℕ) (limit number : ℕ) : Type 0 where
@@ -73,21 +73,21 @@ pub record IsUnopenedOn (a b : List ℕ) (limit number : ℕ) : Type 0 where
   pub begins : calls_of disk ≡ first_calls a b
   pub whole : Bool
   pub back : DeferredDisk
-  pub unopened : IsUnopened six_functions state_of disk whole limit number back
+  pub unopened : IsUnopened six_functions state_by_calls disk whole limit number back
 
 module _ {R : Type 0} (old new : StoreView DeferredDisk R) where
   -- the store executed the text
   pub record IsExecuted (mode : Mode) (text : List ℕ) (number : ℕ) (answer : List ℕ) : Type 0 where
     pub outcome : Outcome
     pub reopen : old.world ≡ None → AsksToReopen old new outcome
-    pub executes : (world : WorldState) → old.world ≡ Some world → Executes six_functions state_of old new world mode text outcome
+    pub executes : (world : WorldState) → old.world ≡ Some world → Executes six_functions state_by_calls old new world mode text outcome
     pub answered : IsAnswered new.world outcome number answer
 
   -- the store took a snapshot
   pub record IsSnapshotted (number : ℕ) : Type 0 where
     pub outcome : Outcome
     pub reopen : old.world ≡ None → AsksToReopen old new outcome
-    pub snapshots : (world : WorldState) → old.world ≡ Some world → Snapshots six_functions state_of old new world outcome
+    pub snapshots : (world : WorldState) → old.world ≡ Some world → Snapshots six_functions state_by_calls old new world outcome
     pub answered : IsAnswered new.world outcome number []
 
   -- The store executed the texts that end at these places, one after the other. Where there is no room for them or for what they gave
@@ -96,8 +96,8 @@ module _ {R : Type 0} (old new : StoreView DeferredDisk R) where
     pub texts : List (Bor (List ℕ))
     pub are : map (λ text. text.now) texts ≡ texts_in 0 bytes ends
     pub outcomes : List Outcome
-    pub reopen : old.world ≡ None → AreExecuted six_functions state_of old new mode texts outcomes
-    pub executes : (world : WorldState) → old.world ≡ Some world → ExecutesAll six_functions state_of old new world mode texts outcomes
+    pub reopen : old.world ≡ None → AreExecuted six_functions state_by_calls old new mode texts outcomes
+    pub executes : (world : WorldState) → old.world ≡ Some world → ExecutesAll six_functions state_by_calls old new world mode texts outcomes
     pub answered : AreAnswered new.world outcomes number answers
 
   abbrev pub ExecutesMany : Mode → List ℕ → List ℕ → ℕ → List ℕ → Type 0

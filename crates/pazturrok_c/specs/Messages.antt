@@ -1,7 +1,7 @@
 -- What the calls of the engine on messages answer, by what the calls of its store gave.
 use Rattle.std.specs.Prelude.{◌≡◌, ◌⊎◌, ℕ, List, map, None, Some, Result, Ok, Err, MatchResult}
 use Rattle.std.specs.List.{flat_map}
-use Rattle.deferred_disk.specs.Disk.{state_of}
+use Rattle.deferred_disk.specs.Disk.{state_by_calls}
 use Rattle.deferred_disk.specs.declared.disk.DeferredDisk.{DeferredDisk}
 use Rattle.lisp_object.specs.declared.refusal.TheConstants.{NO_MEMORY, REOPEN}
 use Rattle.pazturrok_c.specs.Requests.{bytes_of_answer, request_in, requests_in}
@@ -27,7 +27,7 @@ module _ {R : Type 0} (old new : StoreView DeferredDisk R) where
   pub record IsBegun (number position : ℕ) : Type 0 where
     pub given : Result ℕ ℕ
     pub reopen : old.world ≡ None → (given ≡ Err REOPEN) × (new ≡ old)
-    pub begins : (world : WorldState) → old.world ≡ Some world → BeginsMessages six_functions state_of old new world given
+    pub begins : (world : WorldState) → old.world ≡ Some world → BeginsMessages six_functions state_by_calls old new world given
     pub tells : MatchResult given (λ found. (number ≡ 0) × (position ≡ found)) (λ refusal. number ≡ refusal)
 
   -- the store answered the requests whose texts end at these places, after the message of the last number
@@ -36,7 +36,7 @@ module _ {R : Type 0} (old new : StoreView DeferredDisk R) where
     pub are : map request_in requests ≡ requests_in 0 bytes heads
     pub given : Result Replies ℕ
     pub reopen : old.world ≡ None → (given ≡ Err REOPEN) × (new ≡ old)
-    pub answers_are : (world : WorldState) → old.world ≡ Some world → AnswersRequests six_functions state_of old new world last requests given
+    pub answers_are : (world : WorldState) → old.world ≡ Some world → AnswersRequests six_functions state_by_calls old new world last requests given
     pub tells : IsTold given number answers
 
   -- where there is no room for the requests the number is 90, and nothing changes

@@ -161,7 +161,8 @@ impl Engine {
     /// Begins with messages, unless orders are open. Gives the position.
     pub(crate) fn begin_messages(&mut self, position: &mut u64) -> u16
         ensures barred { IsBarred (pending_of self.old.store.disk) self.old self.new result }
-        ensures begins { pending_of self.old.store.disk ≡ [] → IsBegun self.old.store self.new.store result position.new }
+        ensures begins { pending_of self.old.store.disk ≡ []
+            → IsBegun self.old.store self.new.store result position.new }
     {
         if !self.is_done() {
             return REOPEN;
@@ -219,7 +220,8 @@ impl Engine {
     /// Takes a snapshot, unless orders are open.
     pub(crate) fn snapshot(&mut self) -> u16
         ensures barred { IsBarred (pending_of self.old.store.disk) self.old self.new result }
-        ensures snapshots { pending_of self.old.store.disk ≡ [] → IsSnapshotted self.old.store self.new.store result }
+        ensures snapshots { pending_of self.old.store.disk ≡ []
+            → IsSnapshotted self.old.store self.new.store result }
     {
         if !self.is_done() {
             return REOPEN;

@@ -12,12 +12,12 @@ use Rattle.std_macros.specs.declared.kind.Standard.TheVariants.{List as AList, Q
 use Rattle.lisp_reading.specs.declared.found.Found.{Found}
 use Rattle.lisp_reading.specs.declared.found.Found.TheVariants.{One as one}
 use Rattle.lisp_reading.specs.declared.way.Function.TheVariants.{Standard as AStandard}
-use Rattle.lisp_reading.specs.Calls.{InvokedCall}
+use Rattle.lisp_reading.specs.InvokedCalls.{InvokedCall}
 use Rattle.lisp_reading.specs.Plans.{Plan, gives, scans, then_plan}
 use Rattle.lisp_reading.specs.Setting.{Setting}
 use Rattle.lisp_reading.specs.Reading.{Piece, item, Items, list_end, one_piece, completed, next_item, macro_called, stands_alone, alone, token_found, inner, attempt, piece_of, next_item_turn}
 use Rattle.lisp_reading.proofs.Turns.{loop_is, next_item_guarded, attempt_ends}
-use Rattle.plain_reader.specs.Coming.{ComesTo}
+use Rattle.plain_reader.specs.Coming.{ReadsOnAs}
 use Rattle.plain_reader.specs.Plain.{items_from}
 use Rattle.plain_reader.proofs.Coming.{here, onward, behind, taken}
 
@@ -35,12 +35,12 @@ module _ (setting : Setting) where
 
   -- a macro character calls its function
   pub calls : (room c : ℕ) (cs name : List ℕ) → IsReadtable setting.table → (entry_at setting.table c).function ≡ Some name
-      → ComesTo setting (attempt setting room) (c ∷ cs) (macro_called setting (setting.limits.nesting - room) (inner setting room) c (Some name)) cs
+      → ReadsOnAs setting (attempt setting room) (c ∷ cs) (macro_called setting (setting.limits.nesting - room) (inner setting room) c (Some name)) cs
   calls room c cs name sound is =
       let e : is_macro (entry_at setting.table c).syntax ≡ true = sym (sound.each c).function ∙ ap is_some is in
       let depth = setting.limits.nesting - room in
-      subst (λ o. ComesTo setting (attempt setting room) (c ∷ cs) (macro_called setting depth (inner setting room) c o) cs) is
-      (subst (λ plan. ComesTo setting (attempt setting room) (c ∷ cs) plan cs) (alone_calls depth (inner setting room) c (entry_at setting.table c).syntax e)
+      subst (λ o. ReadsOnAs setting (attempt setting room) (c ∷ cs) (macro_called setting depth (inner setting room) c o) cs) is
+      (subst (λ plan. ReadsOnAs setting (attempt setting room) (c ∷ cs) plan cs) (alone_calls depth (inner setting room) c (entry_at setting.table c).syntax e)
       (taken setting (scans false setting.limits.token (token_found setting)) (λ c. stands_alone (entry_at setting.table c).syntax)
       (λ c. alone setting depth (inner setting room) c (entry_at setting.table c).syntax) c cs (alone_macro (entry_at setting.table c).syntax e)))
 
@@ -50,8 +50,8 @@ module _ (setting : Setting) where
   list_call = record { function = AStandard AList; character = 40; sub = None; number = None }
 
   pub list_taken : (room : ℕ) (cs rest : List ℕ) (xs : List Object) → IsReadtable setting.table → (entry_at setting.table 40).function ≡ Some std_list
-      → ComesTo setting (items_from setting room []) cs (gives (xs, true)) rest
-      → ComesTo setting (attempt setting (suc room)) (40 ∷ cs) (gives (one false (list_of xs))) rest
+      → ReadsOnAs setting (items_from setting room []) cs (gives (xs, true)) rest
+      → ReadsOnAs setting (attempt setting (suc room)) (40 ∷ cs) (gives (one false (list_of xs))) rest
   unfolding then_plan inner
   list_taken room cs rest xs sound is comes =
       let end : Items → Plan Found = λ items. list_end setting (attempt setting room) (λ m. completed setting (setting.limits.nesting - suc room) list_call false false m) items in
@@ -64,8 +64,8 @@ module _ (setting : Setting) where
   abbrev quote_call : InvokedCall
   quote_call = record { function = AStandard Quote; character = 39; sub = None; number = None }
 
-  quoted_next : (room : ℕ) (cs rest : List ℕ) (token : Bool) (x : Object) → ComesTo setting (attempt setting room) cs (gives (one token x)) rest
-      → ComesTo setting (next_item setting None (attempt setting room)) cs (gives (item token x)) rest
+  quoted_next : (room : ℕ) (cs rest : List ℕ) (token : Bool) (x : Object) → ReadsOnAs setting (attempt setting room) cs (gives (one token x)) rest
+      → ReadsOnAs setting (next_item setting None (attempt setting room)) cs (gives (item token x)) rest
   unfolding then_plan
   quoted_next room cs rest token x comes =
       let next = next_item setting None (attempt setting room) in
@@ -77,8 +77,8 @@ module _ (setting : Setting) where
       (behind setting (attempt setting room) (gives (one token x)) piece cs rest comes)
 
   pub quote_taken : (room : ℕ) (cs rest : List ℕ) (token : Bool) (x : Object) → IsReadtable setting.table → (entry_at setting.table 39).function ≡ Some std_quote
-      → ComesTo setting (attempt setting room) cs (gives (one token x)) rest
-      → ComesTo setting (attempt setting (suc room)) (39 ∷ cs) (gives (one token (headed (codes "QUOTE") x))) rest
+      → ReadsOnAs setting (attempt setting room) cs (gives (one token x)) rest
+      → ReadsOnAs setting (attempt setting (suc room)) (39 ∷ cs) (gives (one token (headed (codes "QUOTE") x))) rest
   unfolding then_plan inner
   quote_taken room cs rest token x sound is comes =
       let next = next_item setting None (attempt setting room) in

@@ -1,4 +1,4 @@
--- How `ComesTo` is put together: one step after another, and the steps of plans.
+-- How `ReadsOnAs` is put together: one step after another, and the steps of plans.
 --     here, onward      nothing, and one after the other
 --     behind            a plan that goes on with another
 --     taken, passed     a byte that is taken, and one that is not
@@ -8,13 +8,13 @@ use Rattle.std.proofs.lemmas.Bool.{lt-leb}
 use Rattle.lisp_reading.specs.Plans.{Plan, takes, then_plan, Read, within, run}
 use Rattle.lisp_reading.specs.Setting.{Setting}
 use Rattle.lisp_reading.proofs.Steps.{run_then, and_then}
-use Rattle.plain_reader.specs.Coming.{ComesTo}
+use Rattle.plain_reader.specs.Coming.{ReadsOnAs}
 
 module _ (setting : Setting) where
   -- the same plan at the same place, in another form
   pub here : {A : Type 0} (plan next : Plan A) (text : List ℕ)
       → ((at : ℕ) (cs : List ℕ) → at ≤ setting.limits.text → run setting.table setting.limits plan at cs ≡ run setting.table setting.limits next at cs)
-      → ComesTo setting plan text next text
+      → ReadsOnAs setting plan text next text
   here plan next text same = record {
     within = omega arith;
     goes = λ at more le.
@@ -22,7 +22,7 @@ module _ (setting : Setting) where
         ∙ (let e : at ≡ at + (length text - length text) = omega arith in ap (λ n. run setting.table setting.limits next n (text ++ more)) e);
   }
 
-  pub onward : {A : Type 0} (p q r : Plan A) (xs ys zs : List ℕ) → ComesTo setting p xs q ys → ComesTo setting q ys r zs → ComesTo setting p xs r zs
+  pub onward : {A : Type 0} (p q r : Plan A) (xs ys zs : List ℕ) → ReadsOnAs setting p xs q ys → ReadsOnAs setting q ys r zs → ReadsOnAs setting p xs r zs
   onward p q r xs ys zs first next =
       let low = first.within in
       let lower = next.within in
@@ -35,8 +35,8 @@ module _ (setting : Setting) where
             ap (λ n. run setting.table setting.limits r n (zs ++ more)) e);
       }
 
-  pub behind : {A B : Type 0} (p q : Plan A) (then : A → Plan B) (xs ys : List ℕ) → ComesTo setting p xs q ys
-      → ComesTo setting (then_plan p then) xs (then_plan q then) ys
+  pub behind : {A B : Type 0} (p q : Plan A) (then : A → Plan B) (xs ys : List ℕ) → ReadsOnAs setting p xs q ys
+      → ReadsOnAs setting (then_plan p then) xs (then_plan q then) ys
   behind p q then xs ys comes = record {
     within = comes.within;
     goes = λ at more le.
@@ -54,7 +54,7 @@ module _ (setting : Setting) where
   taken_by other on at c cs false full e f = absurd cc
 
   pub taken : {A : Type 0} (other : Plan A) (test : ℕ → Bool) (on : ℕ → Plan A) (c : ℕ) (cs : List ℕ) → test c ≡ true
-      → ComesTo setting (takes other test on) (c ∷ cs) (on c) cs
+      → ReadsOnAs setting (takes other test on) (c ∷ cs) (on c) cs
   unfolding run
   taken other test on c cs e = record {
     within = omega arith;
@@ -68,7 +68,7 @@ module _ (setting : Setting) where
   passed_by true r s e = absurd cc
 
   pub passed : {A : Type 0} (other : Plan A) (test : ℕ → Bool) (on : ℕ → Plan A) (c : ℕ) (cs : List ℕ) → test c ≡ false
-      → ComesTo setting (takes other test on) (c ∷ cs) other (c ∷ cs)
+      → ReadsOnAs setting (takes other test on) (c ∷ cs) other (c ∷ cs)
   unfolding run
   passed other test on c cs e = record {
     within = omega arith;

@@ -19,7 +19,7 @@ use Rattle.lisp_object.specs.Datum.{object_of}
 use Rattle.lisp_object.proofs.Objects.{object_of-Symbol}
 use Rattle.lisp_object.proofs.Sound.{all_below, sound_nil}
 use Rattle.package_table.specs.Symbols.{are_there}
-use Rattle.package_table.specs.Table.{IsSound}
+use Rattle.package_table.specs.Table.{AreSoundPackages}
 use Rattle.lisp_reading.specs.declared.found.Found.TheVariants.{One as one}
 use Rattle.lisp_reading.specs.Plans.{gives}
 use Rattle.lisp_reading.specs.Reading.{is_whitespace, attempt}
@@ -31,7 +31,7 @@ use Rattle.plain_reader.specs.declared.direct.DirectForm.TheVariants.{Get, Setf}
 use Rattle.plain_reader.specs.declared.literals.ReadLiteral.{ReadLiteral}
 use Rattle.plain_reader.specs.declared.properties.ReadSymbol.{ReadSymbol}
 use Rattle.plain_reader.specs.declared.properties.ReadProperty.{ReadProperty}
-use Rattle.plain_reader.specs.Coming.{ComesTo}
+use Rattle.plain_reader.specs.Coming.{ReadsOnAs}
 use Rattle.plain_reader.specs.Direct.{quote_of, lisp, named_symbol, quoted_names, named_place, literal_of, object_of_direct, TakesObject, TakesItems, EndsList}
 use Rattle.plain_reader.specs.Plain.{setting, items_from, Takes, AreThere, AllAreThere, IfStill}
 use Rattle.plain_reader.proofs.Calls.{list_taken, quote_taken}
@@ -57,8 +57,8 @@ pub named_object : (with : PlainContext) (t : Taken) (text home name : List ℕ)
 named_object with t text home name d token same e room takes = λ functions.
     let here = setting with functions in
     let is : t.object ≡ symbol home name = sym same ∙ ap object_of e ∙ object_of-Symbol home name in
-    subst (λ (b : Bool). ComesTo here (attempt here room) text (gives (one b (symbol home name))) t.rest.now) token
-    (subst (λ (x : Object). ComesTo here (attempt here room) text (gives (one t.token x)) t.rest.now) is (takes functions))
+    subst (λ (b : Bool). ReadsOnAs here (attempt here room) text (gives (one b (symbol home name))) t.rest.now) token
+    (subst (λ (x : Object). ReadsOnAs here (attempt here room) text (gives (one t.token x)) t.rest.now) is (takes functions))
 
 -- an object where no list ends
 pub object_item : (with : PlainContext) (room : ℕ) (text rest : List ℕ) (token : Bool) (x y : Object) → 1 ≤ length text → (get_or text 0 0 ≡ 41 → ⊥) → x ≡ y
@@ -90,8 +90,8 @@ pub quoted_items : (with : PlainContext) (room : ℕ) (cs rest : List ℕ) (toke
 quoted_items with room cs rest token x some quotes taken = λ xs functions.
     let here = setting with functions in
     let more : suc (room - 1) ≡ room = omega arith in
-    let whole : ComesTo here (attempt here room) (39 ∷ cs) (gives (one token (quote_of x))) rest =
-    subst (λ n. ComesTo here (attempt here n) (39 ∷ cs) (gives (one token (quote_of x))) rest) more
+    let whole : ReadsOnAs here (attempt here room) (39 ∷ cs) (gives (one token (quote_of x))) rest =
+    subst (λ n. ReadsOnAs here (attempt here n) (39 ∷ cs) (gives (one token (quote_of x))) rest) more
     (quote_taken here (room - 1) cs rest token x with.sound (with.quoting quotes) (taken functions)) in
     object_items here room xs 39 cs rest token (quote_of x) with.closes refl whole
 
@@ -100,10 +100,10 @@ pub two_end : (with : PlainContext) (room : ℕ) (text second rest last : List �
     → TakesItems with room second (y ∷ []) last → 41 ∷ rest ≡ last → EndsList with room text (x ∷ y ∷ []) rest
 two_end with room text second rest last x y first next is = λ xs functions.
     let here = setting with functions in
-    subst (λ all. ComesTo here (items_from here room xs) text (gives (all, true)) rest) (append_assoc xs (x ∷ []) (y ∷ []))
+    subst (λ all. ReadsOnAs here (items_from here room xs) text (gives (all, true)) rest) (append_assoc xs (x ∷ []) (y ∷ []))
     (onward here (items_from here room xs) (items_from here room (xs ++ x ∷ [])) (gives ((xs ++ x ∷ []) ++ y ∷ [], true)) text second rest (first xs functions)
     (onward here (items_from here room (xs ++ x ∷ [])) (items_from here room ((xs ++ x ∷ []) ++ y ∷ [])) (gives ((xs ++ x ∷ []) ++ y ∷ [], true)) second (41 ∷ rest) rest
-    (subst (λ last. ComesTo here (items_from here room (xs ++ x ∷ [])) second (items_from here room ((xs ++ x ∷ []) ++ y ∷ [])) last) (sym is) (next (xs ++ x ∷ []) functions))
+    (subst (λ last. ReadsOnAs here (items_from here room (xs ++ x ∷ [])) second (items_from here room ((xs ++ x ∷ []) ++ y ∷ [])) last) (sym is) (next (xs ++ x ∷ []) functions))
     (closed_items here room ((xs ++ x ∷ []) ++ y ∷ []) rest)))
 
 -- a list that an operator heads, whose opening parenthesis was before the text
@@ -112,7 +112,7 @@ pub headed_list : (with : PlainContext) (room : ℕ) (text after rest : List ℕ
 headed_list with room text after rest x ys some first next = λ functions.
     let here = setting with functions in
     let more : suc (room - 1) ≡ room = omega arith in
-    subst (λ n. ComesTo here (attempt here n) (40 ∷ text) (gives (one false (list_of (x ∷ ys)))) rest) more
+    subst (λ n. ReadsOnAs here (attempt here n) (40 ∷ text) (gives (one false (list_of (x ∷ ys)))) rest) more
     (list_taken here (room - 1) text rest (x ∷ ys) with.sound with.lists
     (onward here (items_from here (room - 1) []) (items_from here (room - 1) (x ∷ [])) (gives (x ∷ ys, true)) text after rest (first [] functions) (next (x ∷ []) functions)))
 
@@ -184,23 +184,23 @@ two_there with x y first next =
     let t = with.packages.now.0 in
     and_from (are_there t x) (are_there t y && true) first (and_from (are_there t y) true next refl)
 
-pub all_there : (with : PlainContext) (x : Object) (ys : List Object) → IsSound with.packages.now.0 → AreThere with x → AllAreThere with ys
+pub all_there : (with : PlainContext) (x : Object) (ys : List Object) → AreSoundPackages with.packages.now.0 → AreThere with x → AllAreThere with ys
     → AreThere with (list_of (x ∷ ys))
 all_there with x ys sound first others =
     let t = with.packages.now.0 in
     list_there t (x ∷ ys) sound (and_from (are_there t x) (list_all (are_there t) ys) first others)
 
-pub quoted_there : (with : PlainContext) (x : Object) → IsSound with.packages.now.0 → AreThere with x → AreThere with (quote_of x)
+pub quoted_there : (with : PlainContext) (x : Object) → AreSoundPackages with.packages.now.0 → AreThere with x → AreThere with (quote_of x)
 quoted_there with x sound there = headed_there with.packages.now.0 x sound there
 
-pub argument_there : (with : PlainContext) (a b : Bool) (result : Result (Option ReadSymbol) AllocError) → IsSound with.packages.now.0
+pub argument_there : (with : PlainContext) (a b : Bool) (result : Result (Option ReadSymbol) AllocError) → AreSoundPackages with.packages.now.0
     → IfOk result (λ found. IfStill a b (IfSome found (λ s. AreThere with (named_symbol s.symbol))))
     → IfOk result (λ found. IfStill a b (IfSome found (λ s. AreThere with (quote_of (named_symbol s.symbol)))))
 argument_there with a b (Err e) sound known = tt
 argument_there with a b (Ok None) sound known = known
 argument_there with a b (Ok (Some s)) sound known = still (quoted_there with (named_symbol s.symbol) sound) known
 
-pub place_there : (with : PlainContext) (a b c : Bool) (result : Result (Option ReadProperty) AllocError) → IsSound with.packages.now.0
+pub place_there : (with : PlainContext) (a b c : Bool) (result : Result (Option ReadProperty) AllocError) → AreSoundPackages with.packages.now.0
     → IfStill a b (AreThere with (lisp (codes "GET")))
     → IfOk result (λ found. IfStill b c (IfSome found (λ p. AllAreThere with (quoted_names p.property))))
     → IfOk result (λ found. IfStill a c (IfSome found (λ p. AreThere with (named_place p.property))))

@@ -17,7 +17,7 @@ use Rattle.lisp_reading.specs.Setting.{Setting}
 use Rattle.lisp_reading.specs.Reading.{Piece, item, closed, Items, is_blank, is_whitespace, without_space, piece_of, or_closed, next_item_turn, next_item, items_step, items_turn, items_after, stands_alone, alone, token_found, inner, attempt}
 use Rattle.lisp_reading.proofs.Steps.{run_then, and_then}
 use Rattle.lisp_reading.proofs.Turns.{loop_is, next_item_guarded, items_guarded, attempt_ends, Ends}
-use Rattle.plain_reader.specs.Coming.{ComesTo}
+use Rattle.plain_reader.specs.Coming.{ReadsOnAs}
 use Rattle.plain_reader.specs.Plain.{items_from}
 use Rattle.plain_reader.proofs.Coming.{here, onward, behind, taken, passed}
 
@@ -56,15 +56,15 @@ module _ (setting : Setting) (room : ℕ) where
 
   -- ---- whitespace
 
-  blank_attempt : (c : ℕ) (cs : List ℕ) → is_whitespace setting.table c ≡ true → ComesTo setting within_it (c ∷ cs) (gives (nothing false)) cs
+  blank_attempt : (c : ℕ) (cs : List ℕ) → is_whitespace setting.table c ≡ true → ReadsOnAs setting within_it (c ∷ cs) (gives (nothing false)) cs
   blank_attempt c cs e =
       let is : (entry_at setting.table c).syntax ≡ Whitespace = blank_syntax (entry_at setting.table c).syntax e in
       let depth = setting.limits.nesting - room in
-      subst (λ s. ComesTo setting within_it (c ∷ cs) (alone setting depth (inner setting room) c s) cs) is
+      subst (λ s. ReadsOnAs setting within_it (c ∷ cs) (alone setting depth (inner setting room) c s) cs) is
       (taken setting (scans false setting.limits.token (token_found setting)) (λ c. stands_alone (entry_at setting.table c).syntax)
       (λ c. alone setting depth (inner setting room) c (entry_at setting.table c).syntax) c cs (ap stands_alone is))
 
-  blank_next : (c : ℕ) (cs : List ℕ) → (c == 41) ≡ false → is_whitespace setting.table c ≡ true → ComesTo setting next (c ∷ cs) next cs
+  blank_next : (c : ℕ) (cs : List ℕ) → (c == 41) ≡ false → is_whitespace setting.table c ≡ true → ReadsOnAs setting next (c ∷ cs) next cs
   unfolding then_plan
   blank_next c cs other e =
       onward setting next (or_closed (Some 41) (then_plan within_it piece)) next (c ∷ cs) (c ∷ cs) cs (here setting next (or_closed (Some 41) (then_plan within_it piece)) (c ∷ cs) next_is)
@@ -73,7 +73,7 @@ module _ (setting : Setting) (room : ℕ) where
       (behind setting within_it (gives (nothing false)) piece (c ∷ cs) cs (blank_attempt c cs e)))
 
   pub blank_items : (xs : List Object) (c : ℕ) (cs : List ℕ) → (c == 41) ≡ false → is_whitespace setting.table c ≡ true
-      → ComesTo setting (after xs) (c ∷ cs) (after xs) cs
+      → ReadsOnAs setting (after xs) (c ∷ cs) (after xs) cs
   blank_items xs c cs other e =
       onward setting (after xs) (then_plan next (step xs)) (after xs) (c ∷ cs) (c ∷ cs) cs (here setting (after xs) (then_plan next (step xs)) (c ∷ cs) (after_is xs))
       (onward setting (then_plan next (step xs)) (then_plan next (step xs)) (after xs) (c ∷ cs) cs cs (behind setting next next (step xs) (c ∷ cs) cs (blank_next c cs other e))
@@ -81,7 +81,7 @@ module _ (setting : Setting) (room : ℕ) where
 
   -- ---- the parenthesis
 
-  pub closed_items : (xs : List Object) (cs : List ℕ) → ComesTo setting (after xs) (41 ∷ cs) (gives (xs, true)) cs
+  pub closed_items : (xs : List Object) (cs : List ℕ) → ReadsOnAs setting (after xs) (41 ∷ cs) (gives (xs, true)) cs
   unfolding then_plan
   closed_items xs cs =
       onward setting (after xs) (then_plan next (step xs)) (gives (xs, true)) (41 ∷ cs) (41 ∷ cs) cs (here setting (after xs) (then_plan next (step xs)) (41 ∷ cs) (after_is xs))
@@ -93,7 +93,7 @@ module _ (setting : Setting) (room : ℕ) where
   -- ---- an object
 
   object_next : (c : ℕ) (cs rest : List ℕ) (token : Bool) (x : Object) → (c == 41) ≡ false
-      → ComesTo setting within_it (c ∷ cs) (gives (one token x)) rest → ComesTo setting next (c ∷ cs) (gives (item token x)) rest
+      → ReadsOnAs setting within_it (c ∷ cs) (gives (one token x)) rest → ReadsOnAs setting next (c ∷ cs) (gives (item token x)) rest
   unfolding then_plan
   object_next c cs rest token x other comes =
       onward setting next (or_closed (Some 41) (then_plan within_it piece)) (gives (item token x)) (c ∷ cs) (c ∷ cs) rest
@@ -166,7 +166,7 @@ module _ (setting : Setting) (room : ℕ) where
   space_same true xs closes at (c ∷ cs) le = space_by xs c at cs closes le (is_whitespace setting.table c) refl
 
   pub object_items : (xs : List Object) (c : ℕ) (cs rest : List ℕ) (token : Bool) (x : Object) → is_whitespace setting.table 41 ≡ false → (c == 41) ≡ false
-      → ComesTo setting within_it (c ∷ cs) (gives (one token x)) rest → ComesTo setting (after xs) (c ∷ cs) (after (xs ++ x ∷ [])) rest
+      → ReadsOnAs setting within_it (c ∷ cs) (gives (one token x)) rest → ReadsOnAs setting (after xs) (c ∷ cs) (after (xs ++ x ∷ [])) rest
   unfolding then_plan
   object_items xs c cs rest token x closes other comes =
       onward setting (after xs) (then_plan next (step xs)) (after (xs ++ x ∷ [])) (c ∷ cs) (c ∷ cs) rest (here setting (after xs) (then_plan next (step xs)) (c ∷ cs) (after_is xs))

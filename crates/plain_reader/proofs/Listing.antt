@@ -8,7 +8,7 @@ use Rattle.lisp_reading.specs.declared.found.Found.TheVariants.{One as one}
 use Rattle.lisp_reading.specs.Plans.{gives}
 use Rattle.lisp_reading.specs.Setting.{Setting}
 use Rattle.lisp_reading.specs.Reading.{is_whitespace, attempt}
-use Rattle.plain_reader.specs.Coming.{ComesTo}
+use Rattle.plain_reader.specs.Coming.{ReadsOnAs}
 use Rattle.plain_reader.specs.Plain.{setting, Gathers, Closes, TakesList, Puts, items_from}
 use Rattle.plain_reader.specs.Direct.{TakesObject}
 use Rattle.plain_reader.specs.declared.context.PlainContext.{PlainContext}
@@ -20,18 +20,18 @@ use Rattle.plain_reader.proofs.Items.{blank_items, object_items}
 
 pub blank_at : (setting : Setting) (room : ℕ) (xs : List Object) (text : List ℕ) → 1 ≤ length text → (get_or text 0 0 ≡ 41 → ⊥)
     → is_whitespace setting.table (get_or text 0 0) ≡ true
-    → ComesTo setting (items_from setting room xs) text (items_from setting room xs) (take (length text - 1) (drop 1 text))
+    → ReadsOnAs setting (items_from setting room xs) text (items_from setting room xs) (take (length text - 1) (drop 1 text))
 blank_at setting room xs [] some other e = absurd (omega arith)
 blank_at setting room xs (c ∷ cs) some other e =
-    subst (λ rest. ComesTo setting (items_from setting room xs) (c ∷ cs) (items_from setting room xs) rest) (sym (rest_is 1 (c ∷ cs)))
+    subst (λ rest. ReadsOnAs setting (items_from setting room xs) (c ∷ cs) (items_from setting room xs) rest) (sym (rest_is 1 (c ∷ cs)))
     (blank_items setting room xs c cs (ne_eqb c 41 other) e)
 
 pub object_at : (setting : Setting) (room : ℕ) (xs ys : List Object) (text rest : List ℕ) (token : Bool) (x : Object) → 1 ≤ length text → (get_or text 0 0 ≡ 41 → ⊥)
-    → is_whitespace setting.table 41 ≡ false → ys ≡ xs ++ x ∷ [] → ComesTo setting (attempt setting room) text (gives (one token x)) rest
-    → ComesTo setting (items_from setting room xs) text (items_from setting room ys) rest
+    → is_whitespace setting.table 41 ≡ false → ys ≡ xs ++ x ∷ [] → ReadsOnAs setting (attempt setting room) text (gives (one token x)) rest
+    → ReadsOnAs setting (items_from setting room xs) text (items_from setting room ys) rest
 object_at setting room xs ys [] rest token x some other closes e comes = absurd (omega arith)
 object_at setting room xs ys (c ∷ cs) rest token x some other closes e comes =
-    subst (λ ys. ComesTo setting (items_from setting room xs) (c ∷ cs) (items_from setting room ys) rest) (sym e)
+    subst (λ ys. ReadsOnAs setting (items_from setting room xs) (c ∷ cs) (items_from setting room ys) rest) (sym e)
     (object_items setting room xs c cs rest token x closes (ne_eqb c 41 other) comes)
 
 pub list_closes : (with : PlainContext) (room : ℕ) (text rest : List ℕ) (xs : List Object) (result : Option ClosedList) → 0 < room
@@ -41,8 +41,8 @@ list_closes with room text rest xs None some gathers closes items = tt
 list_closes with room text rest xs (Some g) some gathers closes items = λ functions.
     let here = setting with functions in
     let more : suc (room - 1) ≡ room = omega arith in
-    subst (λ n. ComesTo here (attempt here n) (40 ∷ text) (gives (one false (list_of g.items))) g.rest.now) more
-    (subst (λ (ys : List Object). ComesTo here (attempt here (suc (room - 1))) (40 ∷ text) (gives (one false (list_of ys))) g.rest.now) (sym items)
+    subst (λ n. ReadsOnAs here (attempt here n) (40 ∷ text) (gives (one false (list_of g.items))) g.rest.now) more
+    (subst (λ (ys : List Object). ReadsOnAs here (attempt here (suc (room - 1))) (40 ∷ text) (gives (one false (list_of ys))) g.rest.now) (sym items)
     (list_taken here (room - 1) text g.rest.now xs with.sound with.lists
     (onward here (items_from here (room - 1) []) (items_from here (room - 1) xs) (gives (xs, true)) text rest g.rest.now (gathers functions) (closes here (room - 1)))))
 
@@ -58,12 +58,12 @@ put_object with room xs ys text rest some other closes puts = λ functions.
     object_at (setting with functions) room xs ys text rest puts.token puts.object some other closes puts.items (puts.takes functions)
 
 pub quote_at : (with : PlainContext) (room : ℕ) (text rest : List ℕ) (token : Bool) (x : Object) (functions : _) → 0 < room → with.quotes ≡ true
-    → ((functions : _) → ComesTo (setting with functions) (attempt (setting with functions) (room - 1)) text (gives (one token x)) rest)
-    → ComesTo (setting with functions) (attempt (setting with functions) room) (39 ∷ text) (gives (one token (headed (codes "QUOTE") x))) rest
+    → ((functions : _) → ReadsOnAs (setting with functions) (attempt (setting with functions) (room - 1)) text (gives (one token x)) rest)
+    → ReadsOnAs (setting with functions) (attempt (setting with functions) room) (39 ∷ text) (gives (one token (headed (codes "QUOTE") x))) rest
 quote_at with room text rest token x functions some quotes takes =
     let here = setting with functions in
     let more : suc (room - 1) ≡ room = omega arith in
-    subst (λ n. ComesTo here (attempt here n) (39 ∷ text) (gives (one token (headed (codes "QUOTE") x))) rest) more
+    subst (λ n. ReadsOnAs here (attempt here n) (39 ∷ text) (gives (one token (headed (codes "QUOTE") x))) rest) more
     (quote_taken here (room - 1) text rest token x with.sound (with.quoting quotes) (takes functions))
 
 -- an object that is read behind a quote is put to the items with its quote
@@ -84,6 +84,6 @@ only_put with room text rest xs ys x none is puts =
     let same : x ≡ puts.object = ap (λ (l : List Object). get_or l 0 x) (sym is ∙ puts.items ∙ ap (λ (l : List Object). l ++ puts.object ∷ []) none) in (
       puts.token,
       λ functions.
-          subst (λ (y : Object). ComesTo (setting with functions) (attempt (setting with functions) room) text (gives (one puts.token y)) rest) (sym same)
+          subst (λ (y : Object). ReadsOnAs (setting with functions) (attempt (setting with functions) room) text (gives (one puts.token y)) rest) (sym same)
           (puts.takes functions),
     )

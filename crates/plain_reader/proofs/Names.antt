@@ -19,10 +19,10 @@ use Rattle.token_scan.specs.Marks.{characters}
 use Rattle.token_meaning.specs.declared.refusal.MeaningRefusal.TheVariants.{NumberRange}
 use Rattle.token_meaning.specs.declared.token.TokenName.TheVariants.{Unqualified}
 use Rattle.token_meaning.specs.Folding.{folded}
-use Rattle.token_meaning.specs.Numerals.{is_digit_in, is_empty, is_numeral, are_digits, value}
+use Rattle.token_meaning.specs.Numerals.{is_digit_in, is_empty, is_numeral, are_digits, numeral_value}
 use Rattle.token_meaning.specs.Numbers.{integer_of, number_in_base}
 use Rattle.token_meaning.specs.Grammar.{absent}
-use Rattle.token_meaning.specs.Meanings.{number, name, is_unescaped, is_package_marker, pattern, name_of, meaning_of}
+use Rattle.token_meaning.specs.Meanings.{number, name, is_unescaped, is_package_marker, pattern, name_of_marks, meaning_of}
 use Rattle.token_meaning.proofs.NumberFronts.{begins_number, no_number}
 use Rattle.token_meaning.proofs.Spelled.{digits_given}
 use Rattle.package_table.specs.Resolving.{Resolution, home_of, resolution}
@@ -115,7 +115,7 @@ whole_part (m ∷ ms) h =
 
 -- ---- words
 
-by_first : (c : ℕ) (cs : List ℕ) → 58 ≤ c → meaning_of 10 (marks_of_bytes (c ∷ cs)) ≡ name_of (marks_of_bytes (c ∷ cs))
+by_first : (c : ℕ) (cs : List ℕ) → 58 ≤ c → meaning_of 10 (marks_of_bytes (c ∷ cs)) ≡ name_of_marks (marks_of_bytes (c ∷ cs))
 by_first c cs h =
     let fails : begins_number c ≡ false = beyond c h in
     let no_point : (c == 46) ≡ false = ne_eqb c 46 (λ e. omega arith) in
@@ -179,31 +179,31 @@ digits_more text i lt before is =
 shifted : (base d power sum c : ℕ) → d * (power * base) + (sum * base + c) ≡ (d * power + sum) * base + c
 shifted base d power sum c = omega arith
 
-value_more : (base : ℕ) (ds : List ℕ) (c : ℕ) → value base (ds ++ c ∷ []) ≡ value base ds * base + digit_value c
-unfolding value
+value_more : (base : ℕ) (ds : List ℕ) (c : ℕ) → numeral_value base (ds ++ c ∷ []) ≡ numeral_value base ds * base + digit_value c
+unfolding numeral_value
 value_more base [] c = rw (pow-zero base) (omega arith)
 value_more base (d ∷ ds) c =
     rw (length-append ds (c ∷ []), add-one (length ds), pow-suc base (length ds), value_more base ds c)
-    (shifted base (digit_value d) (base ^ length ds) (value base ds) (digit_value c))
+    (shifted base (digit_value d) (base ^ length ds) (numeral_value base ds) (digit_value c))
 
-pub value_none : 0 ≡ value 10 []
-unfolding value
+pub value_none : 0 ≡ numeral_value 10 []
+unfolding numeral_value
 value_none = refl
 
-pub worth_more : (text : List ℕ) (i n m : ℕ) → i < length text → n ≡ value 10 (take i text) → is_digit (get_or text i 0) ≡ true
-    → m ≡ n * 10 + (get_or text i 0 - 48) → m ≡ value 10 (take (i + 1) text)
+pub worth_more : (text : List ℕ) (i n m : ℕ) → i < length text → n ≡ numeral_value 10 (take i text) → is_digit (get_or text i 0) ≡ true
+    → m ≡ n * 10 + (get_or text i 0 - 48) → m ≡ numeral_value 10 (take (i + 1) text)
 worth_more text i n m lt before is e =
     let digit : digit_value (get_or text i 0) ≡ get_or text i 0 - 48 = digit_worth (get_or text i 0) is in
-    let more : value 10 (take (i + 1) text) ≡ value 10 (take i text) * 10 + digit_value (get_or text i 0) =
-    ap (value 10) (take_more text i 0 lt) ∙ value_more 10 (take i text) (get_or text i 0) in
+    let more : numeral_value 10 (take (i + 1) text) ≡ numeral_value 10 (take i text) * 10 + digit_value (get_or text i 0) =
+    ap (numeral_value 10) (take_more text i 0 lt) ∙ value_more 10 (take i text) (get_or text i 0) in
     omega (arith, digit, more, before, e)
 
-pub whole_numeral : (text : List ℕ) (i n : ℕ) → length text ≤ i → (length text ≡ 0 → ⊥) → are_digits 10 (take i text) ≡ true → n ≡ value 10 (take i text)
-    → (is_numeral 10 text ≡ true) × (n ≡ value 10 text)
+pub whole_numeral : (text : List ℕ) (i n : ℕ) → length text ≤ i → (length text ≡ 0 → ⊥) → are_digits 10 (take i text) ≡ true → n ≡ numeral_value 10 (take i text)
+    → (is_numeral 10 text ≡ true) × (n ≡ numeral_value 10 text)
 whole_numeral [] i n all some digits worth = absurd (some refl)
 whole_numeral (c ∷ cs) i n all some digits worth =
     let same : take i (c ∷ cs) ≡ c ∷ cs = take_all i (c ∷ cs) all in
-    (ap (are_digits 10) (sym same) ∙ digits, worth ∙ ap (value 10) same)
+    (ap (are_digits 10) (sym same) ∙ digits, worth ∙ ap (numeral_value 10) same)
 
 same_digit : (c : ℕ) → is_digit_in 10 c ≡ true → upper_case c ≡ c
 same_digit c e = grind (arith, nat_tests, e)
@@ -217,27 +217,27 @@ same_digits (c ∷ cs) e =
 digit_no_point : (c : ℕ) → is_digit_in 10 c ≡ true → (c == 46) ≡ false
 digit_no_point c e = ne_eqb c 46 (λ same. let never : is_digit_in 10 46 ≡ true = ap (is_digit_in 10) (sym same) ∙ e in absurd cc)
 
-numeral_means : (cs : List ℕ) → is_numeral 10 cs ≡ true → value 10 cs < 2 ^ 127 → meaning_of 10 (marks_of_bytes cs) ≡ Ok (number (integer (pos (value 10 cs))))
+numeral_means : (cs : List ℕ) → is_numeral 10 cs ≡ true → numeral_value 10 cs < 2 ^ 127 → meaning_of 10 (marks_of_bytes cs) ≡ Ok (number (integer (pos (numeral_value 10 cs))))
 numeral_means [] e small = absurd cc
 numeral_means (c ∷ cs) e small =
     let both : (is_digit_in 10 c ≡ true) × (are_digits 10 cs ≡ true) = and_parts (is_digit_in 10 c) (are_digits 10 cs) e in
     let no_point : (c == 46) ≡ false = digit_no_point c both.0 in
-    let digits : number_in_base 10 (c ∷ cs) ≡ Some (integer_of false (value 10 (c ∷ cs))) =
-    digits_given 10 (c ∷ cs) false (value 10 (c ∷ cs)) (lit≤ tt)
+    let digits : number_in_base 10 (c ∷ cs) ≡ Some (integer_of false (numeral_value 10 (c ∷ cs))) =
+    digits_given 10 (c ∷ cs) false (numeral_value 10 (c ∷ cs)) (lit≤ tt)
     (record { sign = absent; digits = c ∷ cs; numeral = e; parts = refl; below_zero = refl; worth = refl }) in
-    let in_range : nat_lt (value 10 (c ∷ cs)) (2 ^ 127) ≡ true = lt-ltb (value 10 (c ∷ cs)) (2 ^ 127) small in
-    let given : number_in_base 10 (c ∷ characters (marks_of_bytes cs)) ≡ Some (Ok (integer (pos (value 10 (c ∷ cs))))) =
+    let in_range : nat_lt (numeral_value 10 (c ∷ cs)) (2 ^ 127) ≡ true = lt-ltb (numeral_value 10 (c ∷ cs)) (2 ^ 127) small in
+    let given : number_in_base 10 (c ∷ characters (marks_of_bytes cs)) ≡ Some (Ok (integer (pos (numeral_value 10 (c ∷ cs))))) =
     ap (λ (ds : List ℕ). number_in_base 10 (c ∷ ds)) (plain_characters cs) ∙ digits
-    ∙ ap (λ (b : Bool). Some (if b then Ok (integer (pos (value 10 (c ∷ cs)))) else Err NumberRange)) in_range in
+    ∙ ap (λ (b : Bool). Some (if b then Ok (integer (pos (numeral_value 10 (c ∷ cs)))) else Err NumberRange)) in_range in
     rw (plain_all cs, no_point, given) refl
 
-pub decimal_token : (with : PlainContext) (bytes : List ℕ) (n : ℕ) (x : Object) → with.standard ≡ true → (is_numeral 10 bytes ≡ true) × (n ≡ value 10 bytes) → n < 2 ^ 64
+pub decimal_token : (with : PlainContext) (bytes : List ℕ) (n : ℕ) (x : Object) → with.standard ≡ true → (is_numeral 10 bytes ≡ true) × (n ≡ numeral_value 10 bytes) → n < 2 ^ 64
     → x ≡ integer (pos n) → IsToken with bytes x
 decimal_token with bytes n x standard is small e =
     let base : with.base ≡ 10 = with.numbers standard in
     let case : with.readtable.now.letters ≡ Upcase = with.case standard in
     let digits : are_digits 10 bytes ≡ true = (and_parts (not (is_empty bytes)) (are_digits 10 bytes) is.0).1 in
-    let low : value 10 bytes < 2 ^ 127 = let worth = is.1 in omega arith in
+    let low : numeral_value 10 bytes < 2 ^ 127 = let worth = is.1 in omega arith in
     (λ i. told_meaning with.packages.now.0 with.current.now (meaning_of (base i) (folded (case i) (marks_of_bytes bytes))))
     ∙ ap (λ ms. told_meaning with.packages.now.0 with.current.now (meaning_of 10 ms)) (upcased bytes ∙ ap marks_of_bytes (same_digits bytes digits))
     ∙ ap (told_meaning with.packages.now.0 with.current.now) (numeral_means bytes is.0 low)

@@ -7,7 +7,7 @@ use Rattle.std.proofs.lemmas.List.Folds.{list_all_more}
 use Rattle.lisp_object.specs.Ascii.{is_ascii}
 use Rattle.std.proofs.lemmas.List.{take-append-drop, at_drop_more}
 use Rattle.lisp_object.specs.Object.{Object}
-use Rattle.readtable_core.specs.Characters.{has_invalid_trait, is_digit, is_invalid, is_lower_case, is_upper_case}
+use Rattle.readtable_core.specs.Characters.{has_invalid_trait, is_digit, is_invalid_trait, is_lower_case, is_upper_case}
 use Rattle.readtable_core.specs.declared.characters.Traits.{Traits}
 use Rattle.readtable_core.specs.declared.characters.Traits.TheVariants.{Invalid as InvalidTrait, PackageMarker, PlusSign, MinusSign, RatioMarker, Dot, Digit, Letter, Alphabetic}
 use Rattle.readtable_core.specs.Tables.{Table, entry_at}
@@ -23,11 +23,11 @@ use Rattle.lisp_reading.specs.declared.found.Found.TheVariants.{One as one}
 use Rattle.lisp_reading.specs.declared.told.Told.{Told}
 use Rattle.lisp_reading.specs.declared.told.Told.TheVariants.{Object as told_object}
 use Rattle.lisp_object.specs.declared.refusal.TheConstants.{FORM_TOO_LONG}
-use Rattle.lisp_reading.specs.Naming.{told}
+use Rattle.lisp_reading.specs.Naming.{token_meant}
 use Rattle.lisp_reading.specs.Plans.{Plan, Read, gives, scans, limited, scanned, run}
 use Rattle.lisp_reading.specs.Setting.{Setting}
 use Rattle.lisp_reading.specs.Reading.{stands_alone, alone, told_found, token_found, inner, attempt}
-use Rattle.plain_reader.specs.Coming.{ComesTo}
+use Rattle.plain_reader.specs.Coming.{ReadsOnAs}
 use Rattle.plain_reader.specs.Tokens.{is_constituent, is_part, ends_before, IsTokenRun, marks_of_bytes}
 use Rattle.plain_reader.proofs.Coming.{onward, passed}
 
@@ -86,7 +86,7 @@ follows {A = A} setting on r marks at cs b e is holds =
 module _ (setting : Setting) where
   scanned_token : {A : Type 0} (on : List Mark → Plan A) (bs : List ℕ) (d : ℕ) (ds : List ℕ) → list_all (is_part setting.table) bs ≡ true
       → length bs ≤ setting.limits.token → ends_tokens (kind (typed setting.table d)) ≡ true
-      → ComesTo setting (scans false setting.limits.token on) (bs ++ d ∷ ds) (on (marks_of_bytes bs)) (d ∷ ds)
+      → ReadsOnAs setting (scans false setting.limits.token on) (bs ++ d ∷ ds) (on (marks_of_bytes bs)) (d ∷ ds)
   unfolding run
   scanned_token on bs d ds parts fits ends =
       let whole : length (bs ++ d ∷ ds) ≡ length bs + length (d ∷ ds) = length-append bs (d ∷ ds) in
@@ -104,8 +104,8 @@ module _ (setting : Setting) where
       }
 
   whole_token : (room : ℕ) (bs : List ℕ) (d : ℕ) (ds : List ℕ) (x : Object) → list_all (is_part setting.table) bs ≡ true → 0 < length bs
-      → length bs ≤ setting.limits.token → ends_tokens (kind (typed setting.table d)) ≡ true → told setting (marks_of_bytes bs) ≡ Ok (told_object x)
-      → ComesTo setting (attempt setting room) (bs ++ d ∷ ds) (gives (one true x)) (d ∷ ds)
+      → length bs ≤ setting.limits.token → ends_tokens (kind (typed setting.table d)) ≡ true → token_meant setting (marks_of_bytes bs) ≡ Ok (told_object x)
+      → ReadsOnAs setting (attempt setting room) (bs ++ d ∷ ds) (gives (one true x)) (d ∷ ds)
   whole_token room [] d ds x parts some fits ends means = absurd (omega arith)
   whole_token room (b ∷ bs) d ds x parts some fits ends means =
       let is : (entry_at setting.table b).syntax ≡ Constituent = part_syntax setting.table b (and_parts (is_part setting.table b) (list_all (is_part setting.table) bs) parts).0 in
@@ -113,21 +113,21 @@ module _ (setting : Setting) where
       onward setting (attempt setting room) (scans false setting.limits.token (token_found setting)) (gives (one true x)) (b ∷ (bs ++ d ∷ ds)) (b ∷ (bs ++ d ∷ ds)) (d ∷ ds)
       (passed setting (scans false setting.limits.token (token_found setting)) (λ c. stands_alone (entry_at setting.table c).syntax)
       (λ c. alone setting depth (inner setting room) c (entry_at setting.table c).syntax) b (bs ++ d ∷ ds) (ap stands_alone is))
-      (subst (λ (r : Result Told ℕ). ComesTo setting (scans false setting.limits.token (token_found setting)) (b ∷ (bs ++ d ∷ ds)) (told_found r) (d ∷ ds)) means
+      (subst (λ (r : Result Told ℕ). ReadsOnAs setting (scans false setting.limits.token (token_found setting)) (b ∷ (bs ++ d ∷ ds)) (told_found r) (d ∷ ds)) means
       (scanned_token (token_found setting) (b ∷ bs) d ds parts fits ends))
 
   ended_token : (room : ℕ) (bs cs : List ℕ) (x : Object) → list_all (is_part setting.table) bs ≡ true → 0 < length bs
-      → length bs ≤ setting.limits.token → ends_before setting.table cs ≡ true → told setting (marks_of_bytes bs) ≡ Ok (told_object x)
-      → ComesTo setting (attempt setting room) (bs ++ cs) (gives (one true x)) cs
+      → length bs ≤ setting.limits.token → ends_before setting.table cs ≡ true → token_meant setting (marks_of_bytes bs) ≡ Ok (told_object x)
+      → ReadsOnAs setting (attempt setting room) (bs ++ cs) (gives (one true x)) cs
   ended_token room bs [] x parts some fits ends means = absurd cc
   ended_token room bs (d ∷ ds) x parts some fits ends means = whole_token room bs d ds x parts some fits ends means
 
   -- a token at the front of a text
   pub token_taken : (room count : ℕ) (text : List ℕ) (x : Object) → IsTokenRun setting.table text count → 0 < count → count < length text → count ≤ setting.limits.token
-      → told setting (marks_of_bytes (take count text)) ≡ Ok (told_object x) → ComesTo setting (attempt setting room) text (gives (one true x)) (drop count text)
+      → token_meant setting (marks_of_bytes (take count text)) ≡ Ok (told_object x) → ReadsOnAs setting (attempt setting room) text (gives (one true x)) (drop count text)
   token_taken room count text x is some below fits means =
       let size : length (take count text) ≡ count = length-take-le count text (omega arith) in
-      subst (λ cs. ComesTo setting (attempt setting room) cs (gives (one true x)) (drop count text)) (take-append-drop count text)
+      subst (λ cs. ReadsOnAs setting (attempt setting room) cs (gives (one true x)) (drop count text)) (take-append-drop count text)
       (ended_token room (take count text) (drop count text) x is.parts (omega arith) (omega arith) is.ends means)
 
 -- ---- what the loop over the bytes of a token keeps
@@ -164,7 +164,7 @@ marks_ascii (b ∷ bs) e =
 -- ---- which bytes are refused
 
 -- the other traits are not refused
-others : (b0 b1 b2 b3 b4 b5 b6 : Bool) → is_invalid (if b0 then PackageMarker else (if b1 then PlusSign else (if b2 then MinusSign else (if b3 then RatioMarker else (if b4 then Dot else (if b5 then Digit else (if b6 then Letter else Alphabetic))))))) ≡ false
+others : (b0 b1 b2 b3 b4 b5 b6 : Bool) → is_invalid_trait (if b0 then PackageMarker else (if b1 then PlusSign else (if b2 then MinusSign else (if b3 then RatioMarker else (if b4 then Dot else (if b5 then Digit else (if b6 then Letter else Alphabetic))))))) ≡ false
 others true _ _ _ _ _ _ = refl
 others false true _ _ _ _ _ = refl
 others false false true _ _ _ _ = refl
@@ -180,5 +180,5 @@ refused_by c b is = by b is where
   rest = if c == 58 then PackageMarker else (if c == 43 then PlusSign else (if c == 45 then MinusSign else (if c == 47 then RatioMarker else (if c == 46 then Dot else (if is_digit c then Digit else (if is_upper_case c || is_lower_case c then Letter else Alphabetic))))))
 
   by : (b : Bool) → (nat_le c 32 || nat_le 127 c) ≡ b → b ≡ has_invalid_trait c
-  by true is = sym (ap (λ b. is_invalid (if b then InvalidTrait else rest)) is)
-  by false is = sym (ap (λ b. is_invalid (if b then InvalidTrait else rest)) is ∙ others (c == 58) (c == 43) (c == 45) (c == 47) (c == 46) (is_digit c) (is_upper_case c || is_lower_case c))
+  by true is = sym (ap (λ b. is_invalid_trait (if b then InvalidTrait else rest)) is)
+  by false is = sym (ap (λ b. is_invalid_trait (if b then InvalidTrait else rest)) is ∙ others (c == 58) (c == 43) (c == 45) (c == 47) (c == 46) (is_digit c) (is_upper_case c || is_lower_case c))

@@ -16,13 +16,13 @@ use Rattle.std_macros.specs.declared.kind.Standard.TheVariants.{String}
 use Rattle.lisp_reading.specs.declared.found.Found.{Found}
 use Rattle.lisp_reading.specs.declared.found.Found.TheVariants.{One as one}
 use Rattle.lisp_reading.specs.declared.way.Function.TheVariants.{Standard as AStandard}
-use Rattle.lisp_reading.specs.Calls.{InvokedCall}
+use Rattle.lisp_reading.specs.InvokedCalls.{InvokedCall}
 use Rattle.lisp_reading.specs.Gathering.{is_escape, text_turn}
 use Rattle.lisp_reading.specs.Plans.{Plan, gives, refuses, character, next_byte, then_plan}
 use Rattle.lisp_reading.specs.Setting.{Setting}
 use Rattle.lisp_reading.specs.Reading.{text_to, completed, attempt}
 use Rattle.lisp_reading.proofs.Turns.{loop_is, text_guarded}
-use Rattle.plain_reader.specs.Coming.{ComesTo}
+use Rattle.plain_reader.specs.Coming.{ReadsOnAs}
 use Rattle.plain_reader.specs.Texts.{is_letter, begins_with_quote, IsText}
 use Rattle.plain_reader.proofs.Coming.{here, onward, behind, taken}
 use Rattle.plain_reader.proofs.Calls.{calls}
@@ -49,34 +49,34 @@ module _ (setting : Setting) where
     ]
   ]
 
-  begun : (cs ds : List ℕ) → ComesTo setting (from cs) ds (turn cs) ds
+  begun : (cs ds : List ℕ) → ReadsOnAs setting (from cs) ds (turn cs) ds
   begun cs ds =
       here setting (from cs) (turn cs) ds
       (λ at es le. loop_is setting.table setting.limits (text_turn setting.table 34) (text_guarded setting.table setting.limits 34) cs at es le)
 
   letter : (cs : List ℕ) (c : ℕ) (ds : List ℕ) → is_letter setting.table c ≡ true → (c == 34) ≡ false
-      → ComesTo setting (from cs) (c ∷ ds) (from (cs ++ c ∷ [])) ds
+      → ReadsOnAs setting (from cs) (c ∷ ds) (from (cs ++ c ∷ [])) ds
   letter cs c ds is other =
       let both : (nat_lt c 128 ≡ true) × (not (is_escape (entry_at setting.table c).syntax) ≡ true) =
       and_parts (nat_lt c 128) (not (is_escape (entry_at setting.table c).syntax)) is in
       onward setting (from cs) (turn cs) (from (cs ++ c ∷ [])) (c ∷ ds) (c ∷ ds) ds (begun cs (c ∷ ds))
-      (subst (λ plan. ComesTo setting (turn cs) (c ∷ ds) plan ds)
+      (subst (λ plan. ReadsOnAs setting (turn cs) (c ∷ ds) plan ds)
       (goes_on (nat_lt c 128) (c == 34) (is_escape (entry_at setting.table c).syntax) (gives cs) (next_byte (λ d. from (cs ++ d ∷ []))) (from (cs ++ c ∷ []))
       (refuses INVALID_CHARACTER 1) both.0 other (not-true (is_escape (entry_at setting.table c).syntax) both.1))
       (taken setting (refuses END_OF_FILE 0) (λ c. true) (character (chosen cs)) c ds refl))
 
   all_letters : (bs ds cs : List ℕ) → list_all (is_letter setting.table) bs ≡ true → list_all (λ c. not (c == 34)) bs ≡ true
-      → ComesTo setting (from cs) (bs ++ ds) (from (cs ++ bs)) ds
+      → ReadsOnAs setting (from cs) (bs ++ ds) (from (cs ++ bs)) ds
   all_letters [] ds cs are others =
-      subst (λ es. ComesTo setting (from cs) ds (from es) ds) (sym (append-nil cs)) (here setting (from cs) (from cs) ds (λ at es le. refl))
+      subst (λ es. ReadsOnAs setting (from cs) ds (from es) ds) (sym (append-nil cs)) (here setting (from cs) (from cs) ds (λ at es le. refl))
   all_letters (b ∷ bs) ds cs are others =
       let both : (is_letter setting.table b ≡ true) × (list_all (is_letter setting.table) bs ≡ true) = and_parts (is_letter setting.table b) (list_all (is_letter setting.table) bs) are in
       let apart : (not (b == 34) ≡ true) × (list_all (λ c. not (c == 34)) bs ≡ true) = and_parts (not (b == 34)) (list_all (λ c. not (c == 34)) bs) others in
-      subst (λ es. ComesTo setting (from cs) (b ∷ (bs ++ ds)) (from es) ds) (append_assoc cs (b ∷ []) bs)
+      subst (λ es. ReadsOnAs setting (from cs) (b ∷ (bs ++ ds)) (from es) ds) (append_assoc cs (b ∷ []) bs)
       (onward setting (from cs) (from (cs ++ b ∷ [])) (from ((cs ++ b ∷ []) ++ bs)) (b ∷ (bs ++ ds)) (bs ++ ds) ds
       (letter cs b (bs ++ ds) both.0 (not-true (b == 34) apart.0)) (all_letters bs ds (cs ++ b ∷ []) both.1 apart.1))
 
-  closed : (cs ds : List ℕ) → ComesTo setting (from cs) (34 ∷ ds) (gives cs) ds
+  closed : (cs ds : List ℕ) → ReadsOnAs setting (from cs) (34 ∷ ds) (gives cs) ds
   closed cs ds =
       onward setting (from cs) (turn cs) (gives cs) (34 ∷ ds) (34 ∷ ds) ds (begun cs (34 ∷ ds))
       (taken setting (refuses END_OF_FILE 0) (λ c. true) (character (chosen cs)) 34 ds refl)
@@ -86,7 +86,7 @@ module _ (setting : Setting) where
 
   string_by : (room : ℕ) (bs ds : List ℕ) → IsReadtable setting.table → (entry_at setting.table 34).function ≡ Some std_string
       → list_all (is_letter setting.table) bs ≡ true → list_all (λ c. not (c == 34)) bs ≡ true
-      → ComesTo setting (attempt setting room) (34 ∷ (bs ++ 34 ∷ ds)) (gives (one false (text_object bs))) ds
+      → ReadsOnAs setting (attempt setting room) (34 ∷ (bs ++ 34 ∷ ds)) (gives (one false (text_object bs))) ds
   unfolding then_plan
   string_by room bs ds sound is are others =
       let end : List ℕ → Plan Found = λ cs. completed setting (setting.limits.nesting - room) string_call false false (letters cs) in
@@ -97,18 +97,18 @@ module _ (setting : Setting) where
 
   quoted_by : (room : ℕ) (bs cs : List ℕ) → IsReadtable setting.table → (entry_at setting.table 34).function ≡ Some std_string
       → list_all (is_letter setting.table) bs ≡ true → list_all (λ c. not (c == 34)) bs ≡ true → begins_with_quote cs ≡ true
-      → ComesTo setting (attempt setting room) (34 ∷ (bs ++ cs)) (gives (one false (text_object bs))) (drop 1 cs)
+      → ReadsOnAs setting (attempt setting room) (34 ∷ (bs ++ cs)) (gives (one false (text_object bs))) (drop 1 cs)
   quoted_by room bs [] sound is are others begins = absurd cc
   quoted_by room bs (d ∷ ds) sound is are others begins =
       let same : d ≡ 34 = eqb-true d 34 begins in
-      subst (λ (d : ℕ). ComesTo setting (attempt setting room) (34 ∷ (bs ++ d ∷ ds)) (gives (one false (text_object bs))) ds) (sym same) (string_by room bs ds sound is are others)
+      subst (λ (d : ℕ). ReadsOnAs setting (attempt setting room) (34 ∷ (bs ++ d ∷ ds)) (gives (one false (text_object bs))) ds) (sym same) (string_by room bs ds sound is are others)
 
   -- a text whose first double quote was before it
   pub string_taken : (room count : ℕ) (cs : List ℕ) → IsReadtable setting.table → (entry_at setting.table 34).function ≡ Some std_string → IsText setting.table cs count
-      → ComesTo setting (attempt setting room) (34 ∷ cs) (gives (one false (text_object (take count cs)))) (drop (count + 1) cs)
+      → ReadsOnAs setting (attempt setting room) (34 ∷ cs) (gives (one false (text_object (take count cs)))) (drop (count + 1) cs)
   string_taken room count cs sound is found =
-      subst (λ es. ComesTo setting (attempt setting room) (34 ∷ cs) (gives (one false (text_object (take count cs)))) es) (drop-drop 1 count cs)
-      (subst (λ es. ComesTo setting (attempt setting room) (34 ∷ es) (gives (one false (text_object (take count cs)))) (drop 1 (drop count cs))) (take-append-drop count cs)
+      subst (λ es. ReadsOnAs setting (attempt setting room) (34 ∷ cs) (gives (one false (text_object (take count cs)))) es) (drop-drop 1 count cs)
+      (subst (λ es. ReadsOnAs setting (attempt setting room) (34 ∷ es) (gives (one false (text_object (take count cs)))) (drop 1 (drop count cs))) (take-append-drop count cs)
       (quoted_by room (take count cs) (drop count cs) sound is found.letters found.inside found.ends))
 
 -- ---- what the loop over the characters of a text keeps

@@ -13,7 +13,7 @@ use Rattle.std.proofs.lemmas.List.Folds.{list_all-append}
 use Rattle.lisp_object.specs.Object.{Object, symbol, pair, list_of}
 use Rattle.package_table.specs.declared.error.PackageError.{PackageError}
 use Rattle.package_table.specs.declared.error.PackageError.TheVariants.{LockedPackage}
-use Rattle.package_table.specs.Table.{Name, Table, Present, IsPresent, IsSound, common_lisp, common_lisp_names, entry_at}
+use Rattle.package_table.specs.Table.{Name, Table, Present, IsPresent, AreSoundPackages, common_lisp, common_lisp_names, entry_at}
 use Rattle.package_table.specs.Lookup.{found, is_symbol}
 use Rattle.package_table.specs.Resolving.{Resolution, found_at, new_in, resolution}
 use Rattle.package_table.specs.Symbols.{symbols, are_there}
@@ -54,7 +54,7 @@ home_is : (o : Option Name) (b : Bool) (p : Name) → home_found (option_map_or 
 home_is None b p = new_or_locked b p
 home_is (Some h) b p = refl
 
-pub found_there : (t : Table) (p n h : Name) → IsSound t → resolution t p n ≡ Ok (found_at h) → are_there t (symbol h n) ≡ true
+pub found_there : (t : Table) (p n h : Name) → AreSoundPackages t → resolution t p n ≡ Ok (found_at h) → are_there t (symbol h n) ≡ true
 found_there t p n h sound is =
     let finds : found t p n ≡ Some h = sym (home_is (found t p n) (bytes_eq p common_lisp) p) ∙ ap home_found is in
     symbol_there t h n (present_at_home t p n h sound.joined (found_finds t n p h finds))
@@ -62,17 +62,17 @@ found_there t p n h sound is =
 pair_there : (t : Table) (x xs : Object) → are_there t x ≡ true → are_there t xs ≡ true → are_there t (pair x xs) ≡ true
 pair_there t x xs a b = list_all-append (λ s. is_symbol t s.0 s.1) (symbols x) (symbols xs) ∙ both (are_there t x) (are_there t xs) a b
 
-pub list_there : (t : Table) (xs : List Object) → IsSound t → list_all (are_there t) xs ≡ true → are_there t (list_of xs) ≡ true
+pub list_there : (t : Table) (xs : List Object) → AreSoundPackages t → list_all (are_there t) xs ≡ true → are_there t (list_of xs) ≡ true
 list_there t [] sound all = symbol_there t common_lisp (codes "NIL") (nil_present t sound)
 list_there t (x ∷ xs) sound all =
     let each = and_parts (are_there t x) (list_all (are_there t) xs) all in
     pair_there t x (list_of xs) each.0 (list_there t xs sound each.1)
 
-quote_there : (t : Table) → IsSound t → are_there t (symbol common_lisp (codes "QUOTE")) ≡ true
+quote_there : (t : Table) → AreSoundPackages t → are_there t (symbol common_lisp (codes "QUOTE")) ≡ true
 unfolding common_lisp_names
 quote_there t sound = symbol_there t common_lisp (codes "QUOTE") (lisp_present t sound (codes "QUOTE") refl)
 
-pub headed_there : (t : Table) (x : Object) → IsSound t → are_there t x ≡ true → are_there t (headed (codes "QUOTE") x) ≡ true
+pub headed_there : (t : Table) (x : Object) → AreSoundPackages t → are_there t x ≡ true → are_there t (headed (codes "QUOTE") x) ≡ true
 headed_there t x sound there =
     list_there t (symbol common_lisp (codes "QUOTE") ∷ x ∷ []) sound
     (both (are_there t (symbol common_lisp (codes "QUOTE"))) (are_there t x && true) (quote_there t sound) (both (are_there t x) true there refl))
@@ -86,7 +86,7 @@ still_list with xs before after None items still = λ e. ((still e).0, tt)
 still_list with xs before after (Some g) items still = λ e. ((still e).0, subst (λ (ys : List Object). AllAreThere with ys) (sym items) (still e).1)
 
 -- a quoted object is there, and it is put to items that are
-pub quoted_put : (with : PlainContext) (xs ys pair_of : List Object) (x : Object) (before after : Bool) → IsSound with.packages.now.0 → x ≡ list_of pair_of → ys ≡ xs ++ x ∷ []
+pub quoted_put : (with : PlainContext) (xs ys pair_of : List Object) (x : Object) (before after : Bool) → AreSoundPackages with.packages.now.0 → x ≡ list_of pair_of → ys ≡ xs ++ x ∷ []
     → IfStill before after (AllAreThere with (symbol common_lisp (codes "QUOTE") ∷ []) → AllAreThere with pair_of)
     → IfStill before after (AllAreThere with xs → AllAreThere with ys)
 quoted_put with xs ys pair_of x before after sound is items still = λ e. (
@@ -107,7 +107,7 @@ one_put with xs ys x before after items still = λ e. (
 )
 
 -- a list of objects that are there is put to items
-pub list_put : (with : PlainContext) (xs ys inner : List Object) (x : Object) (before after : Bool) → IsSound with.packages.now.0 → x ≡ list_of inner → ys ≡ xs ++ x ∷ []
+pub list_put : (with : PlainContext) (xs ys inner : List Object) (x : Object) (before after : Bool) → AreSoundPackages with.packages.now.0 → x ≡ list_of inner → ys ≡ xs ++ x ∷ []
     → IfStill before after (AllAreThere with inner) → IfStill before after (AllAreThere with xs → AllAreThere with ys)
 list_put with xs ys inner x before after sound is items still =
     one_put with xs ys x before after items

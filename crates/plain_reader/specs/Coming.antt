@@ -5,7 +5,7 @@ use Rattle.lisp_reading.specs.Setting.{Setting}
 
 -- Within the limit of the text, reading the text by one plan is reading the rest of it by the other, from the offset where the
 -- rest begins, whatever follows.
-pub record ComesTo {A : Type 0} (setting : Setting) (plan : Plan A) (text : List ℕ) (next : Plan A) (rest : List ℕ) : Type 0 where
+pub record ReadsOnAs {A : Type 0} (setting : Setting) (plan : Plan A) (text : List ℕ) (next : Plan A) (rest : List ℕ) : Type 0 where
   pub within : length rest ≤ length text
   pub goes : (at : ℕ) (more : List ℕ) → at + length text ≤ setting.limits.text
       → run setting.table setting.limits plan at (text ++ more)

@@ -14,7 +14,7 @@ use Rattle.plain_reader.specs.declared.direct.NamedProperty.{NamedProperty}
 use Rattle.plain_reader.specs.declared.direct.Literal.{Literal}
 use Rattle.plain_reader.specs.declared.direct.DirectForm.{DirectForm}
 use Rattle.plain_reader.specs.declared.direct.DirectForm.TheVariants.{Get, Setf}
-use Rattle.plain_reader.specs.Coming.{ComesTo}
+use Rattle.plain_reader.specs.Coming.{ReadsOnAs}
 use Rattle.plain_reader.specs.Plain.{setting, items_from, Gathers}
 
 -- the symbol of COMMON-LISP with this name
@@ -54,7 +54,7 @@ object_of_direct (Setf property literal) = list_of (lisp (codes "SETF") ∷ setf
 -- an attempt at an object where so many calls may be opened takes this from the text, whatever the functions are
 abbrev pub TakesObject : PlainContext → ℕ → List ℕ → Bool → Object → List ℕ → Type 0
 TakesObject with room text token x rest =
-    (functions : Functions) → ComesTo (setting with functions) (attempt (setting with functions) room) text (gives (one token x)) rest
+    (functions : Functions) → ReadsOnAs (setting with functions) (attempt (setting with functions) room) text (gives (one token x)) rest
 
 -- the items of a list go on from this text with these
 abbrev pub TakesItems : PlainContext → ℕ → List ℕ → List Object → List ℕ → Type 0
@@ -64,4 +64,4 @@ TakesItems with room text ys rest = (xs : List Object) → Gathers with room xs 
 abbrev pub EndsList : PlainContext → ℕ → List ℕ → List Object → List ℕ → Type 0
 EndsList with room text ys rest =
     (xs : List Object) (functions : Functions)
-    → ComesTo (setting with functions) (items_from (setting with functions) room xs) text (gives (xs ++ ys, true)) rest
+    → ReadsOnAs (setting with functions) (items_from (setting with functions) room xs) text (gives (xs ++ ys, true)) rest

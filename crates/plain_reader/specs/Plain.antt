@@ -10,7 +10,7 @@ use Rattle.lisp_reading.specs.Setting.{Setting, setting_of}
 use Rattle.lisp_reading.specs.Reading.{Items, attempt, items_after}
 use Rattle.plain_reader.specs.declared.context.PlainContext.{PlainContext}
 use Rattle.plain_reader.specs.declared.objects.Taken.{Taken}
-use Rattle.plain_reader.specs.Coming.{ComesTo}
+use Rattle.plain_reader.specs.Coming.{ReadsOnAs}
 
 -- reading with this, where these are the functions of users
 abbrev pub setting : PlainContext → Functions → Setting
@@ -20,7 +20,7 @@ setting with functions = setting_of with.limits with.readtable.now with.base wit
 abbrev pub Takes : PlainContext → ℕ → List ℕ → Taken → Type 0
 Takes with room text t =
     (functions : Functions) → let setting = setting with functions in
-    ComesTo setting (attempt setting room) text (gives (one t.token t.object)) t.rest.now
+    ReadsOnAs setting (attempt setting room) text (gives (one t.token t.object)) t.rest.now
 
 -- the items of a list after these
 abbrev pub items_from : Setting → ℕ → List Object → Plan Items
@@ -30,24 +30,24 @@ items_from setting room xs = items_after setting 41 (attempt setting room) xs
 abbrev pub Gathers : PlainContext → ℕ → List Object → List ℕ → List Object → List ℕ → Type 0
 Gathers with room xs text ys rest =
     (functions : Functions) → let setting = setting with functions in
-    ComesTo setting (items_from setting room xs) text (items_from setting room ys) rest
+    ReadsOnAs setting (items_from setting room xs) text (items_from setting room ys) rest
 
 -- a list of these items is closed at the front of the text
 abbrev pub Closes : Setting → ℕ → List Object → List ℕ → List ℕ → Type 0
-Closes setting room xs text rest = ComesTo setting (items_from setting room xs) text (gives (xs, true)) rest
+Closes setting room xs text rest = ReadsOnAs setting (items_from setting room xs) text (gives (xs, true)) rest
 
 -- a list whose opening parenthesis was before the text, where so many calls may be opened, has these items, whatever the functions are
 abbrev pub TakesList : PlainContext → ℕ → List ℕ → List Object → List ℕ → Type 0
 TakesList with room text xs rest =
     (functions : Functions) → let setting = setting with functions in
-    ComesTo setting (attempt setting room) (40 ∷ text) (gives (one false (list_of xs))) rest
+    ReadsOnAs setting (attempt setting room) (40 ∷ text) (gives (one false (list_of xs))) rest
 
 -- an object that an attempt takes from the text is put behind these items, whatever the functions are
 pub record Puts (with : PlainContext) (room : ℕ) (xs : List Object) (text : List ℕ) (ys : List Object) (rest : List ℕ) : Type 0 where
   pub token : Bool
   pub object : Object
   pub items : ys ≡ xs ++ object ∷ []
-  pub takes : (functions : Functions) → ComesTo (setting with functions) (attempt (setting with functions) room) text (gives (one token object)) rest
+  pub takes : (functions : Functions) → ReadsOnAs (setting with functions) (attempt (setting with functions) room) text (gives (one token object)) rest
 
 -- less of the text is left
 abbrev pub LeavesLessText : List ℕ → Taken → Type 0

@@ -58,7 +58,7 @@ pub fn read_plain(
     ensures proper { IfOk result (λ found. IfSome found (λ f. is_proper f.datum ≡ true)) }
     ensures sound { IfOk result (λ found. IfSome found (λ f. IsSound (object_of f.datum))) }
 
-    // Where the form ends; whitespace alone is none.
+    // The form ends within the bytes, behind the first; in whitespace alone none is found.
     ensures some { IfOk result (λ found. IfSome found (λ f. 0 < f.end)) }
     ensures within { IfOk result (λ found. IfSome found (λ f. f.end ≤ length bytes.now)) }
     ensures blank { list_all (is_whitespace readtable.now) bytes.now ≡ true → result ≡ Ok None }
@@ -135,7 +135,7 @@ pub fn read_direct(
         (λ d. d.known ≡ true → are_there packages.now.0 (object_of_direct d.form) ≡ true)) }
     ensures sound { IfOk result (λ found. IfSome found (λ d. IsSound (object_of_direct d.form))) }
 
-    // Where the form ends.
+    // The form ends within the bytes, behind the first.
     ensures some { IfOk result (λ found. IfSome found (λ d. 0 < d.end)) }
     ensures within { IfOk result (λ found. IfSome found (λ d. d.end ≤ length bytes.now)) }
 {

@@ -3,7 +3,7 @@ ghost use Rattle.std.specs.Prelude.{◌≡◌, ◌+◌, ◌*◌, ◌^◌, ◌-�
 ghost use Rattle.std.specs.List.{list_all, list_any};
 ghost use Rattle.lisp_object.specs.Ascii.{is_ascii};
 ghost use Rattle.readtable_core.specs.Characters.{is_lower_case, upper_case, is_digit};
-ghost use Rattle.token_meaning.specs.Numerals.{is_numeral, value};
+ghost use Rattle.token_meaning.specs.Numerals.{is_numeral, numeral_value};
 ghost use Rattle.plain_reader.specs.Tokens.{IsToken};
 ghost use Rattle.plain_reader.specs.Words.{is_word};
 ghost use Rattle.plain_reader.specs.Plain.{AreThere, IfStill};
@@ -113,7 +113,7 @@ pub(crate) fn upper_case(c: u8) -> u8
 /// The number that decimal digits write, where there are no others and it is below 2^64.
 pub(crate) fn decimal(bytes: &[u8]) -> Option<u64>
     ensures value { IfSome result
-        (λ n. (is_numeral 10 bytes.now ≡ true) × (n ≡ value 10 bytes.now)) }
+        (λ n. (is_numeral 10 bytes.now ≡ true) × (n ≡ numeral_value 10 bytes.now)) }
     ensures small { IfSome result (λ n. n < 2 ^ 64) }
 {
     if bytes.is_empty() {

@@ -10,10 +10,10 @@ use Rattle.std.specs.FinMap as finite
 use Rattle.std.specs.FinMap.{same_map, get-insert, get-remove}
 use Rattle.lisp_object.proofs.Tree.{insert_same}
 use Rattle.readtable_core.specs.Tables.{CharacterEntry, Table}
-use Rattle.readtable_core.specs.Changes.{with_entry}
+use Rattle.readtable_core.specs.Changes.{with_character_entry}
 use Rattle.readtable_core.proofs.PutBack.{put_back}
 use Rattle.package_table.specs.Table.{Name, name_cmp}
-use Rattle.package_table.specs.Shown.{as_map}
+use Rattle.package_table.specs.Views.{as_map}
 use Rattle.package_table.proofs.Seen.{at, name_of, got_name, written_at}
 use Rattle.plist_state.specs.declared.error.ReadtableError.{ReadtableError}
 use Rattle.plist_state.specs.declared.error.ReadtableError.TheVariants.{NoReadtable, StandardReadtable, NotDispatching, DigitSubcharacter, Limit, OutOfMemory}
@@ -22,7 +22,7 @@ use Rattle.plist_state.specs.declared.note.TableChange.TheVariants.{Over, Charac
 use Rattle.plist_state.specs.declared.note.Note.{Note}
 use Rattle.plist_state.specs.declared.note.Note.TheVariants.{Made, Changed}
 use Rattle.plist_state.specs.State.{Readtables, standard_name}
-use Rattle.plist_state.specs.Shown.{NumberedRest}
+use Rattle.plist_state.specs.Views.{NumberedRest}
 use Rattle.plist_state.specs.Undoing.{table_before, tables_before, undone}
 use Rattle.plist_state.specs.Journal.{IsNoted, IsTableChange, IsEntryNote, Continues}
 use Rattle.plist_state.proofs.Notes.{continues_noted, continues_same}
@@ -125,11 +125,11 @@ module _ (tables later : List (Vec ℕ × Table)) (n : Name) (t w : Table)
 -- a change of a character of a readtable, written through `get_mut` and noted with what was there
 pub entry_noted : (ms ks ns : List (List Note)) → ks ≡ ms → (note : Note) → ((t u : NumberedRest) → IsNoted note → undone note u ≡ t → Continues ks t ns u)
     → (tables later : List (Vec ℕ × Table)) (n : Name) (t w : Table) → Some t ≡ lookup (at n) tables → later ≡ set_value (at n) tables w
-    → (c : ℕ) (e : CharacterEntry) → c < 128 → IsEntryNote (shown tables) n c note → w ≡ with_entry t c e
+    → (c : ℕ) (e : CharacterEntry) → c < 128 → IsEntryNote (shown tables) n c note → w ≡ with_character_entry t c e
     → (r : NumberedRest) → Continues ms (record r { readtables = shown tables }) ns (record r { readtables = shown later })
 entry_noted ms ks ns same note pushed tables later n t w there holds c e below of made r =
     let got : finite.get (shown tables) n ≡ Some t = got_table n tables ∙ sym there in
-    let back : with_entry w c of.entry ≡ t = (λ i. with_entry (made i) c (of.was t got i)) ∙ put_back t c e in
+    let back : with_character_entry w c of.entry ≡ t = (λ i. with_character_entry (made i) c (of.was t got i)) ∙ put_back t c e in
     change_noted ms ks ns same note pushed (shown tables) (shown later) n w (put_there tables later n t w there holds) of.name of.named t got (Character c of.entry) below of.noted back r
 
 -- ---- a change that is taken back

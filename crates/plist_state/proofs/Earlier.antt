@@ -12,11 +12,11 @@ use Rattle.std.proofs.lemmas.List.Elements.{All-nil, All-cons, All-append, All-p
 use Rattle.plist_state.specs.declared.replaced.Replaced.{Replaced}
 use Rattle.plist_state.specs.declared.world.World.TheInside.{Inside}
 use Rattle.plist_state.specs.State.{WorldState, Worlds}
-use Rattle.plist_state.specs.Shown.{rest_of}
+use Rattle.plist_state.specs.Views.{rest_of}
 use Rattle.plist_state.specs.Undoing.{rests_at}
 use Rattle.plist_state.specs.Journal.{marks_of}
-use Rattle.plist_state.specs.Sound.{IsSound, IsSoundWorld}
-use Rattle.plist_state.specs.Marked.{marked_states, worlds_in, worlds_of, earlier_states, HasKeptWorld, IsReplaced, AreReplaced, IsWayBack}
+use Rattle.plist_state.specs.Sound.{IsSoundWorldState, IsSoundWorld}
+use Rattle.plist_state.specs.MarkedWorlds.{marked_states, worlds_in, worlds_of, earlier_states, HasKeptWorld, IsReplaced, AreReplaced, IsWayBack}
 use Rattle.package_table.proofs.Names.{same_some}
 use Rattle.plist_state.proofs.Marking.{states_many}
 use Rattle.plist_state.proofs.Notes.{notes_of}
@@ -82,18 +82,18 @@ module _ (es : List Replaced) (e : Replaced) (n : ℕ) (all : AreReplaced (es ++
       first [] each = All-nil IsReplaced
       first (f ∷ fs) each = All-cons IsReplaced f fs (All-head IsReplaced f (fs ++ e ∷ []) each) (first fs (All-tail IsReplaced f (fs ++ e ∷ []) each))
 
-pub earlier_sound : (es : List Replaced) → All IsReplaced es → All IsSound (earlier_states es)
-earlier_sound [] each = All-nil IsSound
+pub earlier_sound : (es : List Replaced) → All IsReplaced es → All IsSoundWorldState (earlier_states es)
+earlier_sound [] each = All-nil IsSoundWorldState
 earlier_sound (e ∷ es) each =
     let kept : IsReplaced e = All-head IsReplaced e es each in
-    All-append IsSound (worlds_in e).1 ((worlds_in e).0 ∷ earlier_states es) kept.marked.sound
-    (All-cons IsSound (worlds_in e).0 (earlier_states es) kept.sound (earlier_sound es (All-tail IsReplaced e es each)))
+    All-append IsSoundWorldState (worlds_in e).1 ((worlds_in e).0 ∷ earlier_states es) kept.marked.sound
+    (All-cons IsSoundWorldState (worlds_in e).0 (earlier_states es) kept.sound (earlier_sound es (All-tail IsReplaced e es each)))
 
 -- those of a world are sound
 pub world_sound : (a : Inside) → HasKeptWorld a → IsSoundWorld (worlds_of a)
 world_sound a kept = record {
   present = kept.now.sound;
-  marked = All-append IsSound (earlier_states a.earlier.items) (marked_states a.packages.1.marked (rests_at (marks_of a.marks.items) (rest_of a.stored)))
+  marked = All-append IsSoundWorldState (earlier_states a.earlier.items) (marked_states a.packages.1.marked (rests_at (marks_of a.marks.items) (rest_of a.stored)))
       (earlier_sound a.earlier.items kept.earlier.each) kept.now.marked.sound;
 }
 

@@ -9,9 +9,9 @@ use Rattle.std.proofs.Math.ListN.{length-set}
 use Rattle.std.proofs.lemmas.Option.{slice_get_past, slice_get_read}
 use Rattle.property_rows.specs.declared.property.NumberedProperty.{NumberedProperty}
 use Rattle.property_rows.specs.Rows.{PropertyRow, room}
-use Rattle.plist_state.specs.Shown.{Rows, lists_in, row_at, room_at}
-use Rattle.plist_state.specs.Kept.{IsWider}
-use Rattle.plist_state.specs.Indexed.{Indexes, IsIndexedIn, AreIndexed}
+use Rattle.plist_state.specs.Views.{Rows, lists_in, row_at, room_at}
+use Rattle.plist_state.specs.KeptRows.{IsWider}
+use Rattle.plist_state.specs.RowIndexes.{Indexes, IsIndexedIn, AreIndexed}
 use Rattle.plist_state.proofs.ListRows.{IsPut, put_set, put_push, wider_same, wider_both, cleared, cleared_same}
 use Rattle.plist_state.proofs.Placing.{are_indexed}
 use Rattle.plist_state.proofs.Indexing.{IsIndexed-nil}

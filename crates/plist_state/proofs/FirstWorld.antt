@@ -8,7 +8,7 @@ use Rattle.std.proofs.lemmas.Bool.{false≢true, and_parts, and_from}
 use Rattle.std.specs.FinMap as finite
 use Rattle.std.specs.FinMap.{get-empty, get-insert, len-insert, len-empty}
 use Rattle.readtable_core.specs.Tables as readtable
-use Rattle.readtable_core.specs.Named.{functions_of}
+use Rattle.readtable_core.specs.NamedFunctions.{functions_of}
 use Rattle.readtable_core.proofs.Sound.{standard_sound}
 use Rattle.package_table.specs.Table as packages
 use Rattle.package_table.specs.Table.{Name, name_cmp, keyword, keyword_names}
@@ -17,9 +17,9 @@ use Rattle.package_table.proofs.First.{sound, user_is_package}
 use Rattle.plist_state.specs.Properties.{Plist, symbol_cmp}
 use Rattle.package_table.specs.Numbers.{Numbered}
 use Rattle.plist_state.specs.State.{Readtables, initial, state_with, first_readtables, first_rest, standard_name, user_name}
-use Rattle.plist_state.specs.Shown.{NumberedRest, first_numbered}
-use Rattle.plist_state.specs.Marked.{state_in}
-use Rattle.plist_state.specs.Sound.{IsSymbol, IsNamed, IsSound}
+use Rattle.plist_state.specs.Views.{NumberedRest, first_numbered}
+use Rattle.plist_state.specs.MarkedWorlds.{state_in}
+use Rattle.plist_state.specs.Sound.{IsSymbol, IsNamed, IsSoundWorldState}
 use Rattle.plist_state.proofs.Orders.{name_total, one_name}
 use Rattle.plist_state.proofs.Soundness.{symbol_from}
 use Rattle.plist_state.proofs.Listed.{lists_empty}
@@ -98,7 +98,7 @@ first_count =
     either false true j k n z e f = omega (arith, z, e, f)
     either false false j k n z e f = omega (arith, z, e, f)
 
-pub first_sound : IsSound initial
+pub first_sound : IsSoundWorldState initial
 first_sound = record {
   packages = sound;
   symbols = λ x there. absurd (false≢true (sym (ap is_some (get-empty {X = Plist} symbol_cmp x)) ∙ there));

@@ -9,22 +9,22 @@ use Rattle.std.specs.Prelude.{OnOk, OnErr, IfOk, IfErr}
 use Rattle.package_table.specs.Table as packages
 use Rattle.package_table.specs.declared.error.PackageError.{PackageError}
 use Rattle.package_table.specs.Table.{Table, symbol_count}
-use Rattle.package_table.specs.Changes.{Gives, RunsOutOnlyIf, Yields}
+use Rattle.package_table.specs.Changes.{AnswersPackages, RunsOutOnlyIf, Yields}
 use Rattle.package_table.specs.Numbers.{Numbered, Tables, numbered, number_of}
 use Rattle.package_table.specs.Numbering.{IsNumbered, KeepsNumbers}
-use Rattle.package_table.specs.Growth.{Grows, Tells}
+use Rattle.package_table.specs.Growth.{Grows, TellsOfChange}
 use Rattle.plist_state.specs.declared.note.Note.{Note}
 use Rattle.plist_state.specs.declared.world.World.TheInside.{Inside}
 use Rattle.plist_state.specs.Properties.{Symbol, Plist, Properties, value_at, list_at, with_list}
 use Rattle.plist_state.specs.State.{WorldState, Worlds}
 use Rattle.plist_state.specs.Changes.{plist, property, without_property, with_packages}
 use Rattle.plist_state.specs.PackageCalls.{ChangesPackages}
-use Rattle.plist_state.specs.Lists.{NumberedPlist, row_of, with_row, value_in, named_plist, lists}
-use Rattle.plist_state.specs.Shown.{NumberedRest, rest_of}
+use Rattle.plist_state.specs.Lists.{NumberedPlist, plist_of_number, with_row, value_in, named_plist, lists}
+use Rattle.plist_state.specs.Views.{NumberedRest, rest_of}
 use Rattle.plist_state.specs.Undoing.{rests_at}
 use Rattle.plist_state.specs.Journal.{marks_of}
-use Rattle.plist_state.specs.Sound.{IsSound}
-use Rattle.plist_state.specs.Marked.{state_in, marked_states, earlier_states, worlds_of, AreKept, HasKeptWorld}
+use Rattle.plist_state.specs.Sound.{IsSoundWorldState}
+use Rattle.plist_state.specs.MarkedWorlds.{state_in, marked_states, earlier_states, worlds_of, AreKept, HasKeptWorld}
 use Rattle.plist_state.proofs.Listed.{lists_at, lists_none, lists_put, lists_grown, owned_grown}
 use Rattle.plist_state.proofs.Marking.{world_same}
 use Rattle.plist_state.proofs.Named.{value_named, value_unnamed}
@@ -32,7 +32,7 @@ use Rattle.plist_state.proofs.Soundness.{sound_packages, removed_absent}
 
 -- what is kept where the list of a number is changed
 abbrev pub with_changed_row : NumberedRest → ℕ → (NumberedPlist → NumberedPlist) → NumberedRest
-with_changed_row r n g = record r { properties = with_row r.properties n (g (row_of r.properties n)) }
+with_changed_row r n g = record r { properties = with_row r.properties n (g (plist_of_number r.properties n)) }
 
 -- a state where the list of a symbol is changed
 abbrev pub with_changed_list : WorldState → Symbol → (Plist → Plist) → WorldState
@@ -40,17 +40,17 @@ with_changed_list s x f = record s { properties = with_list s.properties x (f (l
 
 module _ (s : Numbered) (count : ℕ) (counted : IsNumbered s count) (x : Symbol) (n : ℕ) (is : number_of s x.0 x.1 ≡ Some n) where
   -- what g makes of the list by numbers, f makes of the list by symbols
-  pub state_listed : (r : NumberedRest) (g : NumberedPlist → NumberedPlist) (f : Plist → Plist) → named_plist s (g (row_of r.properties n)) ≡ f (named_plist s (row_of r.properties n))
+  pub state_listed : (r : NumberedRest) (g : NumberedPlist → NumberedPlist) (f : Plist → Plist) → named_plist s (g (plist_of_number r.properties n)) ≡ f (named_plist s (plist_of_number r.properties n))
       → state_in s (with_changed_row r n g) ≡ with_changed_list (state_in s r) x f
   state_listed r g f made =
       ap (λ (m : Properties). record (state_in s r) { properties = m })
-      (lists_put s count counted r.properties x n (g (row_of r.properties n)) is
+      (lists_put s count counted r.properties x n (g (plist_of_number r.properties n)) is
       ∙ ap (with_list (lists s r.properties) x) (made ∙ ap f (sym (lists_at s r.properties x n is))))
 
 module _ {A E : Type 0} (res : Result A E) (past : List WorldState) (ts : Tables) (ms ns : List (List Note)) (r u : NumberedRest) (same : rests_at ns u ≡ rests_at ms r)
     (w : Worlds) (seen : ◌≡◌ {A = Worlds} (state_in (numbered ts) r, past ++ marked_states ts.1.marked (rests_at ms r)) w) where
   pub world_listed : (count : ℕ) → IsNumbered (numbered ts) count → (x : Symbol) (n : ℕ) → number_of (numbered ts) x.0 x.1 ≡ Some n
-      → (g : NumberedPlist → NumberedPlist) (f : Plist → Plist) → named_plist (numbered ts) (g (row_of r.properties n)) ≡ f (named_plist (numbered ts) (row_of r.properties n))
+      → (g : NumberedPlist → NumberedPlist) (f : Plist → Plist) → named_plist (numbered ts) (g (plist_of_number r.properties n)) ≡ f (named_plist (numbered ts) (plist_of_number r.properties n))
       → OnOk res (u ≡ with_changed_row r n g)
       → OnOk res (◌≡◌ {A = Worlds} (state_in (numbered ts) u, past ++ marked_states ts.1.marked (rests_at ns u)) (with_changed_list w.0 x f, w.1))
   world_listed count counted x n is g f made = done res
@@ -72,7 +72,7 @@ module _ {A E : Type 0} (res : Result A E) (past : List WorldState) (ts : Tables
 
 -- ---- what is seen of a symbol
 module _ (a : Inside) (w : Worlds) (seen : worlds_of a ≡ w) (x : Symbol) where
-  pub row_seen : (n : ℕ) → number_of (numbered a.packages) x.0 x.1 ≡ Some n → named_plist (numbered a.packages) (row_of (rest_of a.stored).properties n) ≡ plist w.0 x
+  pub row_seen : (n : ℕ) → number_of (numbered a.packages) x.0 x.1 ≡ Some n → named_plist (numbered a.packages) (plist_of_number (rest_of a.stored).properties n) ≡ plist w.0 x
   row_seen n is = sym (lists_at (numbered a.packages) (rest_of a.stored).properties x n is) ∙ ap (λ (v : Worlds). plist v.0 x) seen
 
   pub none_seen : number_of (numbered a.packages) x.0 x.1 ≡ None → [] ≡ plist w.0 x
@@ -84,19 +84,19 @@ module _ (a : Inside) (kept : HasKeptWorld a) (w : Worlds) (seen : worlds_of a �
   pub property_seen : (count : ℕ) → IsNumbered (numbered a.packages) count → (n j : ℕ) → number_of (numbered a.packages) x.0 x.1 ≡ Some n → number_of (numbered a.packages) i.0 i.1 ≡ Some j
       → value_in (rest_of a.stored).properties n j ≡ property w.0 x i
   property_seen count counted n j owner indicator =
-      sym (value_named (numbered a.packages) count counted i j indicator (row_of (rest_of a.stored).properties n) (kept.now.owned.indicators n))
+      sym (value_named (numbered a.packages) count counted i j indicator (plist_of_number (rest_of a.stored).properties n) (kept.now.owned.indicators n))
       ∙ ap (λ ps. value_at ps i) (row_seen a w seen x n owner)
 
   -- what has no number is no indicator
   pub no_property : (n : ℕ) → number_of (numbered a.packages) x.0 x.1 ≡ Some n → number_of (numbered a.packages) i.0 i.1 ≡ None → property w.0 x i ≡ None
   no_property n owner none =
       ap (λ ps. value_at ps i) (sym (row_seen a w seen x n owner))
-      ∙ value_unnamed (numbered a.packages) i none (row_of (rest_of a.stored).properties n) (kept.now.owned.indicators n)
+      ∙ value_unnamed (numbered a.packages) i none (plist_of_number (rest_of a.stored).properties n) (kept.now.owned.indicators n)
 
   -- a property that is not there, removed
   pub property_out : property w.0 x i ≡ None → ◌≡◌ {A = Worlds} (without_property w.0 x i, w.1) w
   property_out absent =
-      ap (λ (t : WorldState). (t, w.1)) (removed_absent w.0 x i (subst (λ (v : Worlds). IsSound v.0) seen kept.now.sound) absent)
+      ap (λ (t : WorldState). (t, w.1)) (removed_absent w.0 x i (subst (λ (v : Worlds). IsSoundWorldState v.0) seen kept.now.sound) absent)
 
 -- ---- other packages
 module _ (a : Inside) (ts : Tables) (grows : Grows a.packages.0 ts.0) (keeps : KeepsNumbers (numbered a.packages) (numbered ts))
@@ -112,14 +112,14 @@ module _ (a : Inside) (ts : Tables) (grows : Grows a.packages.0 ts.0) (keeps : K
       (λ i. (same_state i, earlier_states a.earlier.items ++ marked_states (marked i) (rests_at (marks_of a.marks.items) (rest_of a.stored))))
       ∙ ap (λ (v : Worlds). (with_packages v.0 ts.0, v.1)) seen
 
-  pub packages_kept : packages.IsSound ts.0 → HasKeptWorld (record a { packages = ts })
+  pub packages_kept : packages.AreSoundPackages ts.0 → HasKeptWorld (record a { packages = ts })
   packages_kept sound = record {
     now = record {
       values = kept.now.values;
       indexed = kept.now.indexed;
       sizes = kept.now.sizes;
       owned = owned_grown (numbered a.packages) (numbered ts) (symbol_count ts.0) counted grows keeps (rest_of a.stored).properties kept.now.owned;
-      sound = subst IsSound (sym same_state) (sound_packages (state_in (numbered a.packages) (rest_of a.stored)) ts.0 kept.now.sound sound grows);
+      sound = subst IsSoundWorldState (sym same_state) (sound_packages (state_in (numbered a.packages) (rest_of a.stored)) ts.0 kept.now.sound sound grows);
       marked = subst (λ ss. AreKept ss (marks_of a.marks.items) (rest_of a.stored) a.stored.properties.items) (sym marked) kept.now.marked;
     };
     earlier = kept.earlier;
@@ -132,7 +132,7 @@ packages_unchanged (Err e) a ts same w seen = ap (λ (ts : Tables). worlds_of (r
 -- what a call of the packages answers, of the world
 pub packages_changed : (a : Inside) (ts : Tables) → Grows a.packages.0 ts.0 → KeepsNumbers (numbered a.packages) (numbered ts) → IsNumbered (numbered ts) (symbol_count ts.0) → ts.1.marked ≡ a.packages.1.marked → HasKeptWorld a
     → (res : Result Bool PackageError) (after : Table → Result Table PackageError) (changes : Table → Bool)
-    → Gives (λ _. ts.0) res (after a.packages.0) → Yields res (changes a.packages.0) → IfErr res (RunsOutOnlyIf (changes a.packages.0)) → IfOk res (λ changed. Tells changed a.packages.0 ts.0) → IfErr res (λ _. ts ≡ a.packages)
+    → AnswersPackages (λ _. ts.0) res (after a.packages.0) → Yields res (changes a.packages.0) → IfErr res (RunsOutOnlyIf (changes a.packages.0)) → IfOk res (λ changed. TellsOfChange changed a.packages.0 ts.0) → IfErr res (λ _. ts ≡ a.packages)
     → (w : Worlds) → worlds_of a ≡ w → ChangesPackages w (worlds_of (record a { packages = ts })) res (after w.0.packages) (changes w.0.packages)
 packages_changed a ts grows keeps counted marked kept res after changes gives changed memory exactly unchanged w seen =
     subst (λ (v : Worlds). ChangesPackages v (worlds_of (record a { packages = ts })) res (after v.0.packages) (changes v.0.packages)) seen

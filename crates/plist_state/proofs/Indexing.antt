@@ -17,7 +17,7 @@ use Rattle.std.proofs.lemmas.List.Edits.{length-insert, length-remove, get_or-in
 use Rattle.lisp_object.specs.declared.datum.Datum.{Datum}
 use Rattle.property_rows.specs.declared.property.NumberedProperty.{NumberedProperty}
 use Rattle.plist_state.specs.Lists.{same_number}
-use Rattle.plist_state.specs.Indexed.{Orders, order_of, orders, nth, order_in, HasRisingOrders, IsIndexed}
+use Rattle.plist_state.specs.RowIndexes.{Orders, order_of, orders, nth, order_in, HasRisingOrders, IsIndexed}
 use Rattle.plist_state.proofs.Indices.{has, item_at}
 use Rattle.plist_state.proofs.ListRows.{number_tied}
 use Rattle.plist_state.proofs.Placing.{not_same}

@@ -8,8 +8,8 @@ use Rattle.lisp_object.specs.Datum.{object_of}
 use Rattle.lisp_object.specs.declared.datum.Datum.{Datum}
 use Rattle.property_rows.specs.declared.property.NumberedProperty.{NumberedProperty}
 use Rattle.property_rows.specs.Slots.{no_property, with_value}
-use Rattle.plist_state.specs.Shown.{numbered_property}
-use Rattle.plist_state.specs.Properties.{value_by, with_value_by, without_value_by}
+use Rattle.plist_state.specs.Views.{numbered_property}
+use Rattle.plist_state.specs.Properties.{value_beside, with_value_by, without_value_by}
 use Rattle.plist_state.specs.Pushed.{pushed, with_pushed_by}
 use Rattle.plist_state.specs.Popped.{popped, with_popped_by}
 use Rattle.plist_state.specs.Lists.{NumberedPlist, same_number}
@@ -46,12 +46,12 @@ shown items = map numbered_property items
 pub record IsFirstAt (items : List NumberedProperty) (i : ℕ) (k : ℕ) : Type 0 where
   pub within : k < length items
   pub written : (x : Object) → with_value_by same_number (shown items) i x ≡ with_value_at (shown items) k x
-  pub stands : (d : NumberedProperty) → value_by same_number (shown items) i ≡ Some (object_of (get_or items k d).value)
+  pub stands : (d : NumberedProperty) → value_beside same_number (shown items) i ≡ Some (object_of (get_or items k d).value)
   pub cut : shown (remove items k) ≡ without_value_by same_number (shown items) i
 
 pub record IsAbsent (items : List NumberedProperty) (i : ℕ) : Type 0 where
   pub written : (x : Object) → with_value_by same_number (shown items) i x ≡ shown items ++ (i, x) ∷ []
-  pub stands : value_by same_number (shown items) i ≡ None
+  pub stands : value_beside same_number (shown items) i ≡ None
   pub uncut : without_value_by same_number (shown items) i ≡ shown items
 
 cond_is : {X : Type 0} (a b : Bool) (x y : X) → a ≡ b → cond a x y ≡ cond b x y
@@ -125,7 +125,7 @@ with_value_at-twice (p ∷ ps) (suc k) x y = ap (λ qs. p ∷ qs) (with_value_at
 
 -- the list at the index of an indicator, with an item more in front
 pub stands_at : (items : List NumberedProperty) (i k : ℕ) (p : NumberedProperty) → position (has i) items ≡ Some k → p ≡ get_or items k p
-    → value_by same_number (shown items) i ≡ Some (object_of p.value)
+    → value_beside same_number (shown items) i ≡ Some (object_of p.value)
 stands_at items i k p at is = (first_at items i k at).stands p ∙ ap (λ (q : NumberedProperty). Some (object_of q.value)) (sym is)
 
 pub pushed_at : (items : List NumberedProperty) (i k : ℕ) (p : NumberedProperty) (v x : Datum) → position (has i) items ≡ Some k → p ≡ get_or items k p → object_of v ≡ pair (object_of x) (object_of p.value)

@@ -16,7 +16,7 @@ use Rattle.readtable_core.specs.Characters.{is_digit}
 use Rattle.readtable_core.specs.Names.{is_dispatch_name, is_function_name, dispatch_name}
 use Rattle.readtable_core.specs.Tables.{Table, entry_at}
 use Rattle.readtable_core.specs.Sound.{is_dispatching}
-use Rattle.readtable_core.specs.Changes.{with_entry, macro_entry, dispatching_entry, with_function}
+use Rattle.readtable_core.specs.Changes.{with_character_entry, macro_entry, dispatching_entry, with_function}
 use Rattle.readtable_core.proofs.Sound as readtable_sound
 use Rattle.readtable_core.proofs.Named.{named_after, named_at, named_with_function}
 use Rattle.package_table.specs.Table as packages
@@ -26,9 +26,9 @@ use Rattle.package_table.proofs.Frames.{equal_itself}
 use Rattle.plist_state.specs.declared.error.ReadtableError.{ReadtableError}
 use Rattle.plist_state.specs.declared.error.ReadtableError.TheVariants.{NoReadtable, StandardReadtable, Limit}
 use Rattle.plist_state.specs.State.{Readtables, WorldState, standard_name}
-use Rattle.plist_state.specs.Shown.{NumberedRest}
-use Rattle.plist_state.specs.Changes.{put_changed, with_changed, changed_readtable, dispatched, refused_as, with_copy, with_syntax, Gives}
-use Rattle.plist_state.specs.Sound.{IsSymbol, IsNamed, IsSound}
+use Rattle.plist_state.specs.Views.{NumberedRest}
+use Rattle.plist_state.specs.Changes.{put_changed, with_changed, changed_readtable, with_sub_function, refused_as, with_copy, with_syntax, AnswersReadtables}
+use Rattle.plist_state.specs.Sound.{IsSymbol, IsNamed, IsSoundWorldState}
 use Rattle.plist_state.proofs.Orders.{name_total}
 use Rattle.plist_state.proofs.Soundness.{sound_table, symbol_from}
 
@@ -37,9 +37,9 @@ kept_rest (Ok x) P r u v ok err old new = subst P (sym ok) new
 kept_rest (Err e) P r u v ok err old new = subst P (sym err) old
 
 pub kept_gives : (res : Result (Unit {0}) ReadtableError) (s : WorldState) (m : Readtables) (said : Result Readtables ReadtableError)
-    → Gives (λ _. m) res said → IfErr res (λ _. m ≡ s.readtables) → IsSound s → ((v : Readtables) → said ≡ Ok v → IsSound (record s { readtables = v })) → IsSound (record s { readtables = m })
+    → AnswersReadtables (λ _. m) res said → IfErr res (λ _. m ≡ s.readtables) → IsSoundWorldState s → ((v : Readtables) → said ≡ Ok v → IsSoundWorldState (record s { readtables = v })) → IsSoundWorldState (record s { readtables = m })
 kept_gives (Ok x) s m said gives same old new = new m gives
-kept_gives (Err e) s m said gives same old new = subst (λ v. IsSound (record s { readtables = v })) (sym same) old
+kept_gives (Err e) s m said gives same old new = subst (λ v. IsSoundWorldState (record s { readtables = v })) (sym same) old
 
 err_ok : {A : Type 0} {e : ReadtableError} {v : A} → ◌≡◌ {A = Result A ReadtableError} (Err e) (Ok v) → ⊥
 err_ok {A = A} is = false≢true (subst (λ (r : Result A ReadtableError). IsOk r) (sym is) refl)
@@ -56,21 +56,21 @@ there_too m n u there count =
     let same : finite.len (finite.insert m n u) ≡ finite.len m = len-insert name_total m n u ∙ ap (λ b. cond b (finite.len m) (finite.len m + 1)) there in
     omega (arith, same, count)
 
-pub sound_changed : (s : WorldState) (n : Name) (change : Table → Result Table ReadtableError) → IsSound s
+pub sound_changed : (s : WorldState) (n : Name) (change : Table → Result Table ReadtableError) → IsSoundWorldState s
     → ((t u : Table) → IsNamed s.packages t → change t ≡ Ok u → IsNamed s.packages u)
-    → (v : Readtables) → changed_readtable s.readtables n change ≡ Ok v → IsSound (record s { readtables = v })
+    → (v : Readtables) → changed_readtable s.readtables n change ≡ Ok v → IsSoundWorldState (record s { readtables = v })
 sound_changed s n change sound named v is =
     elim (finite.get s.readtables n) as (λ o. finite.get s.readtables n ≡ o
-    → with_writable o ≡ Ok v → IsSound (record s { readtables = v })) [
+    → with_writable o ≡ Ok v → IsSoundWorldState (record s { readtables = v })) [
       | None ↦ λ _ e. absurd (err_ok e)
       | Some t ↦ λ there e.
-          elim (bytes_eq n standard_name) as (λ b. bytes_eq n standard_name ≡ b → with_changed s.readtables n change (if b then Err StandardReadtable else Ok t) ≡ Ok v → IsSound (record s { readtables = v })) [
+          elim (bytes_eq n standard_name) as (λ b. bytes_eq n standard_name ≡ b → with_changed s.readtables n change (if b then Err StandardReadtable else Ok t) ≡ Ok v → IsSoundWorldState (record s { readtables = v })) [
             | true ↦ λ _ f. absurd (err_ok f)
             | false ↦ λ other f.
-                elim (change t) as (λ r. change t ≡ r → put_changed s.readtables n r ≡ Ok v → IsSound (record s { readtables = v })) [
+                elim (change t) as (λ r. change t ≡ r → put_changed s.readtables n r ≡ Ok v → IsSoundWorldState (record s { readtables = v })) [
                   | Err x ↦ λ _ g. absurd (err_ok g)
                   | Ok u ↦ λ made g.
-                      subst (λ w. IsSound (record s { readtables = w })) (ok_same (finite.insert s.readtables n u) v g)
+                      subst (λ w. IsSoundWorldState (record s { readtables = w })) (ok_same (finite.insert s.readtables n u) v g)
                       (sound_table s n u sound (apart_from n other) (sound.readtables.names n (ap is_some there))
                       (there_too s.readtables n u (ap is_some there) sound.readtables.count)
                       (named t u (sound.readtables.each n t there) made))
@@ -89,28 +89,28 @@ named_case t letters r u named is = subst (IsNamed t) (ok_same (record r { lette
 })
 
 pub named_macro : (t : packages.Table) (c : ℕ) (f : Name) (b : Bool) (r u : Table) → c < 128 → IsFalse (is_dispatch_name f) → IsTrue (is_function_name f) → IsSymbol t (keyword, f)
-    → IsNamed t r → ◌≡◌ {A = Result Table ReadtableError} (Ok (with_entry r c (macro_entry f b))) (Ok u) → IsNamed t u
-named_macro t c f b r u below other fits at_home named is = subst (IsNamed t) (ok_same (with_entry r c (macro_entry f b)) u is) (record {
+    → IsNamed t r → ◌≡◌ {A = Result Table ReadtableError} (Ok (with_character_entry r c (macro_entry f b))) (Ok u) → IsNamed t u
+named_macro t c f b r u below other fits at_home named is = subst (IsNamed t) (ok_same (with_character_entry r c (macro_entry f b)) u is) (record {
   readtable = readtable_sound.kept r c (macro_entry f b) below named.readtable (readtable_sound.macro_sound f b other fits);
   functions = named_after (is_symbol t keyword) r c (macro_entry f b) named.functions (and_from (is_symbol t keyword f) true (symbol_from t keyword f at_home) refl);
 })
 
 pub named_dispatching : (t : packages.Table) (c : ℕ) (b : Bool) (r u : Table) → c < 128 → IsSymbol t (keyword, dispatch_name)
-    → IsNamed t r → ◌≡◌ {A = Result Table ReadtableError} (Ok (with_entry r c (dispatching_entry b))) (Ok u) → IsNamed t u
-named_dispatching t c b r u below at_home named is = subst (IsNamed t) (ok_same (with_entry r c (dispatching_entry b)) u is) (record {
+    → IsNamed t r → ◌≡◌ {A = Result Table ReadtableError} (Ok (with_character_entry r c (dispatching_entry b))) (Ok u) → IsNamed t u
+named_dispatching t c b r u below at_home named is = subst (IsNamed t) (ok_same (with_character_entry r c (dispatching_entry b)) u is) (record {
   readtable = readtable_sound.kept r c (dispatching_entry b) below named.readtable (readtable_sound.dispatching_sound b);
   functions = named_after (is_symbol t keyword) r c (dispatching_entry b) named.functions (and_from (is_symbol t keyword dispatch_name) true (symbol_from t keyword dispatch_name at_home) refl);
 })
 
 pub named_dispatched : (t : packages.Table) (c sub : ℕ) (f : Name) (r u : Table) → c < 128 → sub < 128 → IsFalse (is_dispatch_name f) → IsTrue (is_function_name f) → IsSymbol t (keyword, f)
-    → IsNamed t r → dispatched r c sub f ≡ Ok u → IsNamed t u
+    → IsNamed t r → with_sub_function r c sub f ≡ Ok u → IsNamed t u
 named_dispatched t c sub f r u below low other fits at_home named is =
     elim (is_dispatching (entry_at r c)) as (λ b. is_dispatching (entry_at r c) ≡ b → made (if not b then Some NoDispatch else (if is_digit sub then Some Digit else None)) ≡ Ok u → IsNamed t u) [
       | false ↦ λ _ e. absurd (err_ok e)
       | true ↦ λ d e.
           elim (is_digit sub) as (λ b. is_digit sub ≡ b → made (if b then Some Digit else None) ≡ Ok u → IsNamed t u) [
             | true ↦ λ _ g. absurd (err_ok g)
-            | false ↦ λ digit g. subst (IsNamed t) (ok_same (with_entry r c (with_function (entry_at r c) sub f)) u g) (record {
+            | false ↦ λ digit g. subst (IsNamed t) (ok_same (with_character_entry r c (with_function (entry_at r c) sub f)) u g) (record {
               readtable = readtable_sound.kept r c (with_function (entry_at r c) sub f) below named.readtable
                   (readtable_sound.function_sound (entry_at r c) sub f (named.readtable.each c) (readtable_sound.place_of (entry_at r c) sub (named.readtable.each c) d low) digit other fits);
               functions = named_after (is_symbol t keyword) r c (with_function (entry_at r c) sub f) named.functions
@@ -120,16 +120,16 @@ named_dispatched t c sub f r u below low other fits at_home named is =
     ] refl is
   where
     made : Option DispatchRefusal → Result Table ReadtableError
-    made o = option_map_or (λ x. Err (refused_as x)) o (Ok (with_entry r c (with_function (entry_at r c) sub f)))
+    made o = option_map_or (λ x. Err (refused_as x)) o (Ok (with_character_entry r c (with_function (entry_at r c) sub f)))
 
-pub sound_syntax : (s : WorldState) (n : Name) (c : ℕ) (m : Name) (d : ℕ) → IsSound s → c < 128 → (v : Readtables) → with_syntax s.readtables n c m d ≡ Ok v → IsSound (record s { readtables = v })
+pub sound_syntax : (s : WorldState) (n : Name) (c : ℕ) (m : Name) (d : ℕ) → IsSoundWorldState s → c < 128 → (v : Readtables) → with_syntax s.readtables n c m d ≡ Ok v → IsSoundWorldState (record s { readtables = v })
 sound_syntax s n c m d sound below v is =
-    elim (finite.get s.readtables m) as (λ o. finite.get s.readtables m ≡ o → option_map_or (λ z. changed_readtable s.readtables n (λ t. Ok (with_entry t c (entry_at z d)))) o (Err NoReadtable) ≡ Ok v → IsSound (record s { readtables = v })) [
+    elim (finite.get s.readtables m) as (λ o. finite.get s.readtables m ≡ o → option_map_or (λ z. changed_readtable s.readtables n (λ t. Ok (with_character_entry t c (entry_at z d)))) o (Err NoReadtable) ≡ Ok v → IsSoundWorldState (record s { readtables = v })) [
       | None ↦ λ _ e. absurd (err_ok e)
       | Some z ↦ λ there e.
           let from : IsNamed s.packages z = sound.readtables.each m z there in
-          sound_changed s n (λ t. Ok (with_entry t c (entry_at z d))) sound
-          (λ t u named made. subst (IsNamed s.packages) (ok_same (with_entry t c (entry_at z d)) u made) (record {
+          sound_changed s n (λ t. Ok (with_character_entry t c (entry_at z d))) sound
+          (λ t u named made. subst (IsNamed s.packages) (ok_same (with_character_entry t c (entry_at z d)) u made) (record {
             readtable = readtable_sound.kept t c (entry_at z d) below named.readtable (from.readtable.each d);
             functions = named_after (is_symbol s.packages keyword) t c (entry_at z d) named.functions (named_at (is_symbol s.packages keyword) z d from.functions);
           }))
@@ -147,18 +147,18 @@ one_more m n u free count =
           omega (arith, more, below)
     ] refl free
 
-pub sound_copied : (s : WorldState) (m n : Name) → IsSound s → IsSymbol s.packages (keyword, n) → (v : Readtables) → with_copy s.readtables m n ≡ Ok v → IsSound (record s { readtables = v })
+pub sound_copied : (s : WorldState) (m n : Name) → IsSoundWorldState s → IsSymbol s.packages (keyword, n) → (v : Readtables) → with_copy s.readtables m n ≡ Ok v → IsSoundWorldState (record s { readtables = v })
 sound_copied s m n sound at_home v is =
-    elim (finite.get s.readtables m) as (λ o. finite.get s.readtables m ≡ o → copied o ≡ Ok v → IsSound (record s { readtables = v })) [
+    elim (finite.get s.readtables m) as (λ o. finite.get s.readtables m ≡ o → copied o ≡ Ok v → IsSoundWorldState (record s { readtables = v })) [
       | None ↦ λ _ e. absurd (err_ok e)
       | Some t ↦ λ there e.
-          elim (bytes_eq n standard_name) as (λ b. bytes_eq n standard_name ≡ b → (if b then Err StandardReadtable else (if full then Err Limit else Ok (finite.insert s.readtables n t))) ≡ Ok v → IsSound (record s { readtables = v })) [
+          elim (bytes_eq n standard_name) as (λ b. bytes_eq n standard_name ≡ b → (if b then Err StandardReadtable else (if full then Err Limit else Ok (finite.insert s.readtables n t))) ≡ Ok v → IsSoundWorldState (record s { readtables = v })) [
             | true ↦ λ _ f. absurd (err_ok f)
             | false ↦ λ other f.
-                elim full as (λ b. full ≡ b → (if b then Err Limit else Ok (finite.insert s.readtables n t)) ≡ Ok v → IsSound (record s { readtables = v })) [
+                elim full as (λ b. full ≡ b → (if b then Err Limit else Ok (finite.insert s.readtables n t)) ≡ Ok v → IsSoundWorldState (record s { readtables = v })) [
                   | true ↦ λ _ g. absurd (err_ok g)
                   | false ↦ λ free g.
-                      subst (λ w. IsSound (record s { readtables = w })) (ok_same (finite.insert s.readtables n t) v g)
+                      subst (λ w. IsSoundWorldState (record s { readtables = w })) (ok_same (finite.insert s.readtables n t) v g)
                       (sound_table s n t sound (apart_from n other) at_home (one_more s.readtables n t free sound.readtables.count) (sound.readtables.each m t there))
                 ] refl f
           ] refl e
@@ -171,6 +171,6 @@ sound_copied s m n sound at_home v is =
     copied o = option_map_or (λ t. if bytes_eq n standard_name then Err StandardReadtable else (if full then Err Limit else Ok (finite.insert s.readtables n t))) o (Err NoReadtable)
 
 -- STD-DISPATCH is a keyword of every world
-pub dispatch_there : (s : WorldState) → IsSound s → IsSymbol s.packages (keyword, dispatch_name)
+pub dispatch_there : (s : WorldState) → IsSoundWorldState s → IsSymbol s.packages (keyword, dispatch_name)
 unfolding keyword_names
 dispatch_there s sound = sound.packages.first.keywords dispatch_name refl

@@ -11,11 +11,11 @@ use Rattle.plist_state.specs.declared.note.Note.{Note}
 use Rattle.plist_state.specs.declared.world.World.TheInside.{Inside}
 use Rattle.package_table.specs.Numbers.{numbered}
 use Rattle.plist_state.specs.State.{Readtables, Worlds}
-use Rattle.plist_state.specs.Shown.{NumberedRest, readtables_of, rest_of}
-use Rattle.plist_state.specs.Changes.{Gives}
+use Rattle.plist_state.specs.Views.{NumberedRest, readtables_of, rest_of}
+use Rattle.plist_state.specs.Changes.{AnswersReadtables}
 use Rattle.plist_state.specs.Journal.{Continues, marks_of}
-use Rattle.plist_state.specs.Marked.{HasKeptWorld, state_in, marked_states, earlier_states, worlds_of}
-use Rattle.plist_state.specs.Sound.{IsSound}
+use Rattle.plist_state.specs.MarkedWorlds.{HasKeptWorld, state_in, marked_states, earlier_states, worlds_of}
+use Rattle.plist_state.specs.Sound.{IsSoundWorldState}
 use Rattle.plist_state.proofs.KeptWorld.{kept_gives}
 use Rattle.plist_state.proofs.ListRows.{wider_same}
 use Rattle.plist_state.proofs.Marking.{kept_continued, refused_same}
@@ -28,8 +28,8 @@ with_tables a tables marks = record a { stored = record a.stored { readtables = 
 module _ (a : Inside) (tables : BTreeMap (Vec ℕ) Table) (marks : Vec (Vec Note)) (r : Result (Unit {0}) ReadtableError)
     (unchanged : IfErr r (λ _. readtables_of tables ≡ readtables_of a.stored.readtables))
     (noted : (q : NumberedRest) → Continues (marks_of a.marks.items) (record q { readtables = readtables_of a.stored.readtables }) (marks_of marks.items) (record q { readtables = readtables_of tables })) where
-  pub left_kept : (said : Result Readtables ReadtableError) → Gives (λ _. readtables_of tables) r said → HasKeptWorld a
-      → ((v : Readtables) → said ≡ Ok v → IsSound (record (state_in (numbered a.packages) (rest_of a.stored)) { readtables = v })) → HasKeptWorld (with_tables a tables marks)
+  pub left_kept : (said : Result Readtables ReadtableError) → AnswersReadtables (λ _. readtables_of tables) r said → HasKeptWorld a
+      → ((v : Readtables) → said ≡ Ok v → IsSoundWorldState (record (state_in (numbered a.packages) (rest_of a.stored)) { readtables = v })) → HasKeptWorld (with_tables a tables marks)
   left_kept said gives kept sound =
       let rows = a.stored.properties.items in
       record {

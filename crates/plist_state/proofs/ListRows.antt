@@ -27,9 +27,9 @@ use Rattle.std.proofs.lemmas.Bool.{false≢true}
 use Rattle.property_rows.specs.declared.property.NumberedProperty.{NumberedProperty}
 use Rattle.plist_state.specs.declared.note.PropertyChange.{PropertyChange}
 use Rattle.property_rows.specs.Rows.{PropertyRow, room}
-use Rattle.plist_state.specs.Lists.{NumberedPlist, NumberedLists, row_of, with_row}
-use Rattle.plist_state.specs.Shown.{numbered_property, items_in, plist_of, Rows, lists_from, lists_in, row_at, room_at}
-use Rattle.plist_state.specs.Kept.{IsProperRow, IsProperRows, IsWider}
+use Rattle.plist_state.specs.Lists.{NumberedPlist, NumberedLists, plist_of_number, with_row}
+use Rattle.plist_state.specs.Views.{numbered_property, items_in, plist_of, Rows, lists_from, lists_in, row_at, room_at}
+use Rattle.plist_state.specs.KeptRows.{IsProperRow, IsProperRows, IsWider}
 use Rattle.plist_state.specs.Undoing.{list_before}
 use Rattle.plist_state.proofs.Lists.{kept, unwrap_kept}
 
@@ -44,7 +44,7 @@ get-with_row m x [] q = get-remove nat_cmp_total m x q
 get-with_row m x (p ∷ ps) q = get-insert nat_cmp_total m x (p ∷ ps) q
 
 -- the list that was put is there
-pub row-with_row : (m : NumberedLists) (x : ℕ) (ps : NumberedPlist) → row_of (with_row m x ps) x ≡ ps
+pub row-with_row : (m : NumberedLists) (x : ℕ) (ps : NumberedPlist) → plist_of_number (with_row m x ps) x ≡ ps
 row-with_row m x ps =
     ap (λ o. unwrap_or o []) (get-with_row m x ps x ∙ ap (λ b. cond b (kept ps) (finite.get m x)) (number_tied x)) ∙ unwrap_kept ps
 
@@ -57,14 +57,14 @@ with_row_twice m x ps qs = same_map nat_cmp_total nat_cmp-IsAntisymmetric _ _ (�
 
 -- a map in which no list is empty
 abbrev pub AreSome : NumberedLists → Type 0
-AreSome m = (q : ℕ) → finite.get m q ≡ kept (row_of m q)
+AreSome m = (q : ℕ) → finite.get m q ≡ kept (plist_of_number m q)
 
 -- the list that is there, put again
-pub with_row_same : (m : NumberedLists) (x : ℕ) (ps : NumberedPlist) → AreSome m → ps ≡ row_of m x → with_row m x ps ≡ m
+pub with_row_same : (m : NumberedLists) (x : ℕ) (ps : NumberedPlist) → AreSome m → ps ≡ plist_of_number m x → with_row m x ps ≡ m
 with_row_same m x ps some is = same_map nat_cmp_total nat_cmp-IsAntisymmetric _ _ (λ q.
     get-with_row m x ps q
     ∙ elim (eq_by_cmp nat_cmp q x) as (λ b. eq_by_cmp nat_cmp q x ≡ b → cond b (kept ps) (finite.get m q) ≡ finite.get m q) [
-      | true ↦ λ t. ap kept (is ∙ ap (row_of m) (sym (one_number q x t))) ∙ sym (some q)
+      | true ↦ λ t. ap kept (is ∙ ap (plist_of_number m) (sym (one_number q x t))) ∙ sym (some q)
       | false ↦ λ t. refl
     ] refl)
 
@@ -96,7 +96,7 @@ from_place n (row ∷ rows) (suc i) q is =
 pub get-lists_in : (rows : Rows) (q : ℕ) → finite.get (lists_in rows) q ≡ option_and_then (λ row. kept (plist_of row)) (row_at rows q)
 get-lists_in rows q = got_from 0 rows q ∙ ap (option_and_then (λ row. kept (plist_of row))) (from_place 0 rows q q (omega arith))
 
-pub row-lists_in : (rows : Rows) (q : ℕ) → row_of (lists_in rows) q ≡ option_map_or plist_of (row_at rows q) []
+pub row-lists_in : (rows : Rows) (q : ℕ) → plist_of_number (lists_in rows) q ≡ option_map_or plist_of (row_at rows q) []
 row-lists_in rows q =
     ap (λ o. unwrap_or o []) (get-lists_in rows q)
     ∙ elim (row_at rows q) as (λ o. unwrap_or (option_and_then (λ row. kept (plist_of row)) o) [] ≡ option_map_or plist_of o []) [
@@ -209,10 +209,10 @@ wider_both a b c x y = record {
 
 -- ---- what is shown of one row
 -- the row that is found is the one that is shown
-pub row_shown : (rows : Rows) (x : ℕ) (row : PropertyRow) → Some row ≡ row_at rows x → row_of (lists_in rows) x ≡ plist_of row
+pub row_shown : (rows : Rows) (x : ℕ) (row : PropertyRow) → Some row ≡ row_at rows x → plist_of_number (lists_in rows) x ≡ plist_of row
 row_shown rows x row is = row-lists_in rows x ∙ ap (λ o. option_map_or plist_of o []) (sym is)
 
-pub none_shown : (rows : Rows) (x : ℕ) → None ≡ row_at rows x → row_of (lists_in rows) x ≡ []
+pub none_shown : (rows : Rows) (x : ℕ) → None ≡ row_at rows x → plist_of_number (lists_in rows) x ≡ []
 none_shown rows x is = row-lists_in rows x ∙ ap (λ o. option_map_or plist_of o []) (sym is)
 
 pub room_shown : (rows : Rows) (x : ℕ) (row : PropertyRow) → Some row ≡ row_at rows x → room_at rows x ≡ room row
@@ -222,14 +222,14 @@ pub proper_shown : (rows : Rows) (x : ℕ) (row : PropertyRow) → Some row ≡ 
 proper_shown rows x row is all = subst (λ o. IfSome o IsProperRow) (sym is) (all x)
 
 -- the same of what `get_mut` gives
-pub lent_shown : (rows : Rows) (x : ℕ) (row : MutBor PropertyRow) → IsItemAtMut rows x (Some row) → row_of (lists_in rows) x ≡ plist_of row.now
+pub lent_shown : (rows : Rows) (x : ℕ) (row : MutBor PropertyRow) → IsItemAtMut rows x (Some row) → plist_of_number (lists_in rows) x ≡ plist_of row.now
 lent_shown rows x row there = row_shown rows x row.now (lent_mut rows x (Some row) there)
 
-pub none_lent : (rows : Rows) (x : ℕ) → IsItemAtMut rows x None → row_of (lists_in rows) x ≡ []
+pub none_lent : (rows : Rows) (x : ℕ) → IsItemAtMut rows x None → plist_of_number (lists_in rows) x ≡ []
 none_lent rows x there = none_shown rows x (lent_mut rows x None there)
 
 -- the same of a row that may be absent
-pub list_found : (rows : Rows) (x : ℕ) (row : Option (Bor PropertyRow)) → option_copied row ≡ row_at rows x → map numbered_property (items_in row) ≡ row_of (lists_in rows) x
+pub list_found : (rows : Rows) (x : ℕ) (row : Option (Bor PropertyRow)) → option_copied row ≡ row_at rows x → map numbered_property (items_in row) ≡ plist_of_number (lists_in rows) x
 list_found rows x None is = sym (none_shown rows x is)
 list_found rows x (Some row) is = sym (row_shown rows x row.now is)
 
@@ -238,8 +238,8 @@ proper_found rows x None is all = All-nil (λ (p : NumberedProperty). is_proper 
 proper_found rows x (Some row) is all = proper_shown rows x row.now is all
 
 -- whether the symbol of a number has properties, by how many there are
-pub has_counted : (rows : Rows) (x n : ℕ) → n ≡ length (row_of (lists_in rows) x) → nat_lt 0 n ≡ finite.contains_key (lists_in rows) x
-has_counted rows x n is = ap (nat_lt 0) is ∙ some_kept (row_of (lists_in rows) x) ∙ sym (ap is_some (some_in rows x))
+pub has_counted : (rows : Rows) (x n : ℕ) → n ≡ length (plist_of_number (lists_in rows) x) → nat_lt 0 n ≡ finite.contains_key (lists_in rows) x
+has_counted rows x n is = ap (nat_lt 0) is ∙ some_kept (plist_of_number (lists_in rows) x) ∙ sym (ap is_some (some_in rows x))
   where
     some_kept : (ps : NumberedPlist) → nat_lt 0 (length ps) ≡ is_some (kept ps)
     some_kept [] = refl
@@ -265,14 +265,14 @@ module _ (rows : Rows) (x : ℕ) (old : MutBor PropertyRow) (row : PropertyRow)
       }
 
   -- what was made of the list
-  pub lists_made : (f : NumberedPlist → NumberedPlist) → plist_of row ≡ f (plist_of old.now) → lists_in (set rows x row) ≡ with_row (lists_in rows) x (f (row_of (lists_in rows) x))
+  pub lists_made : (f : NumberedPlist → NumberedPlist) → plist_of row ≡ f (plist_of old.now) → lists_in (set rows x row) ≡ with_row (lists_in rows) x (f (plist_of_number (lists_in rows) x))
   lists_made f made = written.lists ∙ ap (with_row (lists_in rows) x) (made ∙ ap f (sym (lent_shown rows x old there)))
 
-  pub list_now : row_of (lists_in (set rows x row)) x ≡ plist_of row
-  list_now = ap (λ m. row_of m x) written.lists ∙ row-with_row (lists_in rows) x (plist_of row)
+  pub list_now : plist_of_number (lists_in (set rows x row)) x ≡ plist_of row
+  list_now = ap (λ m. plist_of_number m x) written.lists ∙ row-with_row (lists_in rows) x (plist_of row)
 
 -- the list in the row is as it was
-pub written_same : (rows later : Rows) (x : ℕ) (ps : NumberedPlist) → IsWritten rows later x ps → ps ≡ row_of (lists_in rows) x → lists_in later ≡ lists_in rows
+pub written_same : (rows later : Rows) (x : ℕ) (ps : NumberedPlist) → IsWritten rows later x ps → ps ≡ plist_of_number (lists_in rows) x → lists_in later ≡ lists_in rows
 written_same rows later x ps w is = w.lists ∙ with_row_same (lists_in rows) x ps (some_in rows) is
 
 -- a row without properties, of which a row that had no memory was made, or that was added
@@ -301,8 +301,8 @@ no_room rows x is = ap (λ o. option_map_or room o 0) (sym is)
 
 -- a change of the list of a number that was put, taken back
 pub property_back : (rows later : Rows) (x : ℕ) (ps : NumberedPlist) (change : PropertyChange)
-    → lists_in later ≡ with_row (lists_in rows) x ps → list_before change (row_of (lists_in later) x) ≡ row_of (lists_in rows) x
-    → with_row (lists_in later) x (list_before change (row_of (lists_in later) x)) ≡ lists_in rows
+    → lists_in later ≡ with_row (lists_in rows) x ps → list_before change (plist_of_number (lists_in later) x) ≡ plist_of_number (lists_in rows) x
+    → with_row (lists_in later) x (list_before change (plist_of_number (lists_in later) x)) ≡ lists_in rows
 property_back rows later x ps change put back =
-    (λ i. with_row (put i) x (back i)) ∙ with_row_twice (lists_in rows) x ps (row_of (lists_in rows) x)
-    ∙ with_row_same (lists_in rows) x (row_of (lists_in rows) x) (some_in rows) refl
+    (λ i. with_row (put i) x (back i)) ∙ with_row_twice (lists_in rows) x ps (plist_of_number (lists_in rows) x)
+    ∙ with_row_same (lists_in rows) x (plist_of_number (lists_in rows) x) (some_in rows) refl

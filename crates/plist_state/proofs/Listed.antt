@@ -21,7 +21,7 @@ use Rattle.package_table.specs.Numbering.{IsNumbered, KeepsNumbers}
 use Rattle.package_table.specs.Growth.{Grows}
 use Rattle.package_table.proofs.Numbered.{number_there, number_apart, number_kept}
 use Rattle.plist_state.specs.Properties.{Symbol, Plist, symbol_cmp, list_at, with_list}
-use Rattle.plist_state.specs.Lists.{NumberedPlist, NumberedLists, row_of, with_row, symbols, numbered_symbol, IsNumber, named_plist, property_list_of, lists, IsOwned}
+use Rattle.plist_state.specs.Lists.{NumberedPlist, NumberedLists, plist_of_number, with_row, symbols, numbered_symbol, IsNumber, named_plist, property_list_of, lists, IsOwned}
 use Rattle.plist_state.proofs.Orders.{symbol_total, symbol_exact, one_symbol, symbol_tied}
 use Rattle.plist_state.proofs.Lists.{kept, unwrap_kept, get-with_list}
 use Rattle.plist_state.proofs.AllSymbols.{listed, symbol_among, found_listed, keys_listed, symbols_rise, listed_rise}
@@ -47,7 +47,7 @@ lists_keys s m =
     ap (map (λ (e : Symbol × Plist). e.0)) (entries_in_order (λ (x : Symbol). x) symbol_cmp symbol_total symbol_exact es (listed_rise (property_list_of s m) (symbols s.0) (symbols_rise s.0)))
     ∙ keys_listed (property_list_of s m) (symbols s.0)
 
-pub lists_at : (s : Numbered) (m : NumberedLists) (x : Symbol) (i : ℕ) → number_of s x.0 x.1 ≡ Some i → list_at (lists s m) x ≡ named_plist s (row_of m i)
+pub lists_at : (s : Numbered) (m : NumberedLists) (x : Symbol) (i : ℕ) → number_of s x.0 x.1 ≡ Some i → list_at (lists s m) x ≡ named_plist s (plist_of_number m i)
 lists_at s m x i is =
     ap (λ o. unwrap_or o []) (lists_get s m x ∙ ap (λ o. option_map (named_plist s) (option_and_then (finite.get m) o)) is)
     ∙ elim (finite.get m i) as (λ o. unwrap_or (option_map (named_plist s) o) [] ≡ named_plist s (unwrap_or o [])) [ None ↦ refl | Some ps ↦ refl ]
@@ -132,7 +132,7 @@ module _ (s u : Numbered) (count : ℕ) (numbered : IsNumbered u count) (grows :
   owned_grown = record {
     owners = λ i has. number_stays s u count numbered grows keeps i (owned.owners i has);
     indicators = λ i.
-        All-weaker (λ (p : ℕ × Object). IsNumber s p.0) (λ p. IsNumber u p.0) (λ p is. number_stays s u count numbered grows keeps p.0 is) (row_of m i) (owned.indicators i);
+        All-weaker (λ (p : ℕ × Object). IsNumber s p.0) (λ p. IsNumber u p.0) (λ p is. number_stays s u count numbered grows keeps p.0 is) (plist_of_number m i) (owned.indicators i);
   }
 
 pub lists_empty : (s : Numbered) → lists s finite.empty ≡ finite.empty

@@ -12,7 +12,7 @@ use Rattle.std.specs.FinMap.{get-insert, get-remove, same_map}
 use Rattle.std.proofs.lemmas.Bool.{false≢true}
 use Rattle.lisp_object.specs.Object.{Object}
 use Rattle.plist_state.specs.Properties as properties
-use Rattle.plist_state.specs.Properties.{Plist, Properties, symbol_cmp, value_by, with_value_by, without_value_by, list_at, with_list}
+use Rattle.plist_state.specs.Properties.{Plist, Properties, symbol_cmp, value_beside, with_value_by, without_value_by, list_at, with_list}
 use Rattle.plist_state.proofs.Orders.{symbol_total, symbol_exact, one_symbol, symbol_tied}
 
 -- ---- values beside keys
@@ -34,10 +34,10 @@ module _ {K : Type 0} (same : K → K → Bool) (P : K × Object → Type 0) whe
       ]
 
 -- a key that is not there, taken out
-pub without-absent : {K : Type 0} (same : K → K → Bool) (ps : List (K × Object)) (i : K) → value_by same ps i ≡ None → without_value_by same ps i ≡ ps
+pub without-absent : {K : Type 0} (same : K → K → Bool) (ps : List (K × Object)) (i : K) → value_beside same ps i ≡ None → without_value_by same ps i ≡ ps
 without-absent same [] i absent = refl
 without-absent same (p ∷ ps) i absent =
-    elim (same i p.0) as (λ b. cond b (Some p.1) (value_by same ps i) ≡ None → cond b ps (p ∷ without_value_by same ps i) ≡ p ∷ ps) [
+    elim (same i p.0) as (λ b. cond b (Some p.1) (value_beside same ps i) ≡ None → cond b ps (p ∷ without_value_by same ps i) ≡ p ∷ ps) [
       | true ↦ λ e. absurd (cc)
       | false ↦ λ e. ap (λ qs. p ∷ qs) (without-absent same ps i e)
     ] absent

@@ -15,12 +15,12 @@ use Rattle.package_table.specs.Numbers.{Numbered, Tables, numbered}
 use Rattle.plist_state.specs.declared.note.Note.{Note}
 use Rattle.plist_state.specs.State.{Readtables, WorldState, Worlds}
 use Rattle.plist_state.specs.Lists.{IsOwned}
-use Rattle.plist_state.specs.Shown.{NumberedRest, Rows}
-use Rattle.plist_state.specs.Kept.{IsWider}
+use Rattle.plist_state.specs.Views.{NumberedRest, Rows}
+use Rattle.plist_state.specs.KeptRows.{IsWider}
 use Rattle.plist_state.specs.Undoing.{rests_at}
 use Rattle.plist_state.specs.Journal.{marks_of, FitsRows, IsJournal, Continues}
-use Rattle.plist_state.specs.Marked.{state_in, marked_states, AreOwned, AreKept}
-use Rattle.plist_state.specs.Sound.{IsSound}
+use Rattle.plist_state.specs.MarkedWorlds.{state_in, marked_states, AreOwned, AreKept}
+use Rattle.plist_state.specs.Sound.{IsSoundWorldState}
 use Rattle.package_table.proofs.Names.{same_some}
 use Rattle.plist_state.proofs.Restored.{ends_with}
 use Rattle.plist_state.proofs.Notes.{notes_of, rests_push, length-rests, journal_put, journal_wider}
@@ -100,7 +100,7 @@ kept_none ts ms r rows no_table no_mark = subst (λ us. AreKept us ms r rows) (s
   as_many = refl;
   journal = tt;
   owned = tt;
-  sound = All-nil IsSound;
+  sound = All-nil IsSoundWorldState;
 }))
 
 module _ (ts : List Numbered) (ms : List (List Note)) (r : NumberedRest) (rows : Rows) (kept : AreKept ts ms r rows) where
@@ -117,19 +117,19 @@ module _ (ts : List Numbered) (ms : List (List Note)) (r : NumberedRest) (rows :
     as_many = rests_many ∙ ap length (sym continues.same) ∙ length-rests ns u;
     journal = journal_wider ns u rows later wider (continues.journal rows fits kept.journal);
     owned = subst (AreOwned ts) (sym continues.same) kept.owned;
-    sound = subst (λ rs. All IsSound (marked_states ts rs)) (sym continues.same) kept.sound;
+    sound = subst (λ rs. All IsSoundWorldState (marked_states ts rs)) (sym continues.same) kept.sound;
   }
 
   -- one mark more
   pub states_push : (t : Numbered) → marked_states (ts ++ t ∷ []) (rests_at (ms ++ [] ∷ []) r) ≡ marked_states ts (rests_at ms r) ++ state_in t r ∷ []
   states_push t = ap (marked_states (ts ++ t ∷ [])) (rests_push ms [] r) ∙ marked_push ts (rests_at ms r) t r rests_many
 
-  pub kept_push : (t : Numbered) → IsOwned t r.properties → IsSound (state_in t r) → AreKept (ts ++ t ∷ []) (ms ++ [] ∷ []) r rows
+  pub kept_push : (t : Numbered) → IsOwned t r.properties → IsSoundWorldState (state_in t r) → AreKept (ts ++ t ∷ []) (ms ++ [] ∷ []) r rows
   kept_push t owned sound = record {
     as_many = as_many_push ts ms t [] kept.as_many;
     journal = journal_put ms [] r rows tt kept.journal;
     owned = subst (AreOwned (ts ++ t ∷ [])) (sym (rests_push ms [] r)) (owned_push ts (rests_at ms r) t r rests_many kept.owned owned);
-    sound = subst (All IsSound) (sym (states_push t)) (All-push IsSound (marked_states ts (rests_at ms r)) (state_in t r) kept.sound sound);
+    sound = subst (All IsSoundWorldState) (sym (states_push t)) (All-push IsSoundWorldState (marked_states ts (rests_at ms r)) (state_in t r) kept.sound sound);
   }
 
   -- the first marks
@@ -142,7 +142,7 @@ module _ (ts : List Numbered) (ms : List (List Note)) (r : NumberedRest) (rows :
       as_many = as_many_take n ts (rests_at ms r) rests_many ∙ ap length (sym past) ∙ length-rests ns u;
       journal = journal;
       owned = subst (AreOwned (take n ts)) (sym past) (owned_take n ts (rests_at ms r) kept.owned);
-      sound = subst (All IsSound) (sym states_take) (All-take IsSound n (marked_states ts (rests_at ms r)) kept.sound);
+      sound = subst (All IsSoundWorldState) (sym states_take) (All-take IsSoundWorldState n (marked_states ts (rests_at ms r)) kept.sound);
     }
 
   -- one of the marks
@@ -150,11 +150,11 @@ module _ (ts : List Numbered) (ms : List (List Note)) (r : NumberedRest) (rows :
     pub state_at : slice_get (marked_states ts (rests_at ms r)) n ≡ Some (state_in t u)
     state_at = marked_get n ts (rests_at ms r) t u table rest
 
-    pub sound_at : IsSound (state_in t u)
+    pub sound_at : IsSoundWorldState (state_in t u)
     sound_at =
         let all : List WorldState = marked_states ts (rests_at ms r) in
         let s : WorldState = state_in t u in
-        subst IsSound (get_or_from_slice_get all n s s state_at) (kept.sound n s (slice_get_within all n s state_at))
+        subst IsSoundWorldState (get_or_from_slice_get all n s s state_at) (kept.sound n s (slice_get_within all n s state_at))
 
     pub owned_at : IsOwned t u.properties
     owned_at = owned_get n ts (rests_at ms r) t u table rest kept.owned

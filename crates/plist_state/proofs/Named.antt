@@ -17,7 +17,7 @@ use Rattle.package_table.specs.Numbering.{IsNumbered, KeepsNumbers}
 use Rattle.package_table.specs.Growth.{Grows}
 use Rattle.package_table.proofs.Names.{same_some}
 use Rattle.package_table.proofs.Numbered.{number_there, number_apart, number_kept}
-use Rattle.plist_state.specs.Properties.{Symbol, symbol_cmp, same_symbol, value_by, with_value_by, without_value_by, value_at, with_value, without_value}
+use Rattle.plist_state.specs.Properties.{Symbol, symbol_cmp, same_symbol, value_beside, with_value_by, without_value_by, value_at, with_value, without_value}
 use Rattle.plist_state.specs.Lists.{NumberedPlist, same_number, symbols, has_number, numbered_symbol, IsNumber, named_plist}
 use Rattle.plist_state.proofs.Orders.{one_symbol, symbol_tied}
 use Rattle.plist_state.proofs.Lists.{kept}
@@ -34,7 +34,7 @@ module _ {K L : Type 0} (same : K → K → Bool) (other : L → L → Bool) (f 
     Agrees [] = Unit {0}
     Agrees (p ∷ ps) = (other (f i) (f p.0) ≡ same i p.0) × Agrees ps
 
-    value_mapped : (ps : List (K × Object)) → Agrees ps → value_by other (with_keys ps) (f i) ≡ value_by same ps i
+    value_mapped : (ps : List (K × Object)) → Agrees ps → value_beside other (with_keys ps) (f i) ≡ value_beside same ps i
     value_mapped [] agrees = refl
     value_mapped (p ∷ ps) agrees = λ k. cond (agrees.0 k) (Some p.1) (value_mapped ps agrees.1 k)
 
@@ -143,7 +143,7 @@ module _ (s : Numbered) where
 
     -- ---- a change
     module _ (x : Symbol) (i : ℕ) (is : number_of s x.0 x.1 ≡ Some i) (ps : NumberedPlist) (all : All (λ p. IsNumber s p.0) ps) where
-      pub value_named : value_at (named_plist s ps) x ≡ value_by same_number ps i
+      pub value_named : value_at (named_plist s ps) x ≡ value_beside same_number ps i
       value_named =
           ap (value_at (named_plist s ps)) (sym (symbol_numbered x i is))
           ∙ value_mapped same_number same_symbol (numbered_symbol s) i ps (are_told_apart i (number_is x i is) ps all)

@@ -10,7 +10,7 @@ use Rattle.std.specs.BTreeMap.{insert_entry, is_at}
 use Rattle.std.proofs.lemmas.List.{length-map, map-append}
 use Rattle.lisp_object.specs.declared.datum.Datum.{Datum}
 use Rattle.property_rows.specs.declared.property.NumberedProperty.{NumberedProperty}
-use Rattle.plist_state.specs.Indexed.{Index, Indexes, order_of, orders, nth, order_in, index_at, HasRisingOrders, IsIndexed, IsIndexedIn}
+use Rattle.plist_state.specs.RowIndexes.{Index, Indexes, order_of, orders, nth, order_in, index_at, HasRisingOrders, IsIndexed, IsIndexedIn}
 use Rattle.plist_state.proofs.Indices.{has}
 use Rattle.plist_state.proofs.ListRows.{number_tied}
 use Rattle.plist_state.proofs.Placing.{inserted, written_at, not_same, index_put, same_some}

@@ -18,9 +18,9 @@ use Rattle.plist_state.specs.declared.note.Note.{Note}
 use Rattle.plist_state.specs.declared.note.Note.TheVariants.{Property as OfList}
 use Rattle.plist_state.specs.declared.note.PropertyChange.{PropertyChange}
 use Rattle.property_rows.specs.Rows.{PropertyRow, room}
-use Rattle.plist_state.specs.Lists.{NumberedPlist, NumberedLists, row_of, with_row}
-use Rattle.plist_state.specs.Shown.{Rows, lists_in, plist_of, numbered_property, row_at, room_at, NumberedRest}
-use Rattle.plist_state.specs.Kept.{IsProperChange, IsWider}
+use Rattle.plist_state.specs.Lists.{NumberedPlist, NumberedLists, plist_of_number, with_row}
+use Rattle.plist_state.specs.Views.{Rows, lists_in, plist_of, numbered_property, row_at, room_at, NumberedRest}
+use Rattle.plist_state.specs.KeptRows.{IsProperChange, IsWider}
 use Rattle.plist_state.specs.Undoing.{list_before, undone, all_undone, undone_since, rests_at}
 use Rattle.plist_state.specs.Journal.{marks_of, has_room, IsNoted, FitsRows, LeadsBack, IsJournal, Continues}
 use Rattle.plist_state.proofs.ListRows.{row-lists_in, property_back}
@@ -45,7 +45,7 @@ length-rests (m ∷ ms) r = ap (λ k. suc k) (length-rests ms r)
 -- ---- what holds of the way back
 fits_wider : (r : NumberedRest) (rows later : Rows) → IsWider rows later → FitsRows rows r → FitsRows later r
 fits_wider r rows later wider fits x =
-    let held : length (row_of r.properties x) ≤ room_at rows x = fits x in
+    let held : length (plist_of_number r.properties x) ≤ room_at rows x = fits x in
     let more : room_at rows x ≤ room_at later x = wider.rooms x in
     omega (arith, held, more)
 
@@ -86,7 +86,7 @@ row_fits row = omega (arith, length-map row.items numbered_property)
 
 pub fits_now : (rows : Rows) (r : NumberedRest) → r.properties ≡ lists_in rows → FitsRows rows r
 fits_now rows r is x =
-    subst (λ ps. length ps ≤ room_at rows x) (sym (ap (λ (m : NumberedLists). row_of m x) is ∙ row-lists_in rows x))
+    subst (λ ps. length ps ≤ room_at rows x) (sym (ap (λ (m : NumberedLists). plist_of_number m x) is ∙ row-lists_in rows x))
     (elim (row_at rows x) as (λ o. length (option_map_or plist_of o []) ≤ option_map_or room o 0) [
       | None ↦ omega arith
       | Some row ↦ row_fits row
@@ -120,7 +120,7 @@ continues_noted ms ks ns note t u same pushed proper undoes = subst (λ k. Conti
 pub property_noted : (ms ks ns : List (List Note)) → ks ≡ ms → (x : ℕ) (change : PropertyChange)
     → ((t u : NumberedRest) → IsNoted (OfList x change) → undone (OfList x change) u ≡ t → Continues ks t ns u) → IsProperChange change
     → (t : NumberedRest) (rows later : Rows) (ps : NumberedPlist)
-    → lists_in later ≡ with_row (lists_in rows) x ps → list_before change (row_of (lists_in later) x) ≡ row_of (lists_in rows) x
+    → lists_in later ≡ with_row (lists_in rows) x ps → list_before change (plist_of_number (lists_in later) x) ≡ plist_of_number (lists_in rows) x
     → Continues ms (record t { properties = lists_in rows }) ns (record t { properties = lists_in later })
 property_noted ms ks ns same x change pushed proper t rows later ps put back =
     continues_noted ms ks ns (OfList x change) (record t { properties = lists_in rows }) (record t { properties = lists_in later }) same pushed proper

@@ -13,8 +13,8 @@ use Rattle.std.specs.FinMap.{find}
 use Rattle.std.proofs.lemmas.Cmp.{nat_cmp_total}
 use Rattle.lisp_object.proofs.Tree as tree
 use Rattle.property_rows.specs.Rows.{PropertyRow}
-use Rattle.plist_state.specs.Shown.{Rows, row_at}
-use Rattle.plist_state.specs.Indexed.{Index, Indexes, index_at, orders, IsIndexed, IsIndexedIn, AreIndexed, KeepsOthers}
+use Rattle.plist_state.specs.Views.{Rows, row_at}
+use Rattle.plist_state.specs.RowIndexes.{Index, Indexes, index_at, orders, IsIndexed, IsIndexedIn, AreIndexed, KeepsOthers}
 use Rattle.plist_state.proofs.ListRows.{one_number, IsPut}
 
 module _ {V : Type 0} where

@@ -23,7 +23,7 @@ use Rattle.lisp_object.proofs.Lists.{object_of-joined, is_proper-joined}
 use Rattle.package_table.specs.Table as packages
 use Rattle.package_table.specs.Numbers.{Numbered, number_of}
 use Rattle.package_table.specs.Numbering.{IsNumbered}
-use Rattle.plist_state.specs.Properties.{Symbol, same_symbol, value_by, with_value}
+use Rattle.plist_state.specs.Properties.{Symbol, same_symbol, value_beside, with_value}
 use Rattle.plist_state.specs.State.{WorldState, Worlds}
 use Rattle.plist_state.specs.Changes.{property, with_property}
 use Rattle.plist_state.specs.Lists.{NumberedPlist, same_number, IsNumber, named_plist}
@@ -104,7 +104,7 @@ pub popped_named : (s : Numbered) (count : ℕ) (counted : IsNumbered s count) (
     (ps : NumberedPlist) (all : All (λ p. IsNumber s p.0) ps)
     → named_plist s (with_popped_by same_number ps i) ≡ with_popped_by same_symbol (named_plist s ps) x
 popped_named s count counted x i is ps all =
-    with_named s count counted x i is ps all (popped (value_by same_number ps i))
+    with_named s count counted x i is ps all (popped (value_beside same_number ps i))
     ∙ ap (λ o. with_value (named_plist s ps) x (popped o)) (sym (value_named s count counted x i is ps all))
 
 -- ---- whether there is a first item

@@ -22,8 +22,8 @@ use Rattle.plist_state.specs.declared.note.TableChange.TheVariants.{Over, Letter
 use Rattle.plist_state.specs.declared.note.Note.{Note}
 use Rattle.plist_state.specs.declared.note.Note.TheVariants.{Property, Made, Changed, InPackage, InReadtable, InBase}
 use Rattle.plist_state.specs.State.{Readtables}
-use Rattle.plist_state.specs.Lists.{NumberedLists, row_of, with_row}
-use Rattle.plist_state.specs.Shown.{Rows, room_at, NumberedRest}
+use Rattle.plist_state.specs.Lists.{NumberedLists, plist_of_number, with_row}
+use Rattle.plist_state.specs.Views.{Rows, room_at, NumberedRest}
 use Rattle.plist_state.specs.Undoing.{list_before, table_before, tables_before, undone, all_undone, rests_at, restores}
 use Rattle.plist_state.specs.Journal.{marks_of, FitsRows, LeadsBack, IsJournal, Continues, ContinuesTables}
 use Rattle.plist_state.proofs.Orders.{name_total, name_exact, one_name}
@@ -198,7 +198,7 @@ all_restored n (k ∷ ns) a b d some =
 
 -- ---- the rows that there is memory for
 list_undone : (k : Note) (t u : NumberedRest) → u.properties ≡ t.properties → (undone k u).properties ≡ (undone k t).properties
-list_undone (Property x change) t u same = ap (λ (m : NumberedLists). with_row m x (list_before change (row_of m x))) same
+list_undone (Property x change) t u same = ap (λ (m : NumberedLists). with_row m x (list_before change (plist_of_number m x))) same
 list_undone (Made name) t u same = same
 list_undone (Changed name change) t u same = same
 list_undone (InPackage name) t u same = same
@@ -212,7 +212,7 @@ lists_undone (k ∷ ns) t u same = list_undone k (all_undone ns t) (all_undone n
 leads_same : (ns : List Note) (t u : NumberedRest) (rows : Rows) → u.properties ≡ t.properties → LeadsBack ns t rows → LeadsBack ns u rows
 leads_same [] t u rows same leads = tt
 leads_same (k ∷ ns) t u rows same leads =
-    let fits : FitsRows rows (all_undone (k ∷ ns) u) = λ x. subst (λ (m : NumberedLists). length (row_of m x) ≤ room_at rows x) (sym (lists_undone (k ∷ ns) t u same)) (leads.1 x) in
+    let fits : FitsRows rows (all_undone (k ∷ ns) u) = λ x. subst (λ (m : NumberedLists). length (plist_of_number m x) ≤ room_at rows x) (sym (lists_undone (k ∷ ns) t u same)) (leads.1 x) in
     (leads.0, fits, leads_same ns t u rows same leads.2)
 
 -- ---- no note is wanted

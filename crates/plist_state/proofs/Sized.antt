@@ -16,8 +16,8 @@ use Rattle.lisp_object.specs.Object.{Object, object_size}
 use Rattle.lisp_object.specs.Datum.{object_of, is_proper}
 use Rattle.lisp_object.proofs.Objects.{object_of-List, object_of-dotted}
 use Rattle.lisp_object.proofs.ProperLists.{items_of_proper}
-use Rattle.plist_state.specs.Properties.{value_by, with_value_by, without_value_by}
-use Rattle.plist_state.specs.Lists.{NumberedPlist, NumberedLists, same_number, row_of, with_row, value_in, with_value_in, without_value_in}
+use Rattle.plist_state.specs.Properties.{value_beside, with_value_by, without_value_by}
+use Rattle.plist_state.specs.Lists.{NumberedPlist, NumberedLists, same_number, plist_of_number, with_row, value_in, with_value_in, without_value_in}
 use Rattle.plist_state.specs.Pushed.{pair_size, pushed, with_pushed_in, with_pushed_by}
 use Rattle.plist_state.specs.Sizes.{Sizes, size_key, size_at, AreSizes, AreOtherSizes}
 use Rattle.plist_state.proofs.Lists.{kept}
@@ -76,45 +76,45 @@ apart a b other = grind (arith, nat_tests, other)
 itself : (a : ℕ) → (a == a) ≡ true
 itself a = grind (arith, nat_tests)
 
-elsewhere_with : (ps : NumberedPlist) (y j : ℕ) (v : Object) → j ≢ y → value_by same_number (with_value_by same_number ps y v) j ≡ value_by same_number ps j
+elsewhere_with : (ps : NumberedPlist) (y j : ℕ) (v : Object) → j ≢ y → value_beside same_number (with_value_by same_number ps y v) j ≡ value_beside same_number ps j
 elsewhere_with [] y j v other = ap (λ b. cond b (Some v) None) (apart j y other)
 elsewhere_with (p ∷ ps) y j v other =
-    elim (same_number y p.0) as (λ b. same_number y p.0 ≡ b → value_by same_number (cond b ((p.0, v) ∷ ps) (p ∷ with_value_by same_number ps y v)) j ≡ value_by same_number (p ∷ ps) j) [
+    elim (same_number y p.0) as (λ b. same_number y p.0 ≡ b → value_beside same_number (cond b ((p.0, v) ∷ ps) (p ∷ with_value_by same_number ps y v)) j ≡ value_beside same_number (p ∷ ps) j) [
       | true ↦ λ t.
           let there : same_number j p.0 ≡ false = grind (arith, nat_tests, t, other) in
-          ap (λ b. cond b (Some v) (value_by same_number ps j)) there ∙ ap (λ b. cond b (Some p.1) (value_by same_number ps j)) (sym there)
+          ap (λ b. cond b (Some v) (value_beside same_number ps j)) there ∙ ap (λ b. cond b (Some p.1) (value_beside same_number ps j)) (sym there)
       | false ↦ λ t. ap (cond (same_number j p.0) (Some p.1)) (elsewhere_with ps y j v other)
     ] refl
 
-elsewhere_without : (ps : NumberedPlist) (y j : ℕ) → j ≢ y → value_by same_number (without_value_by same_number ps y) j ≡ value_by same_number ps j
+elsewhere_without : (ps : NumberedPlist) (y j : ℕ) → j ≢ y → value_beside same_number (without_value_by same_number ps y) j ≡ value_beside same_number ps j
 elsewhere_without [] y j other = refl
 elsewhere_without (p ∷ ps) y j other =
-    elim (same_number y p.0) as (λ b. same_number y p.0 ≡ b → value_by same_number (cond b ps (p ∷ without_value_by same_number ps y)) j ≡ value_by same_number (p ∷ ps) j) [
+    elim (same_number y p.0) as (λ b. same_number y p.0 ≡ b → value_beside same_number (cond b ps (p ∷ without_value_by same_number ps y)) j ≡ value_beside same_number (p ∷ ps) j) [
       | true ↦ λ t.
           let there : same_number j p.0 ≡ false = grind (arith, nat_tests, t, other) in
-          ap (λ b. cond b (Some p.1) (value_by same_number ps j)) (sym there)
+          ap (λ b. cond b (Some p.1) (value_beside same_number ps j)) (sym there)
       | false ↦ λ t. ap (cond (same_number j p.0) (Some p.1)) (elsewhere_without ps y j other)
     ] refl
 
-put_there : (ps : NumberedPlist) (y : ℕ) (v : Object) → value_by same_number (with_value_by same_number ps y v) y ≡ Some v
+put_there : (ps : NumberedPlist) (y : ℕ) (v : Object) → value_beside same_number (with_value_by same_number ps y v) y ≡ Some v
 put_there [] y v = ap (λ b. cond b (Some v) None) (itself y)
 put_there (p ∷ ps) y v =
-    elim (same_number y p.0) as (λ b. same_number y p.0 ≡ b → value_by same_number (cond b ((p.0, v) ∷ ps) (p ∷ with_value_by same_number ps y v)) y ≡ Some v) [
-      | true ↦ λ t. ap (λ b. cond b (Some v) (value_by same_number ps y)) t
-      | false ↦ λ t. ap (λ b. cond b (Some p.1) (value_by same_number (with_value_by same_number ps y v) y)) t ∙ put_there ps y v
+    elim (same_number y p.0) as (λ b. same_number y p.0 ≡ b → value_beside same_number (cond b ((p.0, v) ∷ ps) (p ∷ with_value_by same_number ps y v)) y ≡ Some v) [
+      | true ↦ λ t. ap (λ b. cond b (Some v) (value_beside same_number ps y)) t
+      | false ↦ λ t. ap (λ b. cond b (Some p.1) (value_beside same_number (with_value_by same_number ps y v) y)) t ∙ put_there ps y v
     ] refl
 
 -- ---- after a change of one property
 module _ (m : NumberedLists) (x y : ℕ) where
-  value_elsewhere : (ps : NumberedPlist) → ((j : ℕ) → j ≢ y → value_by same_number ps j ≡ value_by same_number (row_of m x) j)
+  value_elsewhere : (ps : NumberedPlist) → ((j : ℕ) → j ≢ y → value_beside same_number ps j ≡ value_beside same_number (plist_of_number m x) j)
       → (i j : ℕ) → eq_by_cmp nat_cmp (size_key x y) (size_key i j) ≡ false → value_in (with_row m x ps) i j ≡ value_in m i j
   value_elsewhere ps same i j differ =
       elim (eq_by_cmp nat_cmp i x) as (λ b. eq_by_cmp nat_cmp i x ≡ b → value_in (with_row m x ps) i j ≡ value_in m i j) [
         | true ↦ λ t.
             let is : i ≡ x = one_number i x t in
             let other : j ≢ y = λ e. false≢true (sym differ ∙ (λ k. eq_by_cmp nat_cmp (size_key x y) (size_key (is k) (e k))) ∙ number_tied (size_key x y)) in
-            ap (λ k. value_in (with_row m x ps) k j) is ∙ ap (λ l. value_by same_number l j) (row-with_row m x ps) ∙ same j other ∙ ap (λ k. value_in m k j) (sym is)
-        | false ↦ λ t. ap (λ o. value_by same_number (unwrap_or o []) j) (get-with_row m x ps i ∙ ap (λ b. cond b (kept ps) (finite.get m i)) t)
+            ap (λ k. value_in (with_row m x ps) k j) is ∙ ap (λ l. value_beside same_number l j) (row-with_row m x ps) ∙ same j other ∙ ap (λ k. value_in m k j) (sym is)
+        | false ↦ λ t. ap (λ o. value_beside same_number (unwrap_or o []) j) (get-with_row m x ps i ∙ ap (λ b. cond b (kept ps) (finite.get m i)) t)
       ] refl
 
   module _ (sizes : Sizes) (are : AreSizes m sizes) where
@@ -123,12 +123,12 @@ module _ (m : NumberedLists) (x y : ℕ) where
 
     pub others_with : (v : Object) → AreOtherSizes (with_value_in m x y v) x y sizes
     others_with v i j n within differ is =
-        ap pair_size (value_elsewhere (with_value_by same_number (row_of m x) y v) (λ k other. elsewhere_with (row_of m x) y k v other) i j differ) ∙ are i j n within is
+        ap pair_size (value_elsewhere (with_value_by same_number (plist_of_number m x) y v) (λ k other. elsewhere_with (plist_of_number m x) y k v other) i j differ) ∙ are i j n within is
 
     pub others_without : AreOtherSizes (without_value_in m x y) x y sizes
     others_without i j n within differ is =
-        ap pair_size (value_elsewhere (without_value_by same_number (row_of m x) y) (λ k other. elsewhere_without (row_of m x) y k other) i j differ) ∙ are i j n within is
+        ap pair_size (value_elsewhere (without_value_by same_number (plist_of_number m x) y) (λ k other. elsewhere_without (plist_of_number m x) y k other) i j differ) ∙ are i j n within is
 
   pub size_pushed : (v : Object) (size : ℕ) → pair_size (Some (pushed v (value_in m x y))) ≡ Some size → pair_size (value_in (with_pushed_in m x y v) x y) ≡ Some size
   size_pushed v size is =
-      ap pair_size (ap (λ l. value_by same_number l y) (row-with_row m x (with_pushed_by same_number (row_of m x) y v)) ∙ put_there (row_of m x) y (pushed v (value_in m x y))) ∙ is
+      ap pair_size (ap (λ l. value_beside same_number l y) (row-with_row m x (with_pushed_by same_number (plist_of_number m x) y v)) ∙ put_there (plist_of_number m x) y (pushed v (value_in m x y))) ∙ is

@@ -17,7 +17,7 @@ use Rattle.std.specs.FinMap.{get-insert}
 use Rattle.std.specs.Cmp.{eq_by_cmp_equiv}
 use Rattle.lisp_object.specs.Object.{Object, integer, rational, character, text, symbol, uninterned, pair, vector, AllAtoms}
 use Rattle.readtable_core.specs.Tables as readtable
-use Rattle.readtable_core.specs.Named.{functions_of}
+use Rattle.readtable_core.specs.NamedFunctions.{functions_of}
 use Rattle.package_table.specs.Table as packages
 use Rattle.package_table.specs.Table.{Name, name_cmp, IsPackage, IsPresent, keyword}
 use Rattle.package_table.specs.Lookup.{is_symbol}
@@ -25,7 +25,7 @@ use Rattle.package_table.specs.Growth.{Grows}
 use Rattle.plist_state.specs.Properties.{Symbol, Plist, Properties, symbol_cmp, same_symbol, value_at, with_value, without_value, with_list}
 use Rattle.plist_state.specs.State.{WorldState, standard_name, user_name}
 use Rattle.plist_state.specs.Changes.{plist, property, with_property, without_property, with_packages, with_base}
-use Rattle.plist_state.specs.Sound.{IsSymbol, IsKnown, IsValue, IsApart, IsPlist, IsNamed, IsSound}
+use Rattle.plist_state.specs.Sound.{IsSymbol, IsKnown, IsValue, IsApart, IsPlist, IsNamed, IsSoundWorldState}
 use Rattle.package_table.proofs.Names.{same_some}
 use Rattle.plist_state.proofs.Orders.{one_symbol, one_name, name_total, symbol_total}
 use Rattle.plist_state.proofs.Lists.{kept, AreSome, all_with, all_without, without-absent, get-with_list, with_list_same}
@@ -84,7 +84,7 @@ named_grown t u grows (n ∷ ns) e =
     (symbol_from u keyword n (grows.homes keyword n keyword (symbol_is t keyword n both.0)))
     (named_grown t u grows ns both.1)
 
-pub sound_packages : (s : WorldState) (u : packages.Table) → IsSound s → packages.IsSound u → Grows s.packages u → IsSound (with_packages s u)
+pub sound_packages : (s : WorldState) (u : packages.Table) → IsSoundWorldState s → packages.AreSoundPackages u → Grows s.packages u → IsSoundWorldState (with_packages s u)
 sound_packages s u sound sound_u grows = record {
   packages = sound_u;
   symbols = λ x there. grows.homes x.0 x.1 x.0 (sound.symbols x there);
@@ -110,7 +110,7 @@ value_at_nil : (ps : Plist) → ps ≡ [] → (i : Symbol) → value_at ps i ≡
 value_at_nil ps e i = ap (λ l. value_at l i) e
 
 -- a list put at a symbol
-sound_list : (s : WorldState) (x : Symbol) (ps : Plist) → IsSound s → IsSymbol s.packages x → ((ps ≡ [] → ⊥) → IsPlist s.packages ps) → IsSound (record s { properties = with_list s.properties x ps })
+sound_list : (s : WorldState) (x : Symbol) (ps : Plist) → IsSoundWorldState s → IsSymbol s.packages x → ((ps ≡ [] → ⊥) → IsPlist s.packages ps) → IsSoundWorldState (record s { properties = with_list s.properties x ps })
 sound_list s x ps sound at_home is = record {
   packages = sound.packages;
   symbols = λ q there. symbols q there;
@@ -197,7 +197,7 @@ record IsList (t : packages.Table) (ps : Plist) : Type 0 where
   indicators : All (λ p. IsSymbol t p.0) ps
   values : All (λ p. IsValue t p.1) ps
 
-list_of : (s : WorldState) (x : Symbol) → IsSound s → IsList s.packages (plist s x)
+list_of : (s : WorldState) (x : Symbol) → IsSoundWorldState s → IsList s.packages (plist s x)
 list_of s x sound =
     elim (finite.get s.properties x) as (λ o. finite.get s.properties x ≡ o → IsList s.packages (unwrap_or o [])) [
       | None ↦ λ _. record { apart = tt; indicators = All-nil (λ (p : Symbol × Object). IsSymbol s.packages p.0); values = All-nil (λ (p : Symbol × Object). IsValue s.packages p.1) }
@@ -213,10 +213,10 @@ value_held t (p ∷ ps) i v all is =
     ] is
 
 -- a value that is there may be stored
-pub sound_value : (s : WorldState) (x i : Symbol) (v : Object) → IsSound s → property s x i ≡ Some v → IsValue s.packages v
+pub sound_value : (s : WorldState) (x i : Symbol) (v : Object) → IsSoundWorldState s → property s x i ≡ Some v → IsValue s.packages v
 sound_value s x i v sound is = value_held s.packages (plist s x) i v (list_of s x sound).values is
 
-pub sound_put : (s : WorldState) (x i : Symbol) (v : Object) → IsSound s → IsSymbol s.packages x → IsSymbol s.packages i → IsValue s.packages v → IsSound (with_property s x i v)
+pub sound_put : (s : WorldState) (x i : Symbol) (v : Object) → IsSoundWorldState s → IsSymbol s.packages x → IsSymbol s.packages i → IsValue s.packages v → IsSoundWorldState (with_property s x i v)
 sound_put s x i v sound at_home indicator value =
     let old : IsList s.packages (plist s x) = list_of s x sound in
     sound_list s x (with_value (plist s x) i v) sound at_home (λ _. record {
@@ -226,7 +226,7 @@ sound_put s x i v sound at_home indicator value =
       values = all_with same_symbol (λ p. IsValue s.packages p.1) (plist s x) i v value (λ p k. value) old.values;
     })
 
-pub sound_removed : (s : WorldState) (x i : Symbol) → IsSound s → IsSymbol s.packages x → IsSound (without_property s x i)
+pub sound_removed : (s : WorldState) (x i : Symbol) → IsSoundWorldState s → IsSymbol s.packages x → IsSoundWorldState (without_property s x i)
 sound_removed s x i sound at_home =
     let old : IsList s.packages (plist s x) = list_of s x sound in
     sound_list s x (without_value (plist s x) i) sound at_home (λ some. record {
@@ -237,7 +237,7 @@ sound_removed s x i sound at_home =
     })
 
 -- a property that is not there, removed
-pub removed_absent : (s : WorldState) (x i : Symbol) → IsSound s → property s x i ≡ None → without_property s x i ≡ s
+pub removed_absent : (s : WorldState) (x i : Symbol) → IsSoundWorldState s → property s x i ≡ None → without_property s x i ≡ s
 removed_absent s x i sound absent =
     ap (λ (m : Properties). record s { properties = m })
     (ap (with_list s.properties x) (without-absent same_symbol (plist s x) i absent) ∙ with_list_same s.properties x (plist s x) some refl)
@@ -254,7 +254,7 @@ removed_absent s x i sound absent =
         ] refl
 
 -- ---- the current names
-pub sound_in_package : (s : WorldState) (n : Name) → IsSound s → IsPackage s.packages n → IsSound (record s { current_package = n })
+pub sound_in_package : (s : WorldState) (n : Name) → IsSoundWorldState s → IsPackage s.packages n → IsSoundWorldState (record s { current_package = n })
 sound_in_package s n sound there = record {
   packages = sound.packages;
   symbols = sound.symbols;
@@ -266,7 +266,7 @@ sound_in_package s n sound there = record {
   highest_base = sound.highest_base;
 }
 
-pub sound_in_readtable : (s : WorldState) (n : Name) → IsSound s → IsTrue (finite.contains_key s.readtables n) → IsSound (record s { current_readtable = n })
+pub sound_in_readtable : (s : WorldState) (n : Name) → IsSoundWorldState s → IsTrue (finite.contains_key s.readtables n) → IsSoundWorldState (record s { current_readtable = n })
 sound_in_readtable s n sound there = record {
   packages = sound.packages;
   symbols = sound.symbols;
@@ -279,7 +279,7 @@ sound_in_readtable s n sound there = record {
 }
 
 -- ---- the base in which numbers are read
-pub sound_base : (s : WorldState) (base : ℕ) → IsSound s → 2 ≤ base → base ≤ 36 → IsSound (with_base s base)
+pub sound_base : (s : WorldState) (base : ℕ) → IsSoundWorldState s → 2 ≤ base → base ≤ 36 → IsSoundWorldState (with_base s base)
 sound_base s base sound lowest highest = record {
   packages = sound.packages;
   symbols = sound.symbols;
@@ -293,8 +293,8 @@ sound_base s base sound lowest highest = record {
 
 -- ---- readtables
 -- a readtable that is put at a name, not that of the standard one
-pub sound_table : (s : WorldState) (n : Name) (r : readtable.Table) → IsSound s → (n ≡ standard_name → ⊥) → IsSymbol s.packages (keyword, n)
-    → finite.len (finite.insert s.readtables n r) ≤ 64 → IsNamed s.packages r → IsSound (record s { readtables = finite.insert s.readtables n r })
+pub sound_table : (s : WorldState) (n : Name) (r : readtable.Table) → IsSoundWorldState s → (n ≡ standard_name → ⊥) → IsSymbol s.packages (keyword, n)
+    → finite.len (finite.insert s.readtables n r) ≤ 64 → IsNamed s.packages r → IsSoundWorldState (record s { readtables = finite.insert s.readtables n r })
 sound_table s n r sound other at_home count named = record {
   packages = sound.packages;
   symbols = sound.symbols;

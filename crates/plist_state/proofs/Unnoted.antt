@@ -25,12 +25,12 @@ use Rattle.plist_state.specs.declared.note.PropertyChange.TheVariants.{Set, Adde
 use Rattle.plist_state.specs.declared.note.Note.{Note}
 use Rattle.plist_state.specs.declared.note.Note.TheVariants.{Property, Made, Changed, InPackage, InReadtable, InBase}
 use Rattle.plist_state.specs.declared.overwritten.PropertyPlace.{PropertyPlace}
-use Rattle.plist_state.specs.Lists.{NumberedPlist, NumberedLists, row_of, with_row}
-use Rattle.plist_state.specs.Shown.{Rows, room_at, lists_in, NumberedRest}
+use Rattle.plist_state.specs.Lists.{NumberedPlist, NumberedLists, plist_of_number, with_row}
+use Rattle.plist_state.specs.Views.{Rows, room_at, lists_in, NumberedRest}
 use Rattle.plist_state.specs.Undoing.{with_value_at, with_changed_at, with_items, with_inserted, without_first, list_before, undone, all_undone, rests_at}
-use Rattle.plist_state.specs.Kept.{IsProperChange}
+use Rattle.plist_state.specs.KeptRows.{IsProperChange}
 use Rattle.plist_state.specs.Journal.{marks_of, IsNoted, FitsRows, LeadsBack, IsJournal, Continues}
-use Rattle.plist_state.specs.Overwritten.{before_change, before_note, before_notes, with_at, IsOverwritten, LeadsBackAs}
+use Rattle.plist_state.specs.OverwrittenValues.{before_change, before_note, before_notes, with_at, IsOverwritten, LeadsBackAs}
 use Rattle.plist_state.proofs.Indices.{with_value_at-past, with_value_at-twice, length-inserted}
 use Rattle.plist_state.proofs.ListRows.{one_number, get-with_row, row-with_row, with_row_twice, property_back}
 use Rattle.plist_state.proofs.Lists.{kept}
@@ -162,7 +162,7 @@ follows_change (Pushed k d) ps qs p f = follows_made ps qs p f.0 f.1 f.2 f.3 wit
 follows_change (Popped k items) ps qs p f = follows_made ps qs p f.0 f.1 f.2 f.3 (with_items items) k
 
 -- ---- two lists in a map
-row_apart : (m : NumberedLists) (x y : ℕ) (ps : NumberedPlist) → eq_by_cmp nat_cmp y x ≡ false → row_of (with_row m x ps) y ≡ row_of m y
+row_apart : (m : NumberedLists) (x y : ℕ) (ps : NumberedPlist) → eq_by_cmp nat_cmp y x ≡ false → plist_of_number (with_row m x ps) y ≡ plist_of_number m y
 row_apart m x y ps apart = ap (λ o. unwrap_or o []) (get-with_row m x ps y ∙ ap (λ b. cond b (kept ps) (finite.get m y)) apart)
 
 choose_apart : {A : Type 0} (a b : Bool) (x y o : Option A) → (a ≡ true → b ≡ true → ⊥) → cond a x (cond b y o) ≡ cond b y (cond a x o)
@@ -179,7 +179,7 @@ with_row_apart m x y ps qs apart = same_map nat_cmp_total nat_cmp-IsAntisymmetri
 -- ---- what is kept besides the packages
 abbrev Follows : ℕ → NumberedRest → Option PropertyPlace → NumberedRest → Type 0
 Follows x s None a = a ≡ s
-Follows x s (Some p) a = (v : Object) × (length (row_of s.properties x) ≡ p.length) × (p.index < p.length) × (a ≡ with_at s x p.index v)
+Follows x s (Some p) a = (v : Object) × (length (plist_of_number s.properties x) ≡ p.length) × (p.index < p.length) × (a ≡ with_at s x p.index v)
 
 -- a change of the same list
 module _ (x : ℕ) (change : PropertyChange) (s : NumberedRest) where
@@ -187,23 +187,23 @@ module _ (x : ℕ) (change : PropertyChange) (s : NumberedRest) where
   m = s.properties
 
   ps : NumberedPlist
-  ps = row_of s.properties x
+  ps = plist_of_number s.properties x
 
   made : (qs : NumberedPlist) → undone (Property x change) (record s { properties = with_row s.properties x qs }) ≡ record s { properties = with_row s.properties x (list_before change qs) }
   made qs = ap (λ (k : NumberedLists). record s { properties = k })
       ((λ i. with_row (with_row s.properties x qs) x (list_before change (row-with_row s.properties x qs i))) ∙ with_row_twice s.properties x qs (list_before change qs))
 
-  put_at : (k : ℕ) (w : Object) → with_at (undone (Property x change) s) x k w ≡ record s { properties = with_row s.properties x (with_value_at (list_before change (row_of s.properties x)) k w) }
+  put_at : (k : ℕ) (w : Object) → with_at (undone (Property x change) s) x k w ≡ record s { properties = with_row s.properties x (with_value_at (list_before change (plist_of_number s.properties x)) k w) }
   put_at k w = ap (λ (k : NumberedLists). record s { properties = k })
-      ((λ i. with_row (with_row s.properties x (list_before change (row_of s.properties x))) x (with_value_at (row-with_row s.properties x (list_before change (row_of s.properties x)) i) k w))
-      ∙ with_row_twice s.properties x (list_before change (row_of s.properties x)) (with_value_at (list_before change (row_of s.properties x)) k w))
+      ((λ i. with_row (with_row s.properties x (list_before change (plist_of_number s.properties x))) x (with_value_at (row-with_row s.properties x (list_before change (plist_of_number s.properties x)) i) k w))
+      ∙ with_row_twice s.properties x (list_before change (plist_of_number s.properties x)) (with_value_at (list_before change (plist_of_number s.properties x)) k w))
 
-  follows_list : (o : Option PropertyPlace) (qs : NumberedPlist) → ListFollows (list_before change (row_of s.properties x)) o (list_before change qs)
+  follows_list : (o : Option PropertyPlace) (qs : NumberedPlist) → ListFollows (list_before change (plist_of_number s.properties x)) o (list_before change qs)
       → Follows x (undone (Property x change) s) o (undone (Property x change) (record s { properties = with_row s.properties x qs }))
   follows_list None qs f = made qs ∙ ap (λ l. record s { properties = with_row s.properties x l }) f
   follows_list (Some q) qs f = (
     f.0,
-    ap length (row-with_row s.properties x (list_before change (row_of s.properties x))) ∙ f.1,
+    ap length (row-with_row s.properties x (list_before change (plist_of_number s.properties x))) ∙ f.1,
     f.2,
     made qs ∙ ap (λ l. record s { properties = with_row s.properties x l }) f.3 ∙ sym (put_at q.index f.0),
   )
@@ -212,18 +212,18 @@ follows_here : (x : ℕ) (change : PropertyChange) (s a : NumberedRest) (p : Pro
     → Follows x (undone (Property x change) s) (before_change change p) (undone (Property x change) a)
 follows_here x change s a p f =
     subst (λ (b : NumberedRest). Follows x (undone (Property x change) s) (before_change change p) (undone (Property x change) b)) (sym f.3)
-    (follows_list x change s (before_change change p) (with_value_at (row_of s.properties x) p.index f.0)
-    (follows_change change (row_of s.properties x) (with_value_at (row_of s.properties x) p.index f.0) p (f.0, f.1, f.2, refl)))
+    (follows_list x change s (before_change change p) (with_value_at (plist_of_number s.properties x) p.index f.0)
+    (follows_change change (plist_of_number s.properties x) (with_value_at (plist_of_number s.properties x) p.index f.0) p (f.0, f.1, f.2, refl)))
 
 -- a change of another list
 follows_there : (x y : ℕ) (change : PropertyChange) (s a : NumberedRest) (p : PropertyPlace) → y ≢ x → Follows x s (Some p) a
     → Follows x (undone (Property y change) s) (Some p) (undone (Property y change) a)
 follows_there x y change s a p apart f =
     let m : NumberedLists = s.properties in
-    let qs : NumberedPlist = with_value_at (row_of m x) p.index f.0 in
-    let before : NumberedPlist = list_before change (row_of m y) in
-    let there : row_of (with_row m x qs) y ≡ row_of m y = row_apart m x y qs (not_same y x apart) in
-    let here : row_of (with_row m y before) x ≡ row_of m x = row_apart m y x before (not_same x y (λ e. apart (sym e))) in (
+    let qs : NumberedPlist = with_value_at (plist_of_number m x) p.index f.0 in
+    let before : NumberedPlist = list_before change (plist_of_number m y) in
+    let there : plist_of_number (with_row m x qs) y ≡ plist_of_number m y = row_apart m x y qs (not_same y x apart) in
+    let here : plist_of_number (with_row m y before) x ≡ plist_of_number m x = row_apart m y x before (not_same x y (λ e. apart (sym e))) in (
       f.0,
       ap length here ∙ f.1,
       f.2,
@@ -256,22 +256,22 @@ follows_notes x [] p s a f = f
 follows_notes x (n ∷ ns) p s a f = follows_note x n (before_notes x ns p) (all_undone ns s) (all_undone ns a) (follows_notes x ns p s a f)
 
 -- ---- the memory of the rows
-lengths_at : (s : NumberedRest) (x k : ℕ) (v : Object) (y : ℕ) → length (row_of (with_at s x k v).properties y) ≡ length (row_of s.properties y)
+lengths_at : (s : NumberedRest) (x k : ℕ) (v : Object) (y : ℕ) → length (plist_of_number (with_at s x k v).properties y) ≡ length (plist_of_number s.properties y)
 lengths_at s x k v y =
-    let qs : NumberedPlist = with_value_at (row_of s.properties x) k v in
-    elim (eq_by_cmp nat_cmp y x) as (λ b. eq_by_cmp nat_cmp y x ≡ b → length (row_of (with_row s.properties x qs) y) ≡ length (row_of s.properties y)) [
+    let qs : NumberedPlist = with_value_at (plist_of_number s.properties x) k v in
+    elim (eq_by_cmp nat_cmp y x) as (λ b. eq_by_cmp nat_cmp y x ≡ b → length (plist_of_number (with_row s.properties x qs) y) ≡ length (plist_of_number s.properties y)) [
       | true ↦ λ e.
-          subst (λ z. length (row_of (with_row s.properties x qs) z) ≡ length (row_of s.properties z)) (sym (one_number y x e))
-          (ap length (row-with_row s.properties x qs) ∙ length-set (row_of s.properties x) k v)
+          subst (λ z. length (plist_of_number (with_row s.properties x qs) z) ≡ length (plist_of_number s.properties z)) (sym (one_number y x e))
+          (ap length (row-with_row s.properties x qs) ∙ length-set (plist_of_number s.properties x) k v)
       | false ↦ λ e. ap length (row_apart s.properties x y qs e)
     ] refl
 
 fits_at : (rows : Rows) (s : NumberedRest) (x k : ℕ) (v : Object) → FitsRows rows s → FitsRows rows (with_at s x k v)
 fits_at rows s x k v fits y = subst (λ n. n ≤ room_at rows y) (sym (lengths_at s x k v y)) (fits y)
 
-same_lengths : (x : ℕ) (o : Option PropertyPlace) (s a : NumberedRest) → Follows x s o a → (y : ℕ) → length (row_of a.properties y) ≡ length (row_of s.properties y)
-same_lengths x None s a f y = ap (λ (r : NumberedRest). length (row_of r.properties y)) f
-same_lengths x (Some p) s a f y = ap (λ (r : NumberedRest). length (row_of r.properties y)) f.3 ∙ lengths_at s x p.index f.0 y
+same_lengths : (x : ℕ) (o : Option PropertyPlace) (s a : NumberedRest) → Follows x s o a → (y : ℕ) → length (plist_of_number a.properties y) ≡ length (plist_of_number s.properties y)
+same_lengths x None s a f y = ap (λ (r : NumberedRest). length (plist_of_number r.properties y)) f
+same_lengths x (Some p) s a f y = ap (λ (r : NumberedRest). length (plist_of_number r.properties y)) f.3 ∙ lengths_at s x p.index f.0 y
 
 leads_to : (x : ℕ) (ns : List Note) (p : PropertyPlace) (s a : NumberedRest) (rows : Rows) → Follows x s (Some p) a → LeadsBack ns s rows → LeadsBack ns a rows
 leads_to x [] p s a rows f leads = tt
@@ -344,14 +344,14 @@ overwritten_since ms newest is x p k none within =
 
 -- a value that was set, and is overwritten
 pub not_noted : (ms : List (List Note)) (x : ℕ) (p : PropertyPlace) (k : ℕ) (d : Datum) → p.index ≡ k → IsOverwritten ms x p → (t u : NumberedRest)
-    → length (row_of u.properties x) ≡ p.length → undone (Property x (Set k d)) u ≡ t → Continues ms t ms u
+    → length (plist_of_number u.properties x) ≡ p.length → undone (Property x (Set k d)) u ≡ t → Continues ms t ms u
 not_noted ms x p k d here gone t u long undoes =
     subst (λ (r : NumberedRest). Continues ms r ms u) (ap (λ j. with_at u x j (object_of d)) here ∙ undoes) (gone.same u (object_of d) long).1
 
 -- the same where a call made the rows
 pub property_unnoted : (ms ks : List (List Note)) → ks ≡ ms → (x : ℕ) (change : PropertyChange) (t : NumberedRest) (rows later : Rows) (ps : NumberedPlist)
     → ((s u : NumberedRest) → u.properties ≡ lists_in later → undone (Property x change) u ≡ s → Continues ks s ks u)
-    → lists_in later ≡ with_row (lists_in rows) x ps → list_before change (row_of (lists_in later) x) ≡ row_of (lists_in rows) x
+    → lists_in later ≡ with_row (lists_in rows) x ps → list_before change (plist_of_number (lists_in later) x) ≡ plist_of_number (lists_in rows) x
     → Continues ms (record t { properties = lists_in rows }) ks (record t { properties = lists_in later })
 property_unnoted ms ks same x change t rows later ps unnoted put back =
     subst (λ k. Continues k (record t { properties = lists_in rows }) ks (record t { properties = lists_in later })) same
@@ -369,11 +369,11 @@ continues_both ms ks ns t s u room former latter = record {
 pub removed_noted : (ms : List (List Note)) (x k count : ℕ) (p q : NumberedProperty) → q.indicator ≡ p.indicator → IsOverwritten ms x (record { index = k; length = count })
     → LeadsBackAs ms x count (Removed k p) (Removed k q)
 removed_noted ms x k count p q same gone ns t u long undoes continues =
-    let ps : NumberedPlist = row_of u.properties x in
+    let ps : NumberedPlist = plist_of_number u.properties x in
     let v : Object = object_of q.value in
     let former : ℕ × Object = (p.indicator, object_of p.value) in
-    let more : length (row_of t.properties x) ≡ suc (length ps) =
-    ap (λ (r : NumberedRest). length (row_of r.properties x)) (sym undoes) ∙ ap length (row-with_row u.properties x (with_inserted ps k former)) ∙ length-inserted ps k former in
+    let more : length (plist_of_number t.properties x) ≡ suc (length ps) =
+    ap (λ (r : NumberedRest). length (plist_of_number r.properties x)) (sym undoes) ∙ ap length (row-with_row u.properties x (with_inserted ps k former)) ∙ length-inserted ps k former in
     let within : k ≤ length ps = (let less : k < count = gone.within in omega (arith, less, long, more)) in
     let one : with_at t x k v ≡ undone (Property x (Removed k q)) u =
     ap (λ (r : NumberedRest). with_at r x k v) (sym undoes) ∙ put_at x (Removed k p) u k v
@@ -383,8 +383,8 @@ removed_noted ms x k count p q same gone ns t u long undoes continues =
 -- the same where a call made the rows
 pub property_noted_as : (ms ks ns : List (List Note)) → ks ≡ ms → (x count : ℕ) (change other : PropertyChange) → LeadsBackAs ks x count change other
     → ((t u : NumberedRest) → IsNoted (Property x other) → undone (Property x other) u ≡ t → Continues ks t ns u) → IsProperChange other
-    → (t : NumberedRest) (rows later : Rows) (ps : NumberedPlist) → count ≡ length (row_of (lists_in rows) x)
-    → lists_in later ≡ with_row (lists_in rows) x ps → list_before change (row_of (lists_in later) x) ≡ row_of (lists_in rows) x
+    → (t : NumberedRest) (rows later : Rows) (ps : NumberedPlist) → count ≡ length (plist_of_number (lists_in rows) x)
+    → lists_in later ≡ with_row (lists_in rows) x ps → list_before change (plist_of_number (lists_in later) x) ≡ plist_of_number (lists_in rows) x
     → Continues ms (record t { properties = lists_in rows }) ns (record t { properties = lists_in later })
 property_noted_as ms ks ns same x count change other alike pushed proper t rows later ps long put back =
     let u : NumberedRest = record t { properties = lists_in later } in

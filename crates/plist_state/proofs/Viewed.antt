@@ -16,8 +16,8 @@ use Rattle.property_rows.specs.declared.property.NumberedProperty.{NumberedPrope
 use Rattle.plist_state.specs.declared.property_list.PropertyList.TheInside.{Inside}
 use Rattle.plist_state.specs.Properties.{Symbol, Plist}
 use Rattle.plist_state.specs.Lists.{numbered_symbol, IsNumber}
-use Rattle.plist_state.specs.Shown.{numbered_property, items_in}
-use Rattle.plist_state.specs.Viewed.{plist_in, IsPropertyList}
+use Rattle.plist_state.specs.Views.{numbered_property, items_in}
+use Rattle.plist_state.specs.PropertyListViews.{plist_in, IsPropertyList}
 
 pub are_numbers : (s : Numbered) (row : List NumberedProperty) → All (λ p. IsNumber s p.0) (map numbered_property row) → All (λ p. IsNumber s p.indicator) row
 are_numbers s [] all = All-nil (λ (p : NumberedProperty). IsNumber s p.indicator)

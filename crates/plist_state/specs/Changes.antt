@@ -8,7 +8,7 @@ use Rattle.readtable_core.specs.declared.table.Case.{Case}
 use Rattle.readtable_core.specs.declared.refusal.DispatchRefusal.{DispatchRefusal}
 use Rattle.readtable_core.specs.declared.refusal.DispatchRefusal.TheVariants.{NotDispatching as NoDispatch, DigitSubcharacter as Digit}
 use Rattle.readtable_core.specs.Tables.{Table, entry_at}
-use Rattle.readtable_core.specs.Changes.{with_entry, macro_entry, dispatching_entry, with_function, dispatch_refusal}
+use Rattle.readtable_core.specs.Changes.{with_character_entry, macro_entry, dispatching_entry, with_function, dispatch_refusal}
 use Rattle.package_table.specs.declared.error.PackageError.{PackageError}
 use Rattle.package_table.specs.declared.error.PackageError.TheVariants.{NoSuchPackage}
 use Rattle.package_table.specs.Table as packages
@@ -65,6 +65,7 @@ abbrev pub with_changed : Readtables → Name → (Table → Result Table Readta
 with_changed m n change (Ok t) = put_changed m n (change t)
 with_changed m n change (Err e) = Err e
 
+-- the readtable of this name after a change; none changes the standard one
 abbrev pub changed_readtable : Readtables → Name → (Table → Result Table ReadtableError) → Result Readtables ReadtableError
 changed_readtable m n change = with_changed m n change (writable m n)
 
@@ -74,11 +75,11 @@ with_case m n letters = changed_readtable m n (λ t. Ok (record t { letters = le
 
 -- SET-MACRO-CHARACTER (standard 23.2)
 abbrev pub with_macro : Readtables → Name → ℕ → Name → Bool → Result Readtables ReadtableError
-with_macro m n c f non_terminating = changed_readtable m n (λ t. Ok (with_entry t c (macro_entry f non_terminating)))
+with_macro m n c f non_terminating = changed_readtable m n (λ t. Ok (with_character_entry t c (macro_entry f non_terminating)))
 
 -- MAKE-DISPATCH-MACRO-CHARACTER (standard 23.2)
 abbrev pub with_dispatching : Readtables → Name → ℕ → Bool → Result Readtables ReadtableError
-with_dispatching m n c non_terminating = changed_readtable m n (λ t. Ok (with_entry t c (dispatching_entry non_terminating)))
+with_dispatching m n c non_terminating = changed_readtable m n (λ t. Ok (with_character_entry t c (dispatching_entry non_terminating)))
 
 -- the refusal of a readtable, as the world gives it
 abbrev pub refused_as : DispatchRefusal → ReadtableError
@@ -86,19 +87,19 @@ refused_as NoDispatch = NotDispatching
 refused_as Digit = DigitSubcharacter
 
 -- a readtable with a function at a sub-character
-abbrev pub dispatched : Table → ℕ → ℕ → Name → Result Table ReadtableError
-dispatched t c sub f =
-    option_map_or (λ r. Err (refused_as r)) (dispatch_refusal t c sub) (Ok (with_entry t c (with_function (entry_at t c) sub f)))
+abbrev pub with_sub_function : Table → ℕ → ℕ → Name → Result Table ReadtableError
+with_sub_function t c sub f =
+    option_map_or (λ r. Err (refused_as r)) (dispatch_refusal t c sub) (Ok (with_character_entry t c (with_function (entry_at t c) sub f)))
 
 -- SET-DISPATCH-MACRO-CHARACTER (standard 23.2)
 abbrev pub with_dispatch : Readtables → Name → ℕ → ℕ → Name → Result Readtables ReadtableError
-with_dispatch m n c sub f = changed_readtable m n (λ t. dispatched t c sub f)
+with_dispatch m n c sub f = changed_readtable m n (λ t. with_sub_function t c sub f)
 
 -- SET-SYNTAX-FROM-CHAR (standard 23.2): the character c of the readtable n gets what d has in the readtable o. That both
 -- are there is looked at first.
 abbrev pub with_syntax : Readtables → Name → ℕ → Name → ℕ → Result Readtables ReadtableError
 with_syntax m n c o d =
-    option_map_or (λ z. changed_readtable m n (λ t. Ok (with_entry t c (entry_at z d)))) (finite.get m o) (Err NoReadtable)
+    option_map_or (λ z. changed_readtable m n (λ t. Ok (with_character_entry t c (entry_at z d)))) (finite.get m o) (Err NoReadtable)
 
 -- COPY-READTABLE (standard 23.2): the readtable n is made, or written over, as the readtable o is. There are at most 64.
 abbrev pub with_copy : Readtables → Name → Name → Result Readtables ReadtableError
@@ -118,6 +119,6 @@ abbrev pub Refused : {B : Type 0} → ReadtableError → Result B ReadtableError
 Refused OutOfMemory said = IsOk said
 Refused e said = said ≡ Err e
 
-abbrev pub Gives : {A B : Type 0} → (A → B) → Result A ReadtableError → Result B ReadtableError → Type 0
-Gives view (Ok x) said = said ≡ Ok (view x)
-Gives view (Err e) said = Refused e said
+abbrev pub AnswersReadtables : {A B : Type 0} → (A → B) → Result A ReadtableError → Result B ReadtableError → Type 0
+AnswersReadtables view (Ok x) said = said ≡ Ok (view x)
+AnswersReadtables view (Err e) said = Refused e said

@@ -10,9 +10,9 @@ use Rattle.plist_state.specs.declared.note.TableChange.TheVariants.{Over, Letter
 use Rattle.plist_state.specs.declared.note.Note.{Note}
 use Rattle.plist_state.specs.declared.note.Note.TheVariants.{Property, Made, Changed, InPackage, InReadtable, InBase}
 use Rattle.plist_state.specs.State.{Readtables}
-use Rattle.plist_state.specs.Lists.{row_of}
-use Rattle.plist_state.specs.Shown.{Rows, room_at, NumberedRest}
-use Rattle.plist_state.specs.Kept.{IsProperChange}
+use Rattle.plist_state.specs.Lists.{plist_of_number}
+use Rattle.plist_state.specs.Views.{Rows, room_at, NumberedRest}
+use Rattle.plist_state.specs.KeptRows.{IsProperChange}
 use Rattle.plist_state.specs.Undoing.{all_undone, undone_since, rests_at}
 
 -- the notes under each mark
@@ -50,14 +50,14 @@ IsNoted (InBase base) = Unit {0}
 
 -- the rows have memory for these property lists
 abbrev pub FitsRows : Rows → NumberedRest → Type 0
-FitsRows rows r = (i : ℕ) → length (row_of r.properties i) ≤ room_at rows i
+FitsRows rows r = (i : ℕ) → length (plist_of_number r.properties i) ≤ room_at rows i
 
 -- each rest on the way back over these notes can be put back, and the rows have memory for it
 abbrev pub LeadsBack : List Note → NumberedRest → Rows → Type 0
 LeadsBack [] r rows = Unit {0}
 LeadsBack (n ∷ ns) r rows = IsNoted n × FitsRows rows (all_undone (n ∷ ns) r) × LeadsBack ns r rows
 
--- and so back over these marks
+-- the notes of each mark lead back, from the newest mark to the first
 abbrev pub IsJournal : List (List Note) → NumberedRest → Rows → Type 0
 IsJournal [] r rows = Unit {0}
 IsJournal (m ∷ ms) r rows = LeadsBack m (undone_since ms r) rows × IsJournal ms r rows

@@ -8,7 +8,7 @@ use Rattle.lisp_object.specs.Object.{Object}
 use Rattle.package_table.specs.Table.{Table}
 use Rattle.package_table.specs.Numbers.{Numbered, number_of}
 use Rattle.package_table.specs.Readers.{package_names, own_names}
-use Rattle.plist_state.specs.Properties.{Symbol, Plist, Properties, value_by, with_value_by, without_value_by}
+use Rattle.plist_state.specs.Properties.{Symbol, Plist, Properties, value_beside, with_value_by, without_value_by}
 
 -- a property list by numbers: each indicator is the number of a symbol
 abbrev pub NumberedPlist : Type 0
@@ -22,8 +22,8 @@ abbrev pub NumberedLists : Type 0
 NumberedLists = finite.FinMap nat_cmp NumberedPlist
 
 -- the property list of the symbol of a number
-abbrev pub row_of : NumberedLists → ℕ → NumberedPlist
-row_of m i = unwrap_or (finite.get m i) []
+abbrev pub plist_of_number : NumberedLists → ℕ → NumberedPlist
+plist_of_number m i = unwrap_or (finite.get m i) []
 
 -- where the symbol of a number has this list. One with no property has none.
 abbrev pub with_row : NumberedLists → ℕ → NumberedPlist → NumberedLists
@@ -32,15 +32,15 @@ with_row m i (p ∷ ps) = finite.insert m i (p ∷ ps)
 
 -- the value of a property of the symbol of a number
 abbrev pub value_in : NumberedLists → ℕ → ℕ → Option Object
-value_in m i j = value_by same_number (row_of m i) j
+value_in m i j = value_beside same_number (plist_of_number m i) j
 
 -- with this value beside the indicator
 abbrev pub with_value_in : NumberedLists → ℕ → ℕ → Object → NumberedLists
-with_value_in m i j v = with_row m i (with_value_by same_number (row_of m i) j v)
+with_value_in m i j v = with_row m i (with_value_by same_number (plist_of_number m i) j v)
 
 -- without the indicator and its value
 abbrev pub without_value_in : NumberedLists → ℕ → ℕ → NumberedLists
-without_value_in m i j = with_row m i (without_value_by same_number (row_of m i) j)
+without_value_in m i j = with_row m i (without_value_by same_number (plist_of_number m i) j)
 
 -- all symbols, by the names of their homes and then by their own
 abbrev pub symbols : Table → List Symbol
@@ -73,4 +73,4 @@ lists s m = finite.from_entries (filter_map (λ x. option_map (λ ps. (x, ps)) (
 -- each number that has a list is that of a symbol, and so is each indicator in it
 pub record IsOwned (s : Numbered) (m : NumberedLists) : Type 0 where
   pub owners : (i : ℕ) → IsTrue (finite.contains_key m i) → IsNumber s i
-  pub indicators : (i : ℕ) → All (λ p. IsNumber s p.0) (row_of m i)
+  pub indicators : (i : ℕ) → All (λ p. IsNumber s p.0) (plist_of_number m i)

@@ -1,10 +1,10 @@
 -- The first item taken off the list that a property has (standard 14.2, POP).
 use Rattle.std.specs.Prelude.{ℕ, Bool, List, Option, None, Some, unwrap_or}
 use Rattle.lisp_object.specs.Object.{Object, pair, nil}
-use Rattle.plist_state.specs.Properties.{Symbol, value_by, with_value_by}
+use Rattle.plist_state.specs.Properties.{Symbol, value_beside, with_value_by}
 use Rattle.plist_state.specs.State.{WorldState}
 use Rattle.plist_state.specs.Changes.{property, with_property}
-use Rattle.plist_state.specs.Lists.{NumberedLists, same_number, row_of, with_row}
+use Rattle.plist_state.specs.Lists.{NumberedLists, same_number, plist_of_number, with_row}
 use Rattle.plist_state.specs.Undoing.{without_first}
 
 -- the first item of a value that is a list with an item
@@ -27,8 +27,8 @@ popped value = without_first (unwrap_or value nil)
 
 -- with the list beside the key without its first item
 abbrev pub with_popped_by : {K : Type 0} → (K → K → Bool) → List (K × Object) → K → List (K × Object)
-with_popped_by same ps i = with_value_by same ps i (popped (value_by same ps i))
+with_popped_by same ps i = with_value_by same ps i (popped (value_beside same ps i))
 
 -- the same, by numbers
 abbrev pub with_popped_in : NumberedLists → ℕ → ℕ → NumberedLists
-with_popped_in m i j = with_row m i (with_popped_by same_number (row_of m i) j)
+with_popped_in m i j = with_row m i (with_popped_by same_number (plist_of_number m i) j)

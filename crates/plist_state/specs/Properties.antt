@@ -15,6 +15,7 @@ Symbol = Name × Name
 abbrev pub symbol_cmp : Symbol → Symbol → Ordering
 symbol_cmp a b = ordering_then (name_cmp a.0 b.0) (name_cmp a.1 b.1)
 
+-- whether two symbols have the same home and the same name
 abbrev pub same_symbol : Symbol → Symbol → Bool
 same_symbol a b = is_eq (symbol_cmp a b)
 
@@ -25,9 +26,9 @@ Plist = List (Symbol × Object)
 -- values beside keys, which are the same where the test says so
 module _ {K : Type 0} (same : K → K → Bool) where
   -- the value beside the key, if the list has it
-  abbrev pub value_by : List (K × Object) → K → Option Object
-  value_by [] i = None
-  value_by (p ∷ ps) i = cond (same i p.0) (Some p.1) (value_by ps i)
+  abbrev pub value_beside : List (K × Object) → K → Option Object
+  value_beside [] i = None
+  value_beside (p ∷ ps) i = cond (same i p.0) (Some p.1) (value_beside ps i)
 
   -- with this value beside the key: in its place, or last where the key is new
   abbrev pub with_value_by : List (K × Object) → K → Object → List (K × Object)
@@ -41,7 +42,7 @@ module _ {K : Type 0} (same : K → K → Bool) where
 
 -- the value beside the indicator, if the list has it
 abbrev pub value_at : Plist → Symbol → Option Object
-value_at = value_by same_symbol
+value_at = value_beside same_symbol
 
 -- with this value beside the indicator: in its place, or last where the indicator is new
 abbrev pub with_value : Plist → Symbol → Object → Plist

@@ -1,10 +1,10 @@
 -- A value before the one that a property has (standard 14.2, PUSH).
 use Rattle.std.specs.Prelude.{ℕ, ◌-◌, ◌^◌, Bool, true, false, min, List, Option, None, Some, unwrap_or}
 use Rattle.lisp_object.specs.Object.{Object, pair, nil, object_size}
-use Rattle.plist_state.specs.Properties.{Symbol, value_by, with_value_by}
+use Rattle.plist_state.specs.Properties.{Symbol, value_beside, with_value_by}
 use Rattle.plist_state.specs.State.{WorldState}
 use Rattle.plist_state.specs.Changes.{property, with_property}
-use Rattle.plist_state.specs.Lists.{NumberedLists, same_number, row_of, with_row}
+use Rattle.plist_state.specs.Lists.{NumberedLists, same_number, plist_of_number, with_row}
 
 -- a value, and that a pair
 abbrev pub holds_pair : Option Object → Bool
@@ -22,7 +22,7 @@ pushed x value = pair x (unwrap_or value nil)
 
 -- with this value before the one beside the key
 abbrev pub with_pushed_by : {K : Type 0} → (K → K → Bool) → List (K × Object) → K → Object → List (K × Object)
-with_pushed_by same ps i x = with_value_by same ps i (pushed x (value_by same ps i))
+with_pushed_by same ps i x = with_value_by same ps i (pushed x (value_beside same ps i))
 
 -- with this value before the one beside the indicator
 abbrev pub with_pushed : WorldState → Symbol → Symbol → Object → WorldState
@@ -30,4 +30,4 @@ with_pushed s x i v = with_property s x i (pushed v (property s x i))
 
 -- the same, by numbers
 abbrev pub with_pushed_in : NumberedLists → ℕ → ℕ → Object → NumberedLists
-with_pushed_in m i j v = with_row m i (with_pushed_by same_number (row_of m i) j v)
+with_pushed_in m i j v = with_row m i (with_pushed_by same_number (plist_of_number m i) j v)

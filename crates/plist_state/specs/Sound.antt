@@ -6,7 +6,7 @@ use Rattle.lisp_object.specs.Object as object
 use Rattle.lisp_object.specs.Object.{Object, symbol, uninterned, AllAtoms, object_depth}
 use Rattle.readtable_core.specs.Tables as readtable
 use Rattle.readtable_core.specs.Sound.{IsReadtable}
-use Rattle.readtable_core.specs.Named.{functions_of}
+use Rattle.readtable_core.specs.NamedFunctions.{functions_of}
 use Rattle.package_table.specs.Table as packages
 use Rattle.package_table.specs.Table.{Name, IsPackage, IsPresent, keyword}
 use Rattle.package_table.specs.Lookup.{is_symbol}
@@ -56,8 +56,8 @@ pub record IsReadtables (t : packages.Table) (m : Readtables) : Type 0 where
 
 -- The packages are sound, the symbols that have properties are there, the current names name something, and numbers are
 -- read in a base from 2 to 36.
-pub record IsSound (s : WorldState) : Type 0 where
-  pub packages : packages.IsSound s.packages
+pub record IsSoundWorldState (s : WorldState) : Type 0 where
+  pub packages : packages.AreSoundPackages s.packages
   pub symbols : (x : Symbol) → IsTrue (finite.contains_key s.properties x) → IsSymbol s.packages x
   pub properties : (x : Symbol) (ps : Plist) → finite.get s.properties x ≡ Some ps → IsPlist s.packages ps
   pub readtables : IsReadtables s.packages s.readtables
@@ -68,5 +68,5 @@ pub record IsSound (s : WorldState) : Type 0 where
 
 -- a world is sound where its state is, and each state to which it can go back
 pub record IsSoundWorld (w : Worlds) : Type 0 where
-  pub present : IsSound w.0
-  pub marked : All IsSound w.1
+  pub present : IsSoundWorldState w.0
+  pub marked : All IsSoundWorldState w.1

@@ -20,6 +20,7 @@ pub record Rest : Type 0 where
   -- the base in which tokens are read as numbers (standard 23.1.1, *READ-BASE*)
   pub read_base : ℕ
 
+-- A world, which is all that a store has: packages, properties, readtables, and the names and the base that are current.
 pub record WorldState : Type 0 where
   pub packages : packages.Table
   pub properties : Properties
@@ -51,6 +52,7 @@ standard_name = codes "STANDARD"
 abbrev pub user_name : Name
 user_name = codes "USER"
 
+-- the standard readtable, and a copy of it that may be changed
 abbrev pub first_readtables : Readtables
 first_readtables = finite.insert (finite.insert finite.empty standard_name readtable.standard) user_name readtable.standard
 

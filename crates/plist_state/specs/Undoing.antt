@@ -7,7 +7,7 @@ use Rattle.lisp_object.specs.Object.{Object, pair, pairs}
 use Rattle.lisp_object.specs.Datum.{object_of}
 use Rattle.lisp_object.specs.declared.datum.Datum.{Datum}
 use Rattle.readtable_core.specs.Tables.{Table}
-use Rattle.readtable_core.specs.Changes.{with_entry}
+use Rattle.readtable_core.specs.Changes.{with_character_entry}
 use Rattle.package_table.specs.Table.{Name}
 use Rattle.plist_state.specs.declared.note.PropertyChange.{PropertyChange}
 use Rattle.plist_state.specs.declared.note.PropertyChange.TheVariants.{Set, Added, Removed, Pushed, Popped}
@@ -15,9 +15,9 @@ use Rattle.plist_state.specs.declared.note.TableChange.{TableChange}
 use Rattle.plist_state.specs.declared.note.TableChange.TheVariants.{Over, Letters, Character}
 use Rattle.plist_state.specs.declared.note.Note.{Note}
 use Rattle.plist_state.specs.declared.note.Note.TheVariants.{Property, Made, Changed, InPackage, InReadtable, InBase}
-use Rattle.plist_state.specs.Lists.{NumberedPlist, row_of, with_row}
+use Rattle.plist_state.specs.Lists.{NumberedPlist, plist_of_number, with_row}
 use Rattle.plist_state.specs.State.{Readtables}
-use Rattle.plist_state.specs.Shown.{numbered_property, NumberedRest}
+use Rattle.plist_state.specs.Views.{numbered_property, NumberedRest}
 
 -- with the value at an index, if the list reaches so far
 abbrev pub with_value_at : NumberedPlist → ℕ → Object → NumberedPlist
@@ -69,7 +69,7 @@ GoesBack before later change = list_before change later ≡ before
 abbrev pub table_before : TableChange → Table → Table
 table_before (Over before) t = before
 table_before (Letters letters) t = record t { letters = letters }
-table_before (Character c entry) t = with_entry t c entry
+table_before (Character c entry) t = with_character_entry t c entry
 
 -- the readtables before a change of the one of this name
 abbrev pub tables_before : Readtables → Name → TableChange → Readtables
@@ -77,7 +77,7 @@ tables_before m n change = option_map_or (λ t. finite.insert m n (table_before 
 
 -- the rest before the change
 abbrev pub undone : Note → NumberedRest → NumberedRest
-undone (Property number change) r = record r { properties = with_row r.properties number (list_before change (row_of r.properties number)) }
+undone (Property number change) r = record r { properties = with_row r.properties number (list_before change (plist_of_number r.properties number)) }
 undone (Made name) r = record r { readtables = finite.remove r.readtables name.items }
 undone (Changed name change) r = record r { readtables = tables_before r.readtables name.items change }
 undone (InPackage name) r = record r { current_package = name.items }

@@ -5,8 +5,8 @@ ghost use Rattle.std.specs.FinMap as finite;
 ghost use Rattle.plist_state.specs.declared.error.ReadtableError.TheVariants.{OutOfMemory};
 ghost use Rattle.plist_state.specs.declared.note.TableChange.TheVariants.{Over};
 ghost use Rattle.plist_state.specs.declared.note.Note.TheVariants.{Made, Changed};
-ghost use Rattle.plist_state.specs.Changes.{with_copy, Gives};
-ghost use Rattle.plist_state.specs.Shown.{readtables_of};
+ghost use Rattle.plist_state.specs.Changes.{with_copy, AnswersReadtables};
+ghost use Rattle.plist_state.specs.Views.{readtables_of};
 ghost use Rattle.plist_state.specs.Journal.{marks_of, ContinuesTables};
 
 use crate::ReadtableError;
@@ -25,7 +25,7 @@ pub(crate) fn copy(
     from: &[u8],
     to: &[u8],
 ) -> Result<(), ReadtableError>
-    ensures gives { Gives (λ _. readtables_of tables.new) result
+    ensures gives { AnswersReadtables (λ _. readtables_of tables.new) result
         (with_copy (readtables_of tables.old) from.now to.now) }
     ensures unchanged { IfErr result (λ _. readtables_of tables.new ≡ readtables_of tables.old) }
     ensures marked { ContinuesTables (marks_of marks.old.items) (readtables_of tables.old)

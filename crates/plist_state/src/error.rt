@@ -1,6 +1,6 @@
 //! Why a call on readtables is refused.
 ghost use Rattle.std.specs.Prelude.{◌≡◌};
-ghost use Rattle.plist_state.specs.Refused.{readtable_error_number};
+ghost use Rattle.plist_state.specs.ErrorNumbers.{readtable_error_number};
 
 use lisp_object::refusal;
 use std::alloc::AllocError;

@@ -5,7 +5,7 @@ ghost use Rattle.lisp_object.specs.Datum.{object_of, is_proper};
 ghost use Rattle.plist_state.specs.Pushed.{holds_pair};
 ghost use Rattle.plist_state.specs.Popped.{first_item};
 ghost use Rattle.plist_state.specs.Undoing.{without_first, element_count, with_items};
-ghost use Rattle.plist_state.specs.Kept.{IsEmptyList};
+ghost use Rattle.plist_state.specs.KeptRows.{IsEmptyList};
 
 use lisp_object::{Boxed, Datum, Items};
 use std::alloc::{AllocError, Global};

@@ -4,7 +4,7 @@ ghost use Rattle.std.specs.List.{list_any};
 ghost use Rattle.std.specs.FinMap as finite;
 ghost use Rattle.readtable_core.specs.Tables.{Table};
 ghost use Rattle.plist_state.specs.State.{Readtables};
-ghost use Rattle.plist_state.specs.Shown.{NumberedRest};
+ghost use Rattle.plist_state.specs.Views.{NumberedRest};
 ghost use Rattle.plist_state.specs.Undoing.{undone, restores};
 ghost use Rattle.plist_state.specs.Journal.{marks_of, has_room, IsNoted, Continues, ContinuesTables};
 

@@ -16,8 +16,8 @@
 //! their lists. What another world was put in the place of is kept whole (`Replaced`), with its own marks.
 //!
 //! Property lists are kept by the numbers that package_table gives to symbols, and in them each indicator is such a number
-//! too. What is kept is a `NumberedRest` (specs/Shown.antt), of which the definitions of the journal speak; `lists` of
-//! specs/Lists.antt gives the lists of the symbols, by which contracts see a state (`state_in` of specs/Marked.antt).
+//! too. What is kept is a `NumberedRest` (specs/Views.antt), of which the definitions of the journal speak; `lists` of
+//! specs/Lists.antt gives the lists of the symbols, by which contracts see a state (`state_in` of specs/MarkedWorlds.antt).
 //!
 //! - `world`: `World`, and what is asked of it
 //! - `readers`: the lists that it gives
@@ -40,7 +40,7 @@
 //! - specs/Changes.antt: what each call makes of a state; specs/Pushed.antt: `pushed`, `with_pushed`, `holds_pair`, `pair_size`;
 //!   specs/Popped.antt: `first_item`, `with_popped`
 //! - specs/Sound.antt: what holds of each state; specs/Readers.antt: the lists that a world gives
-//! - specs/Shown.antt: `symbol_of`, `symbol_named`, `property_of`; specs/Refused.antt: `readtable_error_number`; specs/Codes.antt: `state_code`
+//! - specs/Views.antt: `symbol_of`, `symbol_named`, `property_of`; specs/ErrorNumbers.antt: `readtable_error_number`; specs/Codes.antt: `state_code`
 //!
 //! # Laws for the crates above
 //!

@@ -2,8 +2,8 @@
 ghost use Rattle.std.specs.Prelude.{◌≡◌, ◌<◌, ◌++◌, true, [], ◌∷◌, List, length, take, Some, IfOk, IfErr, OnOk, OnErr};
 ghost use Rattle.std.specs.List.{slice_get};
 ghost use Rattle.plist_state.specs.Journal.{marks_of};
-ghost use Rattle.plist_state.specs.Marked.{IsWayBack};
-ghost use Rattle.plist_state.specs.Shown.{NumberedRest};
+ghost use Rattle.plist_state.specs.MarkedWorlds.{IsWayBack};
+ghost use Rattle.plist_state.specs.Views.{NumberedRest};
 ghost use Rattle.plist_state.specs.Sizes.{AreSizes};
 ghost use Rattle.plist_state.specs.State.{WorldState, Worlds};
 ghost use Rattle.plist_state.specs.Undoing.{rests_at};

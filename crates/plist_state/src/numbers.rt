@@ -2,7 +2,7 @@
 ghost use Rattle.std.specs.Prelude.{◌≡◌, Some};
 ghost use Rattle.package_table.specs.Numbers as numbers;
 ghost use Rattle.package_table.specs.Numbers.{numbered};
-ghost use Rattle.plist_state.specs.Shown.{symbol_named};
+ghost use Rattle.plist_state.specs.Views.{symbol_named};
 ghost use Rattle.plist_state.specs.Sound.{IsSymbol};
 
 use crate::BorrowedSymbol;

@@ -1,8 +1,8 @@
 //! Values that need not be noted: as earlier changes are undone, each is overwritten, or its property is taken away.
 ghost use Rattle.std.specs.Prelude.{◌≡◌, ◌<◌, ◌≤◌, ◌-◌, ◌^◌, None, true, length};
 ghost use Rattle.plist_state.specs.Journal.{marks_of};
-ghost use Rattle.plist_state.specs.Kept.{IsProperChange};
-ghost use Rattle.plist_state.specs.Overwritten.{before_change, before_note, before_notes, IsOverwritten, LeadsBackAs};
+ghost use Rattle.plist_state.specs.KeptRows.{IsProperChange};
+ghost use Rattle.plist_state.specs.OverwrittenValues.{before_change, before_note, before_notes, IsOverwritten, LeadsBackAs};
 
 use crate::note::{Note, PropertyChange};
 use lisp_object::Datum;

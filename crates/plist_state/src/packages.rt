@@ -2,8 +2,8 @@
 ghost use Rattle.std.specs.Prelude.{◌≡◌, ◌<◌, All, Some, IfErr, IfOk};
 ghost use Rattle.package_table.specs.Table.{IsPresent};
 ghost use Rattle.package_table.specs.Lookup.{found};
-ghost use Rattle.package_table.specs.Changes.{after_make, after_intern, after_export, after_import, after_use, intern_changes, export_changes, import_changes, use_changes, Gives};
-ghost use Rattle.package_table.specs.Growth.{Grows, Tells, IsSameBut};
+ghost use Rattle.package_table.specs.Changes.{after_make, after_intern, after_export, after_import, after_use, intern_changes, export_changes, import_changes, use_changes, AnswersPackages};
+ghost use Rattle.package_table.specs.Growth.{Grows, TellsOfChange, IsSameBut};
 ghost use Rattle.plist_state.specs.Changes.{with_packages, after_in_package};
 ghost use Rattle.plist_state.specs.PackageCalls.{ChangesPackages};
 
@@ -20,7 +20,7 @@ impl World {
     /// Those of `Packages::make`. Nothing has changed then.
     pub fn make(&mut self, name: &[u8]) -> Result<(), PackageError>
         requires { All (λ b. b < 128) name.now }
-        ensures gives { Gives (λ _. self.new.0.packages) result
+        ensures gives { AnswersPackages (λ _. self.new.0.packages) result
             (after_make self.old.0.packages name.now) }
         ensures rest { self.new ≡ (with_packages self.old.0 self.new.0.packages, self.old.1) }
         ensures grows { Grows self.old.0.packages self.new.0.packages }
@@ -39,16 +39,16 @@ impl World {
     /// Those of `Packages::intern`. Nothing has changed then.
     pub fn intern(&mut self, owner: &[u8], name: &[u8]) -> Result<Interned, PackageError>
         requires { All (λ b. b < 128) name.now }
-        ensures gives { Gives (λ interned. (interned.home, self.new.0.packages)) result
+        ensures gives { AnswersPackages (λ interned. (interned.home, self.new.0.packages)) result
             (after_intern self.old.0.packages owner.now name.now) }
         ensures is_new { IfOk result
             (λ interned. interned.is_new ≡ intern_changes self.old.0.packages owner.now name.now) }
         ensures exactly { IfOk result
-            (λ interned. Tells interned.is_new self.old.0.packages self.new.0.packages) }
+            (λ interned. TellsOfChange interned.is_new self.old.0.packages self.new.0.packages) }
         ensures finds { IfOk result
             (λ interned. found self.new.0.packages owner.now name.now ≡ Some interned.home) }
 
-        // What stays.
+        // No other name finds another symbol, and nothing but the packages changes; after an error nothing has changed.
         ensures others { IsSameBut self.old.0.packages self.new.0.packages owner.now name.now }
         ensures rest { self.new ≡ (with_packages self.old.0 self.new.0.packages, self.old.1) }
         ensures grows { Grows self.old.0.packages self.new.0.packages }
@@ -114,7 +114,7 @@ impl World {
     /// # Errors
     /// `NoSuchPackage` where no package has that name; `OutOfMemory` where memory runs out. Nothing has changed then.
     pub fn set_current_package(&mut self, name: &[u8]) -> Result<(), PackageError>
-        ensures gives { Gives (λ _. self.new.0) result (after_in_package self.old.0 name.now) }
+        ensures gives { AnswersPackages (λ _. self.new.0) result (after_in_package self.old.0 name.now) }
         ensures marked { self.new.1 ≡ self.old.1 }
         ensures unchanged { IfErr result (λ _. self.new ≡ self.old) }
     {

@@ -3,13 +3,13 @@ ghost use Rattle.std.specs.Prelude.{◌≡◌, ◌≤◌, ◌<◌, [], All, true
 ghost use Rattle.lisp_object.specs.Object.{nil};
 ghost use Rattle.lisp_object.specs.Datum.{is_proper};
 ghost use Rattle.property_rows.specs.Rows.{room};
-ghost use Rattle.plist_state.specs.Properties.{value_by};
+ghost use Rattle.plist_state.specs.Properties.{value_beside};
 ghost use Rattle.plist_state.specs.Popped.{with_popped_by, with_popped_in};
-ghost use Rattle.plist_state.specs.Lists.{same_number, row_of, value_in};
-ghost use Rattle.plist_state.specs.Shown.{plist_of, lists_of};
+ghost use Rattle.plist_state.specs.Lists.{same_number, plist_of_number, value_in};
+ghost use Rattle.plist_state.specs.Views.{plist_of, lists_of};
 ghost use Rattle.plist_state.specs.Undoing.{GoesBack, element_count, with_changed_at, with_items};
-ghost use Rattle.plist_state.specs.Indexed.{IsIndexedIn, AreIndexed};
-ghost use Rattle.plist_state.specs.Kept.{IsProperRow, IsProperRows, IsProperChange, IsWider};
+ghost use Rattle.plist_state.specs.RowIndexes.{IsIndexedIn, AreIndexed};
+ghost use Rattle.plist_state.specs.KeptRows.{IsProperRow, IsProperRows, IsProperChange, IsWider};
 
 use crate::first_items::{pop_first, put_items};
 use crate::note::PropertyChange;
@@ -29,10 +29,10 @@ fn write_rest(
     requires indexed { IsIndexedIn indexes.now.entries number row.old.items }
 
     // The list has more, and `space` has room for it.
-    requires more { let list = unwrap_or (value_by same_number (plist_of row.old) indicator) nil in
+    requires more { let list = unwrap_or (value_beside same_number (plist_of row.old) indicator) nil in
         1 < element_count list }
     requires empty { space.items ≡ [] }
-    requires space { let list = unwrap_or (value_by same_number (plist_of row.old) indicator) nil in
+    requires space { let list = unwrap_or (value_beside same_number (plist_of row.old) indicator) nil in
         element_count list ≤ vec_capacity space }
 
     // The list is without its first item, and with it before the rest it is as it was.
@@ -41,7 +41,7 @@ fn write_rest(
     ensures values { IsProperRow row.new }
     ensures former { IsProperChange result }
 
-    // What the next change rests on.
+    // No less room is in the row, and its index fits it.
     ensures room { room row.old ≤ room row.new }
     ensures indexed { IsIndexedIn indexes.now.entries number row.new.items }
 {
@@ -75,10 +75,11 @@ pub(crate) fn pop(
 
     // The list is without its first item, and with it before the rest it is as it was.
     ensures after { lists_of rows.new ≡ with_popped_in (lists_of rows.old) number indicator }
-    ensures back { GoesBack (row_of (lists_of rows.old) number) (row_of (lists_of rows.new) number) result }
+    ensures back { GoesBack (plist_of_number (lists_of rows.old) number)
+        (plist_of_number (lists_of rows.new) number) result }
     ensures former { IsProperChange result }
 
-    // What the next change rests on.
+    // No row has less room, and each index fits its row.
     ensures wider { IsWider rows.old.items rows.new.items }
     ensures indexed { AreIndexed rows.new.items indexes.now.entries }
 {

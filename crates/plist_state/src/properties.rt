@@ -4,7 +4,7 @@ ghost use Rattle.lisp_object.specs.Datum.{object_of, is_proper};
 ghost use Rattle.plist_state.specs.Changes.{property, with_property, without_property};
 ghost use Rattle.plist_state.specs.Pushed.{holds_pair, pair_size, pushed, with_pushed};
 ghost use Rattle.plist_state.specs.Popped.{first_item, with_popped};
-ghost use Rattle.plist_state.specs.Shown.{symbol_of, symbol_named};
+ghost use Rattle.plist_state.specs.Views.{symbol_of, symbol_named};
 ghost use Rattle.plist_state.specs.Sound.{IsSymbol, IsValue};
 
 use crate::first_items::first_of;

@@ -4,7 +4,7 @@ ghost use Rattle.std.specs.List.{slice_get};
 ghost use Rattle.lisp_object.specs.Datum.{is_proper};
 ghost use Rattle.package_table.specs.Numbers.{numbered};
 ghost use Rattle.plist_state.specs.Lists.{IsNumber, named_plist};
-ghost use Rattle.plist_state.specs.Shown.{numbered_property, property_of, items_in};
+ghost use Rattle.plist_state.specs.Views.{numbered_property, property_of, items_in};
 
 use crate::Property;
 use package_table::Packages;
@@ -26,7 +26,7 @@ impl<'a> Model for PropertyList<'a> {
 
     ghost coded = { plist_code };
 
-    ghost use Rattle.plist_state.specs.Viewed.{plist_in, IsPropertyList};
+    ghost use Rattle.plist_state.specs.PropertyListViews.{plist_in, IsPropertyList};
 
     ghost view = { plist_in };
 
@@ -52,7 +52,7 @@ impl<'a> PropertyList<'a> {
         }
     }
 
-    /// Whether there are none.
+    /// Whether the list has no property.
     pub fn is_empty(&self) -> bool
         ensures { result ≡ (length self.now == 0) }
     {

@@ -5,7 +5,7 @@ ghost use Rattle.package_table.specs.Numbers.{numbered};
 ghost use Rattle.package_table.specs.Readers.{own_names};
 ghost use Rattle.plist_state.specs.Lists.{property_list_of, lists};
 ghost use Rattle.plist_state.specs.Readers.{readtable_names, borrowed_symbols, symbols_with_properties};
-ghost use Rattle.plist_state.specs.Shown.{lists_of, readtables_of};
+ghost use Rattle.plist_state.specs.Views.{lists_of, readtables_of};
 
 use crate::{World, rows};
 use lisp_object::{Bytes, Items};

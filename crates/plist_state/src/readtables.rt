@@ -2,7 +2,7 @@
 ghost use Rattle.std.specs.Prelude.{◌≡◌, ◌<◌, IfErr, IsFalse};
 ghost use Rattle.readtable_core.specs.Names.{is_dispatch_name};
 ghost use Rattle.package_table.specs.Table.{keyword};
-ghost use Rattle.plist_state.specs.Changes.{with_case, with_macro, with_dispatching, with_dispatch, with_syntax, with_copy, in_state, after_in_readtable, Gives};
+ghost use Rattle.plist_state.specs.Changes.{with_case, with_macro, with_dispatching, with_dispatch, with_syntax, with_copy, in_state, after_in_readtable, AnswersReadtables};
 ghost use Rattle.plist_state.specs.Sound.{IsSymbol};
 
 use crate::copies::copy;
@@ -18,7 +18,7 @@ impl World {
     /// # Errors
     /// `NoReadtable` where there is none of that name; `OutOfMemory` where memory runs out. Nothing has changed then.
     pub fn set_current_readtable(&mut self, name: &[u8]) -> Result<(), ReadtableError>
-        ensures gives { Gives (λ _. self.new.0) result (after_in_readtable self.old.0 name.now) }
+        ensures gives { AnswersReadtables (λ _. self.new.0) result (after_in_readtable self.old.0 name.now) }
         ensures marked { self.new.1 ≡ self.old.1 }
         ensures unchanged { IfErr result (λ _. self.new ≡ self.old) }
     {
@@ -37,7 +37,7 @@ impl World {
     /// `NoReadtable` where there is none of that name; `StandardReadtable` for the standard one; `OutOfMemory` where
     /// memory runs out. Nothing has changed then.
     pub fn set_case(&mut self, name: &[u8], letters: Case) -> Result<(), ReadtableError>
-        ensures gives { Gives (λ _. self.new.0) result
+        ensures gives { AnswersReadtables (λ _. self.new.0) result
             (in_state self.old.0 (with_case self.old.0.readtables name.now letters)) }
         ensures marked { self.new.1 ≡ self.old.1 }
         ensures unchanged { IfErr result (λ _. self.new ≡ self.old) }
@@ -67,7 +67,7 @@ impl World {
         requires character { c < 128 }
         requires other { IsFalse (is_dispatch_name function) }
         requires keyword { IsSymbol self.old.0.packages (keyword, function) }
-        ensures gives { Gives (λ _. self.new.0) result
+        ensures gives { AnswersReadtables (λ _. self.new.0) result
             (in_state self.old.0 (with_macro self.old.0.readtables name.now c function non_terminating)) }
         ensures marked { self.new.1 ≡ self.old.1 }
         ensures unchanged { IfErr result (λ _. self.new ≡ self.old) }
@@ -97,7 +97,7 @@ impl World {
         non_terminating: bool,
     ) -> Result<(), ReadtableError>
         requires { c < 128 }
-        ensures gives { Gives (λ _. self.new.0) result
+        ensures gives { AnswersReadtables (λ _. self.new.0) result
             (in_state self.old.0 (with_dispatching self.old.0.readtables name.now c non_terminating)) }
         ensures marked { self.new.1 ≡ self.old.1 }
         ensures unchanged { IfErr result (λ _. self.new ≡ self.old) }
@@ -131,7 +131,7 @@ impl World {
         requires sub_character { sub < 128 }
         requires other { IsFalse (is_dispatch_name function) }
         requires keyword { IsSymbol self.old.0.packages (keyword, function) }
-        ensures gives { Gives (λ _. self.new.0) result
+        ensures gives { AnswersReadtables (λ _. self.new.0) result
             (in_state self.old.0 (with_dispatch self.old.0.readtables name.now c sub function)) }
         ensures marked { self.new.1 ≡ self.old.1 }
         ensures unchanged { IfErr result (λ _. self.new ≡ self.old) }
@@ -163,7 +163,7 @@ impl World {
     ) -> Result<(), ReadtableError>
         requires to { c < 128 }
         requires from { d < 128 }
-        ensures gives { Gives (λ _. self.new.0) result
+        ensures gives { AnswersReadtables (λ _. self.new.0) result
             (in_state self.old.0 (with_syntax self.old.0.readtables to.now c from.now d)) }
         ensures marked { self.new.1 ≡ self.old.1 }
         ensures unchanged { IfErr result (λ _. self.new ≡ self.old) }
@@ -187,7 +187,7 @@ impl World {
     /// `to` is new and there are 64; `OutOfMemory` where memory runs out. Nothing has changed then.
     pub fn copy_readtable(&mut self, from: &[u8], to: &[u8]) -> Result<(), ReadtableError>
         requires { IsSymbol self.old.0.packages (keyword, to.now) }
-        ensures gives { Gives (λ _. self.new.0) result
+        ensures gives { AnswersReadtables (λ _. self.new.0) result
             (in_state self.old.0 (with_copy self.old.0.readtables from.now to.now)) }
         ensures marked { self.new.1 ≡ self.old.1 }
         ensures unchanged { IfErr result (λ _. self.new ≡ self.old) }

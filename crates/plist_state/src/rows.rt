@@ -4,13 +4,13 @@ ghost use Rattle.std.specs.List.{position};
 ghost use Rattle.std.specs.Option.{option_map};
 ghost use Rattle.lisp_object.specs.Datum.{object_of, is_proper};
 ghost use Rattle.property_rows.specs.Rows.{room};
-ghost use Rattle.plist_state.specs.Properties.{value_by, with_value_by, without_value_by};
+ghost use Rattle.plist_state.specs.Properties.{value_beside, with_value_by, without_value_by};
 ghost use Rattle.plist_state.specs.Pushed.{holds_pair, with_pushed_by, with_pushed_in};
-ghost use Rattle.plist_state.specs.Lists.{same_number, row_of, value_in, with_row, with_value_in, without_value_in};
-ghost use Rattle.plist_state.specs.Shown.{items_in, numbered_property, plist_of, lists_of, row_at, room_at};
+ghost use Rattle.plist_state.specs.Lists.{same_number, plist_of_number, value_in, with_row, with_value_in, without_value_in};
+ghost use Rattle.plist_state.specs.Views.{items_in, numbered_property, plist_of, lists_of, row_at, room_at};
 ghost use Rattle.plist_state.specs.Undoing.{list_before, GoesBack};
-ghost use Rattle.plist_state.specs.Indexed.{IsIndexedIn, AreIndexed, KeepsOthers};
-ghost use Rattle.plist_state.specs.Kept.{IsProperRow, IsProperRows, IsProperChange, IsEmptyList, IsWider};
+ghost use Rattle.plist_state.specs.RowIndexes.{IsIndexedIn, AreIndexed, KeepsOthers};
+ghost use Rattle.plist_state.specs.KeptRows.{IsProperRow, IsProperRows, IsProperChange, IsEmptyList, IsWider};
 
 use crate::first_items::{put_first, take_first};
 use crate::note::PropertyChange;
@@ -23,7 +23,7 @@ use std::alloc::{AllocError, Global};
 /// The properties of the symbol of a number.
 pub(crate) fn row<'a>(rows: &'a Vec<Row>, number: u32) -> Option<&'a Row>
     requires { IsProperRows rows.now.items }
-    ensures list { map numbered_property (items_in result) ≡ row_of (lists_of rows.now) number }
+    ensures list { map numbered_property (items_in result) ≡ plist_of_number (lists_of rows.now) number }
     ensures proper { All (λ p. is_proper p.value ≡ true) (items_in result) }
     ensures indexed { (indexes : _) → AreIndexed rows.now.items indexes
         → IsIndexedIn indexes number (items_in result) }
@@ -33,7 +33,7 @@ pub(crate) fn row<'a>(rows: &'a Vec<Row>, number: u32) -> Option<&'a Row>
 
 /// How many properties the symbol of a number has.
 pub(crate) fn count(rows: &Vec<Row>, number: u32) -> usize
-    ensures { result ≡ length (row_of (lists_of rows.now) number) }
+    ensures { result ≡ length (plist_of_number (lists_of rows.now) number) }
 {
     match rows.get(number as usize) {
         Some(row) => row.len(),
@@ -81,7 +81,7 @@ fn write(
     ensures values { IsProperRow row.old → IsProperRow row.new }
     ensures former { IsProperRow row.old → IfOk result IsProperChange }
 
-    // What the next change rests on.
+    // No less room is in the row, its index fits it, and other rows keep theirs; out of memory leaves its properties as they were.
     ensures room { room row.old ≤ room row.new }
     ensures err { OnErr result (row.new.items ≡ row.old.items) }
     ensures indexed { IsIndexedIn indexes.new.entries number row.new.items }
@@ -116,7 +116,7 @@ fn write_first(
     requires first { is_proper first ≡ true }
     requires empty { IsEmptyList empty }
     requires values { IsProperRow row.old }
-    requires list { holds_pair (value_by same_number (plist_of row.old) indicator) ≡ true }
+    requires list { holds_pair (value_beside same_number (plist_of row.old) indicator) ≡ true }
     requires indexed { IsIndexedIn indexes.now.entries number row.old.items }
 
     // The list has the item first, and without it is as it was.
@@ -126,7 +126,7 @@ fn write_first(
     ensures values { IsProperRow row.new }
     ensures former { IfOk result IsProperChange }
 
-    // What the next change rests on.
+    // No less room is in the row, and its index fits it; out of memory leaves its properties as they were.
     ensures room { room row.old ≤ room row.new }
     ensures err { OnErr result (plist_of row.new ≡ plist_of row.old) }
     ensures indexed { IsIndexedIn indexes.now.entries number row.new.items }
@@ -147,7 +147,7 @@ fn cut(row: &mut Row, indexes: &Indexes, number: u32, indicator: u32) -> Option<
     ensures after { plist_of row.new
         ≡ without_value_by same_number (plist_of row.old) indicator }
     ensures had { is_some result
-        ≡ is_some (value_by same_number (plist_of row.old) indicator) }
+        ≡ is_some (value_beside same_number (plist_of row.old) indicator) }
     ensures back { IfSome result (GoesBack (plist_of row.old) (plist_of row.new)) }
     ensures values { IsProperRow row.old → IsProperRow row.new }
     ensures former { IsProperRow row.old → IfSome result IsProperChange }
@@ -172,7 +172,7 @@ fn revert(row: &mut Row, indexes: &mut Indexes, number: u32, change: PropertyCha
     ensures after { plist_of row.new ≡ list_before change (plist_of row.old) }
     ensures values { IsProperRow row.old → IsProperRow row.new }
 
-    // What the next change rests on.
+    // No less room is in the row, its index fits it, and other rows keep theirs.
     ensures room { room row.old ≤ room row.new }
     ensures indexed { IsIndexedIn indexes.new.entries number row.new.items }
     ensures others { KeepsOthers indexes.old.entries indexes.new.entries number }
@@ -240,10 +240,10 @@ fn write_at(
     ensures ok { IfOk result (λ _. lists_of rows.new
         ≡ with_value_in (lists_of rows.old) number indicator (object_of value)) }
     ensures back { IfOk result
-        (GoesBack (row_of (lists_of rows.old) number) (row_of (lists_of rows.new) number)) }
+        (GoesBack (plist_of_number (lists_of rows.old) number) (plist_of_number (lists_of rows.new) number)) }
     ensures former { IfOk result IsProperChange }
 
-    // What the next change rests on.
+    // No row has less room, and each index fits its row; out of memory leaves all properties as they were.
     ensures wider { IsWider rows.old.items rows.new.items }
     ensures err { OnErr result (lists_of rows.new ≡ lists_of rows.old) }
     ensures indexed { AreIndexed rows.new.items indexes.new.entries }
@@ -272,10 +272,10 @@ pub(crate) fn put(
     ensures ok { IfOk result (λ _. lists_of rows.new
         ≡ with_value_in (lists_of rows.old) number indicator (object_of value)) }
     ensures back { IfOk result
-        (GoesBack (row_of (lists_of rows.old) number) (row_of (lists_of rows.new) number)) }
+        (GoesBack (plist_of_number (lists_of rows.old) number) (plist_of_number (lists_of rows.new) number)) }
     ensures former { IfOk result IsProperChange }
 
-    // What the next change rests on.
+    // No row has less room, and each index fits its row; out of memory leaves all properties as they were.
     ensures wider { IsWider rows.old.items rows.new.items }
     ensures err { OnErr result (lists_of rows.new ≡ lists_of rows.old) }
     ensures indexed { AreIndexed rows.new.items indexes.new.entries }
@@ -301,10 +301,10 @@ pub(crate) fn push(
     ensures ok { IfOk result (λ _. lists_of rows.new
         ≡ with_pushed_in (lists_of rows.old) number indicator (object_of first)) }
     ensures back { IfOk result
-        (GoesBack (row_of (lists_of rows.old) number) (row_of (lists_of rows.new) number)) }
+        (GoesBack (plist_of_number (lists_of rows.old) number) (plist_of_number (lists_of rows.new) number)) }
     ensures former { IfOk result IsProperChange }
 
-    // What the next change rests on.
+    // No row has less room, and each index fits its row; out of memory leaves all properties as they were.
     ensures wider { IsWider rows.old.items rows.new.items }
     ensures err { OnErr result (lists_of rows.new ≡ lists_of rows.old) }
     ensures indexed { AreIndexed rows.new.items indexes.now.entries }
@@ -332,7 +332,7 @@ pub(crate) fn remove(
     ensures had { is_some result
         ≡ is_some (value_in (lists_of rows.old) number indicator) }
     ensures back { IfSome result
-        (GoesBack (row_of (lists_of rows.old) number) (row_of (lists_of rows.new) number)) }
+        (GoesBack (plist_of_number (lists_of rows.old) number) (plist_of_number (lists_of rows.new) number)) }
     ensures former { IfSome result IsProperChange }
     ensures wider { IsWider rows.old.items rows.new.items }
     ensures indexed { AreIndexed rows.new.items indexes.now.entries }
@@ -353,10 +353,10 @@ pub(crate) fn take_back(
     requires former { IsProperChange change }
     requires values { IsProperRows rows.old.items }
     requires indexed { AreIndexed rows.old.items indexes.old.entries }
-    requires room { length (list_before change (row_of (lists_of rows.old) number))
+    requires room { length (list_before change (plist_of_number (lists_of rows.old) number))
         ≤ room_at rows.old.items number }
     ensures after { lists_of rows.new
-        ≡ with_row (lists_of rows.old) number (list_before change (row_of (lists_of rows.old) number)) }
+        ≡ with_row (lists_of rows.old) number (list_before change (plist_of_number (lists_of rows.old) number)) }
     ensures wider { IsWider rows.old.items rows.new.items }
     ensures indexed { AreIndexed rows.new.items indexes.new.entries }
 {

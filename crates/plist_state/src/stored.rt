@@ -7,9 +7,9 @@ ghost use Rattle.plist_state.specs.Pushed.{holds_pair, with_pushed_in};
 ghost use Rattle.plist_state.specs.Popped.{with_popped_in};
 ghost use Rattle.plist_state.specs.State.{first_readtables};
 ghost use Rattle.plist_state.specs.Lists.{value_in, with_value_in, without_value_in};
-ghost use Rattle.plist_state.specs.Shown.{NumberedRest, first_numbered, rest_of, lists_of, readtables_of};
-ghost use Rattle.plist_state.specs.Indexed.{AreIndexed};
-ghost use Rattle.plist_state.specs.Kept.{IsProperRows, IsWider};
+ghost use Rattle.plist_state.specs.Views.{NumberedRest, first_numbered, rest_of, lists_of, readtables_of};
+ghost use Rattle.plist_state.specs.RowIndexes.{AreIndexed};
+ghost use Rattle.plist_state.specs.KeptRows.{IsProperRows, IsWider};
 ghost use Rattle.plist_state.specs.Undoing.{undone, element_count};
 ghost use Rattle.plist_state.specs.declared.note.Note.TheVariants.{Property};
 ghost use Rattle.plist_state.specs.Journal.{marks_of, Continues};
@@ -156,7 +156,7 @@ pub(crate) fn push(
         }) }
     ensures err { OnErr result (rest_of stored.new ≡ rest_of stored.old) }
 
-    // What the next change rests on.
+    // No row has less room, each index fits its row, and the marks lead back to what they led back to.
     ensures wider { IsWider stored.old.properties.items stored.new.properties.items }
     ensures indexed { AreIndexed stored.new.properties.items stored.new.indexes.entries }
     ensures marked { Continues (marks_of marks.old.items) (rest_of stored.old)
@@ -200,7 +200,7 @@ fn shorten(
         }) }
     ensures err { OnErr result (rest_of stored.new ≡ rest_of stored.old) }
 
-    // What the next change rests on.
+    // No row has less room, each index fits its row, and the marks lead back to what they led back to.
     ensures wider { IsWider stored.old.properties.items stored.new.properties.items }
     ensures indexed { AreIndexed stored.new.properties.items stored.new.indexes.entries }
     ensures marked { Continues (marks_of marks.old.items) (rest_of stored.old)
@@ -238,7 +238,7 @@ pub(crate) fn pop(
         }) }
     ensures err { OnErr result (rest_of stored.new ≡ rest_of stored.old) }
 
-    // What the next change rests on.
+    // No row has less room, each index fits its row, and the marks lead back to what they led back to.
     ensures wider { IsWider stored.old.properties.items stored.new.properties.items }
     ensures indexed { AreIndexed stored.new.properties.items stored.new.indexes.entries }
     ensures marked { Continues (marks_of marks.old.items) (rest_of stored.old)
@@ -289,7 +289,7 @@ pub(crate) fn remove(
         (is_some (value_in (rest_of stored.old).properties number indicator) ≡ true) }
     ensures err { OnErr result (rest_of stored.new ≡ rest_of stored.old) }
 
-    // What the next change rests on.
+    // No row has less room, each index fits its row, and the marks lead back to what they led back to.
     ensures wider { IsWider stored.old.properties.items stored.new.properties.items }
     ensures indexed { AreIndexed stored.new.properties.items stored.new.indexes.entries }
     ensures marked { Continues (marks_of marks.old.items) (rest_of stored.old)

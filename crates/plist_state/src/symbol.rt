@@ -1,6 +1,6 @@
 //! Interned symbols, owned and borrowed.
 ghost use Rattle.std.specs.Prelude.{◌≡◌, IfOk};
-ghost use Rattle.plist_state.specs.Shown.{symbol_of, symbol_named};
+ghost use Rattle.plist_state.specs.Views.{symbol_of, symbol_named};
 
 use lisp_object::Bytes;
 use std::alloc::{AllocError, Global};

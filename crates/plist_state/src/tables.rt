@@ -4,10 +4,10 @@ ghost use Rattle.std.specs.Option.{option_map};
 ghost use Rattle.std.specs.FinMap as finite;
 ghost use Rattle.readtable_core.specs.Names.{is_dispatch_name};
 ghost use Rattle.readtable_core.specs.Tables.{Table, entry_at};
-ghost use Rattle.readtable_core.specs.Changes.{with_entry, dispatch_refusal};
+ghost use Rattle.readtable_core.specs.Changes.{with_character_entry, dispatch_refusal};
 ghost use Rattle.plist_state.specs.declared.error.ReadtableError.TheVariants.{OutOfMemory};
-ghost use Rattle.plist_state.specs.Changes.{writable, with_case, with_macro, with_dispatching, with_dispatch, with_syntax, refused_as, Gives};
-ghost use Rattle.plist_state.specs.Shown.{readtables_of};
+ghost use Rattle.plist_state.specs.Changes.{writable, with_case, with_macro, with_dispatching, with_dispatch, with_syntax, refused_as, AnswersReadtables};
+ghost use Rattle.plist_state.specs.Views.{readtables_of};
 ghost use Rattle.plist_state.specs.Undoing.{table_before, tables_before};
 ghost use Rattle.plist_state.specs.Journal.{marks_of, has_room, IsTableChange, IsEntryNote, ContinuesTables};
 
@@ -124,7 +124,7 @@ pub(crate) fn set_case(
     name: &[u8],
     letters: Case,
 ) -> Result<(), ReadtableError>
-    ensures gives { Gives (λ _. readtables_of tables.new) result
+    ensures gives { AnswersReadtables (λ _. readtables_of tables.new) result
         (with_case (readtables_of tables.old) name.now letters) }
     ensures unchanged { IfErr result (λ _. readtables_of tables.new ≡ readtables_of tables.old) }
     ensures marked { ContinuesTables (marks_of marks.old.items) (readtables_of tables.old)
@@ -159,7 +159,7 @@ pub(crate) fn set_macro(
 ) -> Result<(), ReadtableError>
     requires character { c < 128 }
     requires name { IsFalse (is_dispatch_name function) }
-    ensures gives { Gives (λ _. readtables_of tables.new) result
+    ensures gives { AnswersReadtables (λ _. readtables_of tables.new) result
         (with_macro (readtables_of tables.old) name.now c function non_terminating) }
     ensures unchanged { IfErr result (λ _. readtables_of tables.new ≡ readtables_of tables.old) }
     ensures marked { ContinuesTables (marks_of marks.old.items) (readtables_of tables.old)
@@ -185,7 +185,7 @@ pub(crate) fn make_dispatch(
     non_terminating: bool,
 ) -> Result<(), ReadtableError>
     requires { c < 128 }
-    ensures gives { Gives (λ _. readtables_of tables.new) result
+    ensures gives { AnswersReadtables (λ _. readtables_of tables.new) result
         (with_dispatching (readtables_of tables.old) name.now c non_terminating) }
     ensures unchanged { IfErr result (λ _. readtables_of tables.new ≡ readtables_of tables.old) }
     ensures marked { ContinuesTables (marks_of marks.old.items) (readtables_of tables.old)
@@ -216,7 +216,7 @@ pub(crate) fn set_dispatch(
     requires character { c < 128 }
     requires sub_character { sub < 128 }
     requires name { IsFalse (is_dispatch_name function) }
-    ensures gives { Gives (λ _. readtables_of tables.new) result
+    ensures gives { AnswersReadtables (λ _. readtables_of tables.new) result
         (with_dispatch (readtables_of tables.old) name.now c sub function) }
     ensures unchanged { IfErr result (λ _. readtables_of tables.new ≡ readtables_of tables.old) }
     ensures marked { ContinuesTables (marks_of marks.old.items) (readtables_of tables.old)
@@ -246,7 +246,7 @@ fn put_entry(
     requires there { IsTrue (finite.contains_key (readtables_of tables.old) name.now) }
     ensures after { let m = readtables_of tables.old in (t : Table)
         → finite.get m name.now ≡ Some t
-        → readtables_of tables.new ≡ finite.insert m name.now (with_entry t c entry) }
+        → readtables_of tables.new ≡ finite.insert m name.now (with_character_entry t c entry) }
     ensures before { (t : Table) → finite.get (readtables_of tables.old) name.now ≡ Some t
         → result ≡ entry_at t c }
 {
@@ -268,7 +268,7 @@ pub(crate) fn set_syntax(
 ) -> Result<(), ReadtableError>
     requires to { c < 128 }
     requires from { d < 128 }
-    ensures gives { Gives (λ _. readtables_of tables.new) result
+    ensures gives { AnswersReadtables (λ _. readtables_of tables.new) result
         (with_syntax (readtables_of tables.old) to.now c from.now d) }
     ensures unchanged { IfErr result (λ _. readtables_of tables.new ≡ readtables_of tables.old) }
     ensures marked { ContinuesTables (marks_of marks.old.items) (readtables_of tables.old)

@@ -2,9 +2,9 @@
 //! for it, the list has no index from then on.
 ghost use Rattle.std.specs.Prelude.{◌≡◌, ◌<◌, length, take, Some};
 ghost use Rattle.std.specs.List.{slice_get};
-ghost use Rattle.plist_state.specs.Shown.{rest_of};
-ghost use Rattle.plist_state.specs.Indexed.{AreIndexed};
-ghost use Rattle.plist_state.specs.Kept.{IsProperRows, IsWider};
+ghost use Rattle.plist_state.specs.Views.{rest_of};
+ghost use Rattle.plist_state.specs.RowIndexes.{AreIndexed};
+ghost use Rattle.plist_state.specs.KeptRows.{IsProperRows, IsWider};
 ghost use Rattle.plist_state.specs.Undoing.{undone, all_undone, rests_at};
 ghost use Rattle.plist_state.specs.Journal.{marks_of, IsNoted, IsJournal, FitsRows, LeadsBack};
 
@@ -64,7 +64,7 @@ pub(crate) fn undo_to(stored: &mut Stored, marks: &mut Vec<Vec<Note>>, mark: usi
         ≡ Some (rest_of stored.new) }
     ensures count { length marks.new.items ≡ mark }
 
-    // What the next change rests on.
+    // The notes that are left lead back from what is stored; no row has less room, and each index fits its row.
     ensures journal { IsJournal (marks_of marks.new.items) (rest_of stored.new)
         stored.new.properties.items }
     ensures wider { IsWider stored.old.properties.items stored.new.properties.items }

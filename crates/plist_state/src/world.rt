@@ -4,9 +4,9 @@ ghost use Rattle.std.specs.Option.{option_map};
 ghost use Rattle.std.specs.FinMap as finite;
 ghost use Rattle.lisp_object.specs.Datum.{object_of, is_proper};
 ghost use Rattle.plist_state.specs.Changes.{plist, property};
-ghost use Rattle.plist_state.specs.Marked.{worlds_in, IsReplaced};
+ghost use Rattle.plist_state.specs.MarkedWorlds.{worlds_in, IsReplaced};
 ghost use Rattle.plist_state.specs.Pushed.{pair_size};
-ghost use Rattle.plist_state.specs.Shown.{symbol_of, symbol_named};
+ghost use Rattle.plist_state.specs.Views.{symbol_of, symbol_named};
 ghost use Rattle.plist_state.specs.Sound.{IsSoundWorld};
 ghost use Rattle.plist_state.specs.State.{initial};
 
@@ -63,7 +63,7 @@ impl Model for World {
 
     ghost coded = { worlds_code };
 
-    ghost use Rattle.plist_state.specs.Marked.{worlds_of, HasKeptWorld};
+    ghost use Rattle.plist_state.specs.MarkedWorlds.{worlds_of, HasKeptWorld};
 
     ghost view = { worlds_of };
 

@@ -2,17 +2,17 @@
 use Rattle.std.proofs.Common.{◌≡◌, [], Some, None, refl, subst, arith}
 use Rattle.disk_trait.specs.Disk.{State}
 use Rattle.disk_trait.specs.Moments.{weaker}
-use Rattle.gate_log.specs.Step.{Rests}
+use Rattle.gate_log.specs.Step.{WritesNothing}
 use Rattle.plist_state.specs.State.{WorldState}
 use Rattle.prevalence_store.specs.Theorem.{Keeps, MeansSome, Survives}
 use Rattle.prevalence_store.specs.meaning.Files.{MeansWorld}
 use Rattle.prevalence_store.proofs.Surviving.{no_forms}
 use Rattle.user_macros.specs.Functions.{Functions}
 
-pub still_keeps : (functions : Functions) (s t : State) (w : WorldState) → Rests s t → Keeps functions s w → Keeps functions t w
+pub still_keeps : (functions : Functions) (s t : State) (w : WorldState) → WritesNothing s t → Keeps functions s w → Keeps functions t w
 still_keeps functions s t w rests keeps = λ image may. keeps image (rests.crash image may)
 
-pub rested_survives : (functions : Functions) (s t : State) (w : WorldState) → Rests s t → t.honest ≡ s.honest → t.failures ≡ s.failures → Keeps functions s w
+pub rested_survives : (functions : Functions) (s t : State) (w : WorldState) → WritesNothing s t → t.honest ≡ s.honest → t.failures ≡ s.failures → Keeps functions s w
     → Survives functions s t w [] 0 (Some w)
 rested_survives functions s t w rests honest calm keeps = record {
   accepted = refl;

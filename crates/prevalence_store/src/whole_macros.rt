@@ -27,14 +27,14 @@ impl<R: MacroFunctions> Model for WholeMacros<R> {
 }
 
 impl<R: MacroFunctions> WholeMacros<R> {
-    /// What they mean.
+    /// What the macro functions mean: their names, how each gathers, and what each answers.
     pub fn meaning(&self) -> &R::Meaning
         ensures { result.now ≡ R.meant self.now }
     {
         self.functions.meaning()
     }
 
-    /// The functions themselves.
+    /// The functions that are registered, of which none is missing.
     pub fn functions(&self) -> &R
         ensures value { result.now ≡ self.now }
         ensures answers { R.answers result.now }

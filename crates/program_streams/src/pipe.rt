@@ -11,6 +11,7 @@ pub struct Pipe<'a, W> {
 }
 
 impl<'a, W> Pipe<'a, W> {
+    /// The cell is set once nobody reads the output any more.
     pub fn new(output: W, is_closed: &'a Cell<bool>) -> Pipe<'a, W> {
         Pipe { output, is_closed }
     }

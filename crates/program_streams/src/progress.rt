@@ -34,7 +34,8 @@ pub struct Progress<'a, R, I, T> {
 }
 
 impl<'a, R: Clock, I, T> Progress<'a, R, I, T> {
-    /// Before the first byte of an input of so many bytes, if that is known. The cell is that of the `Cleared`.
+    /// An input of which nothing was read yet, of `whole` bytes if that is known. `stands` says whether the line of it stands at the terminal;
+    /// the `Cleared` of that terminal has the same cell.
     pub fn new(
         clock: &'a R,
         input: I,
@@ -159,7 +160,7 @@ pub struct Cleared<'a, T> {
 }
 
 impl<'a, T> Cleared<'a, T> {
-    /// The cell is that of the `Progress`.
+    /// A writer to the terminal at which a `Progress` has its line, which has the same cell.
     pub fn new(terminal: T, stands: &'a Cell<bool>) -> Cleared<'a, T> {
         Cleared { terminal, stands }
     }

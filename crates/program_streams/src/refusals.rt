@@ -19,7 +19,7 @@ pub struct Counts {
 }
 
 impl Counts {
-    /// None.
+    /// No value and no refusal was counted.
     pub fn new() -> Counts
         ensures { result ≡ record { values = 0; refusals = 0 } }
     {
@@ -99,7 +99,8 @@ impl<O> Refusals<O> {
     fn note(&mut self, byte: u8) -> Result<(), AllocError>
         ensures output { self.new.output ≡ self.old.output }
         ensures at { OnOk result (self.new.at ≡ after self.old.at byte) }
-        ensures refusals { OnOk result (self.new.refusals.items ≡ self.old.refusals.items ++ passed self.old.at byte) }
+        ensures refusals { OnOk result (self.new.refusals.items
+            ≡ self.old.refusals.items ++ passed self.old.at byte) }
         ensures counts { OnOk result (self.new.counts ≡ counted_byte self.old.at self.old.counts byte) }
     {
         match self.at {

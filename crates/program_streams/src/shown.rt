@@ -8,6 +8,7 @@ pub struct ShownText<'a, W> {
 }
 
 impl<'a, W> ShownText<'a, W> {
+    /// Writes to this writer, and shows what a terminal may obey in another way.
     pub fn new(writer: &'a mut W) -> ShownText<'a, W> {
         ShownText { writer }
     }

@@ -14,6 +14,7 @@ pub struct Uninterrupted<S> {
 }
 
 impl<S> Uninterrupted<S> {
+    /// The same stream, whose calls are made again where they were interrupted.
     pub fn new(stream: S) -> Uninterrupted<S>
         ensures { result.stream ≡ stream }
     {

@@ -7,8 +7,8 @@ ghost use Rattle.gate_log.specs.Log.{FilesMean};
 ghost use Rattle.gate_log.specs.Opening.{Warrants};
 ghost use Rattle.gate_log.specs.declared.error.OpenRefusal.{OpenRefusal};
 ghost use Rattle.log_look.specs.Live.{IsHonestWatch};
-ghost use Rattle.log_look.specs.Rest.{AreAtRest};
-ghost use Rattle.log_look.specs.SeenState.{state_of};
+ghost use Rattle.log_look.specs.FilesAtRest.{AreAtRest};
+ghost use Rattle.log_look.specs.SeenState.{state_of_sight};
 
 use crate::logs::{opened, taken};
 use crate::troubled_disks::HALF;
@@ -46,12 +46,12 @@ fn seen_at_rest<F: LiveFiles>(alloc: Global, files: &mut F) -> Option<Sight>
     ensures means { (image : Image) → IsHonestWatch (F.watch files.old)
         → AreAtRest (F.watch files.old).files (F.watch files.old).now (F.watch files.new).now image
         → IfSome result (λ sight. (k : Option Contents)
-        → (FilesMean k image → FilesMean k (state_of sight).reads) × (FilesMean k (state_of sight).reads → FilesMean k image)) }
+        → (FilesMean k image → FilesMean k (state_of_sight sight).reads) × (FilesMean k (state_of_sight sight).reads → FilesMean k image)) }
     ensures refused { (image : Image) → IsHonestWatch (F.watch files.old)
         → AreAtRest (F.watch files.old).files (F.watch files.old).now (F.watch files.new).now image
         → IfSome result (λ sight. (e : OpenRefusal)
-        → (Warrants e image → Warrants e (state_of sight).reads) × (Warrants e (state_of sight).reads → Warrants e image)) }
-    ensures room { IfSome result (λ sight. (state_of sight).failures ≡ 0) }
+        → (Warrants e image → Warrants e (state_of_sight sight).reads) × (Warrants e (state_of_sight sight).reads → Warrants e image)) }
+    ensures room { IfSome result (λ sight. (state_of_sight sight).failures ≡ 0) }
 {
     a_sight_means_the_same();
     match look(alloc, files) {

@@ -5,7 +5,7 @@ ghost use Rattle.package_table.specs.Lookup.{found, is_used};
 ghost use Rattle.package_table.specs.Readers.{imports};
 ghost use Rattle.package_table.specs.Table.{Name, symbol_count};
 ghost use Rattle.plist_state.specs.Readers.{borrowed_symbols};
-ghost use Rattle.plist_state.specs.Sound.{IsSound};
+ghost use Rattle.plist_state.specs.Sound.{IsSoundWorldState};
 
 use forgetting_laws::{forgettable_symbols_go, imports_stay};
 use forgotten_names::{
@@ -30,7 +30,7 @@ fn without_unneeded<M: MacroFunctions>(
     macros: &M,
 ) -> Result<(World, usize), AllocError>
     requires answers { M.answers macros.now }
-    ensures sound { IfOk result (λ left. IsSound left.0.0) }
+    ensures sound { IfOk result (λ left. IsSoundWorldState left.0.0) }
     ensures again { IfOk result (λ left. forgotten (borrowed_symbols held.now) left.0.0 ≡ left.0.0) }
     ensures count { IfOk result (λ left. symbol_count left.0.0.packages + left.1 ≡ symbol_count world.now.0.packages) }
     ensures none { IfOk result (λ left. left.1 ≡ 0 → left.0.0 ≡ world.now.0) }

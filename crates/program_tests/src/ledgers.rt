@@ -3,7 +3,7 @@ ghost use Rattle.std.specs.Prelude.{◌≡◌, ◌≤◌, ◌<◌, ◌-◌, ◌^
 ghost use Rattle.disk_trait.specs.Disk.{Image, IsHonest};
 ghost use Rattle.plist_state.specs.State.{WorldState};
 ghost use Rattle.sessions.specs.Account.{first_account};
-ghost use Rattle.session_ledger.specs.Went.{Went, calls_in, disk_at};
+ghost use Rattle.session_ledger.specs.OutgoingLines.{Went, calls_in, disk_at};
 ghost use Rattle.store_laws.specs.Batches.{MeansCalls};
 
 use crate::again::AMPLE;

@@ -1,7 +1,7 @@
 //! Requests that have no room.
 ghost use Rattle.std.specs.Prelude.{◌≡◌, ◌<◌, ◌-◌, ◌^◌, Some, true};
 ghost use Rattle.plist_state.specs.State.{WorldState};
-ghost use Rattle.messages.specs.Refusals.{HasNoRoom};
+ghost use Rattle.messages.specs.Refusals.{MessagesHaveNoRoom};
 
 use crate::batches::long_form;
 use disk_trait::{Disk, MemoryDisk};
@@ -26,7 +26,7 @@ fn has_no_room<D: Disk, M: MacroFunctions>(
     requests: &[Request<'_>],
 ) -> bool
     ensures { (world : WorldState) → store.old.world ≡ Some world → result ≡ true → (store.new ≡ store.old)
-        × HasNoRoom M.Meaning.functions D.state store.old store.new world last requests.now }
+        × MessagesHaveNoRoom M.Meaning.functions D.state store.old store.new world last requests.now }
 {
     refusals_have_causes::<D, M>();
     match answer_requests(store, last, requests) {

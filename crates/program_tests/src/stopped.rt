@@ -1,13 +1,13 @@
 //! A disk in memory that crashes.
 ghost use Rattle.std.specs.Prelude.{◌≡◌, IfSome};
-ghost use Rattle.disk_trait.specs.Disk.{IsHonest, IsSound};
+ghost use Rattle.disk_trait.specs.Disk.{IsHonest, IsSoundDisk};
 ghost use Rattle.disk_trait.specs.Memory.{state_of};
 
 use disk_trait::{Crash, Disk, MemoryDisk};
 
 /// Does nothing. How an honest disk stands between its calls.
 fn stands<D: Disk>(disk: &D)
-    ensures { IsHonest (D.state disk.now) → IsSound (D.state disk.now) }
+    ensures { IsHonest (D.state disk.now) → IsSoundDisk (D.state disk.now) }
 {
     let _ = disk;
 }

@@ -15,7 +15,7 @@ use Rattle.std.proofs.Math.Seq.{take-append_seam, drop-append_seam, take-append-
 use Rattle.std.proofs.lemmas.List.{take-append-drop, length-append, length-take-le, length-drop, length_push, append_assoc}
 use Rattle.std.specs.List.{slice_index_or}
 use Rattle.property_rows.specs.declared.slot.Slot.{Slot}
-use Rattle.property_rows.specs.Slots.{is_gone, property_in, there, gone_in, slot_at, full, IsNode, IsCounted, IsTree, IsWhole, IsSlots}
+use Rattle.property_rows.specs.Slots.{is_gone, property_in, there, gone_in, slot_at, full, IsNode, IsCounted, IsTree, IsTreeSize, IsSlots}
 
 pub there-append : (a b : List Slot) → there (a ++ b) ≡ there a ++ there b
 there-append [] b = refl
@@ -278,17 +278,17 @@ counted-any d e slots le counted =
     let both : raise e d ≡ raise d e = omega (arith, one, two) in
     lower d e slots le (subst (λ n. IsCounted n slots) both (higher e d slots counted))
 
-pub tree-any : (size other : ℕ) (slots : List Slot) → IsWhole other → length slots ≤ other → IsTree size slots → IsTree other slots
+pub tree-any : (size other : ℕ) (slots : List Slot) → IsTreeSize other → length slots ≤ other → IsTree size slots → IsTree other slots
 tree-any size other slots whole le tree =
     let is = whole.whole in
     record { depth = whole.depth; whole = is; counted = counted-any tree.depth whole.depth slots (omega (arith, le, is)) tree.counted }
 
-pub tree-whole : (size : ℕ) (slots : List Slot) → IsTree size slots → IsWhole size
+pub tree-whole : (size : ℕ) (slots : List Slot) → IsTree size slots → IsTreeSize size
 tree-whole size slots tree = record { depth = tree.depth; whole = tree.whole }
 
-pub whole-half : (size : ℕ) → (size ≡ 0 → ⊥) → IsWhole size → IsWhole (size / 2)
+pub whole-half : (size : ℕ) → (size ≡ 0 → ⊥) → IsTreeSize size → IsTreeSize (size / 2)
 whole-half size some whole =
-    elim whole.depth as (λ d. size ≡ full d → IsWhole (size / 2)) [
+    elim whole.depth as (λ d. size ≡ full d → IsTreeSize (size / 2)) [
       | zero ↦ λ is. absurd (some is)
       | suc d ↦ λ is. record { depth = d; whole = omega (arith, is) }
     ] whole.whole
@@ -297,7 +297,7 @@ pub tree-half : (size : ℕ) (slots : List Slot) → (size ≡ 0 → ⊥) → le
 tree-half size slots some le tree = tree-any size (size / 2) slots (whole-half size some (tree-whole size slots tree)) le tree
 
 -- a slot, and the trees beside it, are a tree
-pub tree-join : (size : ℕ) (l : List Slot) (s : Slot) (r : List Slot) → (size ≡ 0 → ⊥) → IsWhole size → length l ≡ size / 2 → IsTree (size / 2) l → s.gone / 2 ≡ gone_in l → IsTree (size / 2) r
+pub tree-join : (size : ℕ) (l : List Slot) (s : Slot) (r : List Slot) → (size ≡ 0 → ⊥) → IsTreeSize size → length l ≡ size / 2 → IsTree (size / 2) l → s.gone / 2 ≡ gone_in l → IsTree (size / 2) r
     → IsTree size (l ++ s ∷ r)
 tree-join size l s r some whole long before count after =
     elim whole.depth as (λ d. size ≡ full d → IsTree size (l ++ s ∷ r)) [
@@ -313,10 +313,10 @@ tree-join size l s r some whole long before count after =
           }
     ] whole.whole
 
-pub tree-nil : (size : ℕ) → IsWhole size → IsTree size []
+pub tree-nil : (size : ℕ) → IsTreeSize size → IsTree size []
 tree-nil size whole = record { depth = whole.depth; whole = whole.whole; counted = counted-any zero whole.depth [] (omega arith) refl }
 
-pub whole-double : (size : ℕ) → IsWhole size → IsWhole (2 * size + 1)
+pub whole-double : (size : ℕ) → IsTreeSize size → IsTreeSize (2 * size + 1)
 whole-double size whole = let is = whole.whole in record { depth = suc whole.depth; whole = omega (arith, is) }
 
 -- one slot more

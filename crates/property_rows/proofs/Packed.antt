@@ -13,7 +13,7 @@ use Rattle.std.proofs.lemmas.Iterator.Adapters.{position_from-zero}
 use Rattle.std.proofs.lemmas.List.{length-map, length-take, length-drop, length-append}
 use Rattle.property_rows.specs.declared.slot.Slot.{Slot}
 use Rattle.property_rows.specs.declared.property.NumberedProperty.{NumberedProperty}
-use Rattle.property_rows.specs.Slots.{is_gone, property_in, there, gone_in, full, most_slots, IsNode, IsCounted, IsTree, IsWhole, IsSlots, uncounted, packed, has, no_property}
+use Rattle.property_rows.specs.Slots.{is_gone, property_in, there, gone_in, full, most_slots, IsNode, IsCounted, IsTree, IsTreeSize, IsSlots, uncounted, packed, has, no_property}
 use Rattle.property_rows.proofs.Counted.{counted-any}
 
 pub packed-there : (slots : List Slot) → there (packed slots) ≡ there slots
@@ -73,7 +73,7 @@ uncounted-slots slots few =
     record { counted = λ d le. uncounted-counted d slots (omega (arith, le, long)); few = omega (arith, few, long) }
 
 -- ---- trees of slots
-pub slots-tree : (size : ℕ) (slots : List Slot) → IsWhole size → length slots ≤ size → IsSlots slots → IsTree size slots
+pub slots-tree : (size : ℕ) (slots : List Slot) → IsTreeSize size → length slots ≤ size → IsSlots slots → IsTree size slots
 slots-tree size slots whole le slots_are =
     let is = whole.whole in
     record { depth = whole.depth; whole = is; counted = slots_are.counted whole.depth (omega (arith, le, is)) }

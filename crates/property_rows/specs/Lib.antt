@@ -1,4 +1,4 @@
 pub mod Slots
 pub mod Rows
-pub mod Slotted
+pub mod Views
 pub mod Vacant

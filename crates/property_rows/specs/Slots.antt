@@ -50,7 +50,7 @@ pub record IsTree (size : ℕ) (slots : List Slot) : Type 0 where
   pub counted : IsCounted depth slots
 
 -- a size that such a tree has
-pub record IsWhole (size : ℕ) : Type 0 where
+pub record IsTreeSize (size : ℕ) : Type 0 where
   pub depth : ℕ
   pub whole : size ≡ full depth
 

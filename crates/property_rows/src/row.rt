@@ -32,7 +32,7 @@ impl Model for Row {
 
     ghost coded = { Prim.hlevel (codes, datum_contract.the_row.coded) };
 
-    ghost use Rattle.property_rows.specs.Slotted.{row_in, IsRow};
+    ghost use Rattle.property_rows.specs.Views.{row_in, IsRow};
 
     ghost view = { row_in };
 
@@ -40,7 +40,7 @@ impl Model for Row {
 }
 
 impl Row {
-    /// An empty one.
+    /// A row without properties, which has no memory yet.
     pub fn new(alloc: Global) -> Row
         ensures { result.items ≡ [] }
     {
@@ -117,7 +117,8 @@ impl Row {
     pub fn replace(&mut self, index: usize, value: Datum) -> Datum
         requires { index < length self.old.items }
         ensures value { result ≡ (slice_index_or self.old.items index no_property).value }
-        ensures items { self.new.items ≡ slice_set self.old.items index (with_value (slice_index_or self.old.items index no_property) value) }
+        ensures items { self.new.items
+            ≡ slice_set self.old.items index (with_value (slice_index_or self.old.items index no_property) value) }
         ensures room { room self.new ≡ room self.old }
     {
         exchange(self.slots.as_mut_slice(), index, value)
@@ -141,9 +142,10 @@ impl Row {
         None
     }
 
-    /// Adds a property at the end.
+    /// Adds a property at the end. Where memory runs out, the row is as it was.
     pub fn push(&mut self, property: NumberedProperty) -> Result<(), AllocError>
-        ensures items { self.new.items ≡ (if is_ok result then self.old.items ++ property ∷ [] else self.old.items) }
+        ensures items { self.new.items
+            ≡ (if is_ok result then self.old.items ++ property ∷ [] else self.old.items) }
         ensures room { room self.old ≤ room self.new }
     {
         append(&mut self.slots, property)
@@ -192,10 +194,12 @@ impl Row {
         }
     }
 
-    /// A property comes to an index. It takes no memory where there is memory for one more.
+    /// A property comes to an index, before those from there on. It takes no memory where there is memory for one more; where memory runs
+    /// out, the row is as it was.
     pub fn insert(&mut self, index: usize, property: NumberedProperty) -> Result<(), AllocError>
         requires { index ≤ length self.old.items }
-        ensures items { self.new.items ≡ (if is_ok result then insert self.old.items index property else self.old.items) }
+        ensures items { self.new.items
+            ≡ (if is_ok result then insert self.old.items index property else self.old.items) }
         ensures room { room self.old ≤ room self.new }
         ensures succeeds { length self.old.items < room self.old → IsOk result }
     {

@@ -172,7 +172,8 @@ pub(crate) fn exchange(slots: &mut [Slot], index: usize, value: Datum) -> Datum
     requires index { index < length (there slots.old) }
     ensures slots { IsSlots slots.new }
     ensures value { result ≡ (slice_index_or (there slots.old) index no_property).value }
-    ensures items { there slots.new ≡ slice_set (there slots.old) index (with_value (slice_index_or (there slots.old) index no_property) value) }
+    ensures items { there slots.new ≡ slice_set (there slots.old) index
+        (with_value (slice_index_or (there slots.old) index no_property) value) }
 {
     let at = place(slots, index);
     mem::replace(&mut slots[at].value, value)
@@ -182,7 +183,8 @@ pub(crate) fn exchange(slots: &mut [Slot], index: usize, value: Datum) -> Datum
 pub(crate) fn append(slots: &mut Vec<Slot>, property: NumberedProperty) -> Result<(), AllocError>
     requires { IsSlots slots.old.items }
     ensures slots { IsSlots slots.new.items }
-    ensures items { there slots.new.items ≡ (if is_ok result then there slots.old.items ++ property ∷ [] else there slots.old.items) }
+    ensures items { there slots.new.items
+        ≡ (if is_ok result then there slots.old.items ++ property ∷ [] else there slots.old.items) }
     ensures capacity { vec_capacity slots.old ≤ vec_capacity slots.new }
 {
     let count = slots.len();
@@ -208,7 +210,8 @@ pub(crate) fn drop_last(slots: &mut Vec<Slot>)
     requires some { 0 < length slots.old.items }
     requires last { is_gone (slice_index_or slots.old.items (length slots.old.items - 1) blank) ≡ false }
     ensures slots { IsSlots slots.new.items }
-    ensures items { there slots.new.items ≡ take (length (there slots.old.items) - 1) (there slots.old.items) }
+    ensures items { there slots.new.items
+        ≡ take (length (there slots.old.items) - 1) (there slots.old.items) }
     ensures capacity { vec_capacity slots.new ≡ vec_capacity slots.old }
 {
     let _ = slots.pop();
@@ -223,9 +226,11 @@ pub(crate) fn put_in(
     requires slots { IsSlots slots.old.items }
     requires index { index ≤ length (there slots.old.items) }
     ensures slots { IsSlots slots.new.items }
-    ensures items { there slots.new.items ≡ (if is_ok result then insert (there slots.old.items) index property else there slots.old.items) }
+    ensures items { there slots.new.items
+        ≡ (if is_ok result then insert (there slots.old.items) index property else there slots.old.items) }
     ensures capacity { vec_capacity slots.old ≤ vec_capacity slots.new }
-    ensures succeeds { length (there slots.old.items) < vec_capacity slots.old → length (there slots.old.items) < most_slots → IsOk result }
+    ensures succeeds { length (there slots.old.items) < vec_capacity slots.old
+        → length (there slots.old.items) < most_slots → IsOk result }
 {
     pack(slots);
     if slots.len() >= MOST {

@@ -2,14 +2,14 @@
 //! gone in the tree before it.
 ghost use Rattle.std.specs.Prelude.{◌≡◌, ◌+◌, ◌*◌, ◌<◌, ◌≤◌, true, false, not, [], ◌∷◌, ◌++◌, map, length, take, slice_index_or, slice_set};
 ghost use Rattle.property_rows.specs.declared.slot.Slot.{Slot as Kept};
-ghost use Rattle.property_rows.specs.Slots.{IsTree, IsWhole, gone_in, slot_at, is_gone, property_in, shown, blank, most_slots};
+ghost use Rattle.property_rows.specs.Slots.{IsTree, IsTreeSize, gone_in, slot_at, is_gone, property_in, shown, blank, most_slots};
 
 use crate::slot::Slot;
 
 /// The size of a whole tree with room for so many slots.
 pub(crate) fn tree_of(count: usize) -> usize
     requires { count ≤ most_slots }
-    ensures whole { IsWhole result }
+    ensures whole { IsTreeSize result }
     ensures room { count ≤ result }
 {
     let mut size = 0;
@@ -112,7 +112,8 @@ pub(crate) fn turn(slots: &mut [Slot], size: usize, place: usize, leaves: bool)
     requires few { length slots.old ≤ most_slots }
     requires here { is_gone (slice_index_or slots.old place blank) ≡ not leaves }
     ensures tree { IsTree size slots.new }
-    ensures shown { map shown slots.new ≡ slice_set (map shown slots.old) place (leaves, property_in (slice_index_or slots.old place blank)) }
+    ensures shown { map shown slots.new
+        ≡ slice_set (map shown slots.old) place (leaves, property_in (slice_index_or slots.old place blank)) }
 {
     let half = size / 2;
     if slots.len() <= half {

@@ -13,8 +13,8 @@ use Rattle.readtable_core.specs.Cases.{case_name, case_names}
 use Rattle.readtable_core.specs.Characters.{syntax_number, upper_case}
 use Rattle.readtable_core.specs.Names.{is_among, is_standard, is_dispatch_name, dispatch_name}
 use Rattle.readtable_core.specs.Tables.{CharacterEntry, Table, standard, entry_at, dispatch_at, no_entry}
-use Rattle.readtable_core.specs.Changes.{with_entry, with_function, dispatching_entry}
-use Rattle.readtable_core.specs.Named.{same_function, same_entry, functions_at, functions_of}
+use Rattle.readtable_core.specs.Changes.{with_character_entry, with_function, dispatching_entry}
+use Rattle.readtable_core.specs.NamedFunctions.{same_function, same_entry, functions_at, functions_of}
 
 -- the type that a number names
 numbered : ℕ → Syntax
@@ -147,9 +147,9 @@ named_sub_function p t c sub name h e =
 
 -- and each function of the readtable that has another entry in one place, if the functions of that entry pass it
 pub named_after : (p : List ℕ → Bool) (t : Table) (c : ℕ) (x : CharacterEntry) → list_all p (functions_of t) ≡ true → list_all p (functions_at x) ≡ true
-    → list_all p (functions_of (with_entry t c x)) ≡ true
+    → list_all p (functions_of (with_character_entry t c x)) ≡ true
 named_after p t c x e f =
-    all_functions p (with_entry t c x) ∙ each_set (λ y. list_all p (functions_at y)) t.entries c x (sym (all_functions p t) ∙ e) f
+    all_functions p (with_character_entry t c x) ∙ each_set (λ y. list_all p (functions_at y)) t.entries c x (sym (all_functions p t) ∙ e) f
 
 pub named_with_function : (p : List ℕ → Bool) (e : CharacterEntry) (sub : ℕ) (name : List ℕ) → list_all p (functions_at e) ≡ true → p name ≡ true
     → list_all p (functions_at (with_function e sub name)) ≡ true

@@ -10,7 +10,7 @@ use Rattle.readtable_core.specs.Characters.{standard_syntax, is_lower_case, is_d
 use Rattle.readtable_core.specs.Names.{is_function_name, is_dispatch_name}
 use Rattle.readtable_core.specs.Tables.{CharacterEntry, Table, standard, standard_entry, standard_function, standard_sub_function, no_entry}
 use Rattle.readtable_core.specs.Sound.{IsCharacterEntry, IsReadtable, is_macro, is_dispatching, dispatches, is_none_or_name}
-use Rattle.readtable_core.specs.Changes.{with_entry, macro_entry, macro_syntax, dispatching_entry, with_function}
+use Rattle.readtable_core.specs.Changes.{with_character_entry, macro_entry, macro_syntax, dispatching_entry, with_function}
 use Rattle.readtable_core.proofs.Standard.{standard_at, sub_at}
 
 macro_is_macro : (b : Bool) → true ≡ is_macro (macro_syntax b)
@@ -101,7 +101,7 @@ standard_sound = record {
   each = λ c. subst IsCharacterEntry (sym (standard_at c)) (standard_entry_sound c);
 }
 
-pub kept : (t : Table) (c : ℕ) (e : CharacterEntry) → c < 128 → IsReadtable t → IsCharacterEntry e → IsReadtable (with_entry t c e)
+pub kept : (t : Table) (c : ℕ) (e : CharacterEntry) → c < 128 → IsReadtable t → IsCharacterEntry e → IsReadtable (with_character_entry t c e)
 kept t c e below s i = record {
   count = length-set t.entries c e ∙ s.count;
   each = λ k. elim (cases_eq k c) [

@@ -9,12 +9,12 @@ use Rattle.readtable_core.specs.Names.{dispatch_name}
 use Rattle.readtable_core.specs.Tables.{CharacterEntry, Table, entry_at}
 use Rattle.readtable_core.specs.Sound.{is_dispatching}
 
-abbrev pub with_entry : Table → ℕ → CharacterEntry → Table
-with_entry table c e = record table { entries = set table.entries c e }
+abbrev pub with_character_entry : Table → ℕ → CharacterEntry → Table
+with_character_entry table c e = record table { entries = set table.entries c e }
 
 -- the same, if the call that puts it succeeded
 abbrev pub put_if : Bool → Table → ℕ → CharacterEntry → Table
-put_if succeeded table c e = if succeeded then with_entry table c e else table
+put_if succeeded table c e = if succeeded then with_character_entry table c e else table
 
 abbrev pub macro_syntax : Bool → Syntax
 macro_syntax non_terminating = if non_terminating then NonTerminatingMacro else TerminatingMacro

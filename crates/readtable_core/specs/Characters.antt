@@ -63,10 +63,10 @@ traits c =
     else (if is_upper_case c || is_lower_case c then Letter
     else Alphabetic)))))))
 
-abbrev pub is_invalid : Traits → Bool
-is_invalid InvalidTrait = true
-is_invalid _ = false
+abbrev pub is_invalid_trait : Traits → Bool
+is_invalid_trait InvalidTrait = true
+is_invalid_trait _ = false
 
 -- an unescaped constituent with this trait is refused in a token
 abbrev pub has_invalid_trait : ℕ → Bool
-has_invalid_trait c = is_invalid (traits c)
+has_invalid_trait c = is_invalid_trait (traits c)

@@ -2,8 +2,8 @@ pub mod Characters
 pub mod Names
 pub mod Cases
 pub mod Tables
-pub mod Named
+pub mod NamedFunctions
 pub mod Sound
 pub mod Changes
 pub mod Entries
-pub mod Kept
+pub mod Views

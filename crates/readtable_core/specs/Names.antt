@@ -70,6 +70,7 @@ standard_names =
     std_list ∷ std_close ∷ std_quote ∷ std_comment ∷ std_string ∷ std_out ∷ std_char ∷ std_function ∷ std_vector
     ∷ std_uninterned ∷ std_block ∷ std_binary ∷ std_octal ∷ std_hex ∷ std_radix ∷ []
 
+-- whether it is the name of a standard function
 abbrev pub is_standard : List ℕ → Bool
 is_standard name = is_among standard_names name
 

@@ -33,6 +33,7 @@ pub record IsCharacterEntry (e : CharacterEntry) : Type 0 where
   pub name : IsTrue (is_none_or_name e.function)
   pub names : (sub : ℕ) → IsTrue (is_none_or_name (get_or e.dispatch sub None))
 
+-- 128 entries, each of which is one
 pub record IsReadtable (table : Table) : Type 0 where
   pub count : length table.entries ≡ 128
   pub each : (c : ℕ) → IsCharacterEntry (entry_at table c)

@@ -27,6 +27,7 @@ pub record Table : Type 0 where
 abbrev pub no_entry : CharacterEntry
 no_entry = record { syntax = Invalid; function = None; dispatch = [] }
 
+-- the entry of a character; of a number beyond 127 one that is invalid
 abbrev pub entry_at : Table → ℕ → CharacterEntry
 entry_at table c = get_or table.entries c no_entry
 
@@ -71,6 +72,7 @@ standard_sub_function sub =
 abbrev pub standard_dispatch : ℕ → List (Option (List ℕ))
 standard_dispatch c = if c == 35 then map standard_sub_function (range_with_len 0 128) else []
 
+-- what the standard readtable has at a character
 abbrev pub standard_entry : ℕ → CharacterEntry
 standard_entry c = record { syntax = standard_syntax c; function = standard_function c; dispatch = standard_dispatch c }
 

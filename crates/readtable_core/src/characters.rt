@@ -1,6 +1,6 @@
 //! Syntax types and constituent traits of characters.
 ghost use Rattle.std.specs.Prelude.{◌≡◌, is_some, nat_le, IfSome};
-ghost use Rattle.readtable_core.specs.Characters.{standard_syntax, syntax_number, traits, is_invalid};
+ghost use Rattle.readtable_core.specs.Characters.{standard_syntax, syntax_number, traits, is_invalid_trait};
 
 /// The syntax type of a character in a readtable (standard 2.1.4).
 #[derive(Clone, Copy, Debug, PartialEq, Eq)]
@@ -58,7 +58,7 @@ pub enum Traits {
 impl Traits {
     /// Whether an unescaped character with this trait is refused in a token.
     pub fn is_invalid(self) -> bool
-        ensures { result ≡ is_invalid self }
+        ensures { result ≡ is_invalid_trait self }
     {
         matches!(self, Traits::Invalid)
     }

@@ -6,7 +6,7 @@ ghost use Rattle.readtable_core.specs.Names.{is_dispatch_name};
 ghost use Rattle.readtable_core.specs.Tables.{standard_entry, standard_function, standard_sub_function};
 ghost use Rattle.readtable_core.specs.Sound.{IsCharacterEntry, is_dispatching};
 ghost use Rattle.readtable_core.specs.Changes.{with_function, macro_entry, dispatching_entry, macro_syntax};
-ghost use Rattle.readtable_core.specs.Named.{same_entry};
+ghost use Rattle.readtable_core.specs.NamedFunctions.{same_entry};
 
 use crate::characters::standard_syntax_of;
 use crate::names::named;

@@ -16,7 +16,7 @@
 //! Journals keep entries: `entry` copies one, and `put_entry` puts one back and takes no memory; an old entry put back gives
 //! the old readtable. Snapshots write the entries that differ from the standard ones (`same_entry`), by numbers
 //! (`Syntax::number`, `Syntax::from_number`) and names (`Case::name`, `Case::from_name`). What
-//! a readtable names is `functions_of` of `specs/Named.antt`; a caller goes through `entries`, as `covers` of user_macros.
+//! a readtable names is `functions_of` of `specs/NamedFunctions.antt`; a caller goes through `entries`, as `covers` of user_macros.
 //!
 //! Crates above cite these lemmas, and they keep their names:
 //!

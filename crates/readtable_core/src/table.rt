@@ -4,9 +4,9 @@ ghost use Rattle.readtable_core.specs.Tables.{standard, entry_at, dispatch_at};
 ghost use Rattle.readtable_core.specs.Characters.{is_digit};
 ghost use Rattle.readtable_core.specs.Names.{is_among, is_dispatch_name};
 ghost use Rattle.readtable_core.specs.Cases.{case_name, case_names};
-ghost use Rattle.readtable_core.specs.Named.{same_entry};
+ghost use Rattle.readtable_core.specs.NamedFunctions.{same_entry};
 ghost use Rattle.readtable_core.specs.Sound.{IsReadtable, is_dispatching};
-ghost use Rattle.readtable_core.specs.Changes.{put_if, with_entry, macro_entry, dispatching_entry, with_function, dispatch_refusal};
+ghost use Rattle.readtable_core.specs.Changes.{put_if, with_character_entry, macro_entry, dispatching_entry, with_function, dispatch_refusal};
 
 use crate::entry::{dispatching_character, macro_character, standard_character};
 use crate::{CharacterSlot, DispatchRefusal, FnName, Syntax};
@@ -73,7 +73,7 @@ impl Model for Readtable {
 
     ghost Value = { Table };
 
-    ghost use Rattle.readtable_core.specs.Kept.{table_inside, IsTable};
+    ghost use Rattle.readtable_core.specs.Views.{table_inside, IsTable};
 
     ghost view = { table_inside };
 
@@ -182,8 +182,8 @@ impl Readtable {
     pub fn put_entry(&mut self, c: u8, entry: CharacterSlot) -> CharacterSlot
         requires { c < 128 }
         ensures old { result ≡ entry_at self.old c }
-        ensures after { self.new ≡ with_entry self.old c entry }
-        ensures back { with_entry self.new c result ≡ self.old }
+        ensures after { self.new ≡ with_character_entry self.old c entry }
+        ensures back { with_character_entry self.new c result ≡ self.old }
     {
         entry.soundness();
         mem::replace(&mut self.entries[usize::from(c)], entry)
@@ -258,7 +258,7 @@ impl Readtable {
     pub fn set_macro(&mut self, c: u8, name: FnName, non_terminating: bool)
         requires character { c < 128 }
         requires name { IsFalse (is_dispatch_name name) }
-        ensures { self.new ≡ with_entry self.old c (macro_entry name non_terminating) }
+        ensures { self.new ≡ with_character_entry self.old c (macro_entry name non_terminating) }
     {
         let _ = self.put_entry(c, macro_character(self.alloc, name, non_terminating));
     }
@@ -302,7 +302,7 @@ impl Readtable {
         requires digit { IsFalse (is_digit sub) }
         requires name { IsFalse (is_dispatch_name name) }
         requires dispatching { IsTrue (is_dispatching (entry_at self.old c)) }
-        ensures { self.new ≡ with_entry self.old c (with_function (entry_at self.old c) sub name) }
+        ensures { self.new ≡ with_character_entry self.old c (with_function (entry_at self.old c) sub name) }
     {
         let entry = &mut self.entries[usize::from(c)];
         entry.set_function(sub, name);

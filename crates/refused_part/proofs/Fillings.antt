@@ -3,13 +3,13 @@ use Rattle.std.proofs.Common.{◌≡◌, ◌∷◌, [], true, sym, subst}
 use Rattle.lisp_object.specs.Datum.{object_of, is_proper}
 use Rattle.lisp_object.specs.Object.{AllAtoms, list_of}
 use Rattle.lisp_object.specs.declared.datum.Datum.{Datum}
-use Rattle.package_table.specs.Table.{Table, IsSound}
+use Rattle.package_table.specs.Table.{Table, AreSoundPackages}
 use Rattle.form_eval.specs.Laws.{FitsTable}
 use Rattle.refused_part.specs.Places.{both, no_form, quotation, quote_of_none}
 use Rattle.refused_part.specs.Search.{MayTry}
 use Rattle.refused_part.proofs.Fitting.{no_form_fits, none_fits, both_fit, quotation_fits, call_fits}
 
-module _ (t : Table) (sound : IsSound t) (d : Datum) (proper : is_proper d ≡ true) where
+module _ (t : Table) (sound : AreSoundPackages t) (d : Datum) (proper : is_proper d ≡ true) where
   pub may_no_form : object_of d ≡ no_form → MayTry t d
   may_no_form object = (proper, subst (AllAtoms (FitsTable t)) (sym object) (no_form_fits t sound))
 

@@ -3,13 +3,13 @@ use Rattle.std.proofs.Common.{◌≡◌, ◌≤◌, ◌∷◌, [], true, codes, 
 use Rattle.std.specs.List.{list_any}
 use Rattle.std.proofs.lemmas.Option.{same_Some}
 use Rattle.lisp_object.specs.Object.{Object, AllAtoms, symbol, list_of}
-use Rattle.package_table.specs.Table.{Name, Table, common_lisp, common_lisp_names, IsSound}
+use Rattle.package_table.specs.Table.{Name, Table, common_lisp, common_lisp_names, AreSoundPackages}
 use Rattle.package_table.proofs.FirstNames.{lisp_present}
 use Rattle.package_table.proofs.Found.{present_found}
 use Rattle.form_eval.specs.Laws.{FitsTable}
 use Rattle.refused_part.specs.Places.{both, no_form, quotation, quote_of_none}
 
-module _ (t : Table) (sound : IsSound t) where
+module _ (t : Table) (sound : AreSoundPackages t) where
   listed_fits : (n : Name) → list_any (bytes_eq n) common_lisp_names ≡ true → FitsTable t (symbol common_lisp n)
   listed_fits n listed = λ h there. sym (same_Some common_lisp h (sym (present_found t n common_lisp common_lisp (lisp_present t sound n listed)) ∙ there))
 

@@ -1,4 +1,4 @@
-pub mod Near
+pub mod NearNames
 pub mod Part
 pub mod Places
 pub mod Search

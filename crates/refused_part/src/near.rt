@@ -1,7 +1,7 @@
 //! The name of an operator that is near to another name.
 ghost use Rattle.std.specs.Prelude.{◌≡◌, map, IfOk};
 ghost use Rattle.std.specs.Option.{option_map};
-ghost use Rattle.refused_part.specs.Near.{first_near, is_near};
+ghost use Rattle.refused_part.specs.NearNames.{first_near, is_near};
 
 use std::alloc::{AllocError, Global};
 use strsim::generic_damerau_levenshtein;

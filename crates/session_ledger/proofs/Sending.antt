@@ -8,7 +8,7 @@ use Rattle.sessions.specs.Account.{Account, AreStored, AreUnderWay, call_of, wit
 use Rattle.prevalence_store.specs.calls.Store.{StoreView}
 use Rattle.sessions.specs.Streams.{Writes, WritesPart}
 use Rattle.session_ledger.specs.Ledger.{Agrees, IsAccountOf, account_from, account_past, named_first}
-use Rattle.session_ledger.specs.Went.{Outgoing, Went, calls_in, disk_at, handings_of, out_of}
+use Rattle.session_ledger.specs.OutgoingLines.{Outgoing, Went, calls_in, disk_at, handings_of, out_of}
 use Rattle.store_laws.specs.Batches.{MeansCalls}
 use Rattle.store_laws.specs.Sessions.{AreCalls, AreHanded, Handing, account_after, call_since, calls_of}
 use Rattle.user_macros.specs.Functions.{Functions}

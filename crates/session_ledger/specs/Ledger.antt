@@ -6,7 +6,7 @@ use Rattle.disk_trait.specs.Disk.{State}
 use Rattle.sessions.specs.Account.{Account, with_forms}
 use Rattle.prevalence_store.specs.calls.Store.{StoreView, store_view_code}
 use Rattle.store_laws.specs.Sessions.{account_after}
-use Rattle.session_ledger.specs.Went.{GoesOut, handings_of}
+use Rattle.session_ledger.specs.OutgoingLines.{GoesOut, handings_of}
 use Rattle.user_macros.specs.Functions.{Functions}
 
 -- the output, the name by which proofs know where it is, and of how many forms lines were handed to it, one time after the other, with the

@@ -1,4 +1,4 @@
 -- what went out of a session
-pub mod Went
+pub mod OutgoingLines
 -- how it is recorded
 pub mod Ledger

@@ -4,7 +4,7 @@ ghost use Rattle.disk_trait.specs.Disk.{Image, IsHonest};
 ghost use Rattle.prevalence_store.specs.Theorem.{Keeps};
 ghost use Rattle.sessions.specs.Account.{Account};
 ghost use Rattle.prevalence_store.specs.calls.Store.{StoreView};
-ghost use Rattle.session_ledger.specs.Went.{Went, calls_in, disk_at};
+ghost use Rattle.session_ledger.specs.OutgoingLines.{Went, calls_in, disk_at};
 ghost use Rattle.store_laws.specs.Batches.{MeansCalls};
 ghost use Rattle.user_macros.specs.Functions.{Functions};
 

@@ -4,7 +4,7 @@ ghost use Rattle.plist_state.specs.State.{WorldState};
 ghost use Rattle.sessions.specs.Account.{Account, AreUnderWay, first_account};
 ghost use Rattle.sessions.specs.Serve.{ServesWanted};
 ghost use Rattle.session_ledger.specs.Ledger.{Agrees, account_from, named_first};
-ghost use Rattle.session_ledger.specs.Went.{Went};
+ghost use Rattle.session_ledger.specs.OutgoingLines.{Went};
 
 use crate::proof_log::ProofLog;
 use disk_trait::Disk;

@@ -1,7 +1,7 @@
 -- How what was answered joins, and that it stays whatever follows the text.
 use Rattle.std.proofs.Common.{◌≡◌, ℕ, ◌+◌, ◌≤◌, Bool, true, cond, List, [], ◌++◌, length, take, drop, Option, None, Some, Result, Ok, Err, inl, inr, refl, sym, ap, subst, ◌∙◌, append_assoc, append-nil, length-append, arith}
 use Rattle.std.proofs.lemmas.List.{take-append-drop}
-use Rattle.disk_trait.specs.Disk.{State, IsHonest, IsSound}
+use Rattle.disk_trait.specs.Disk.{State, IsHonest, IsSoundDisk}
 use Rattle.lisp_object.specs.Object.{Object}
 use Rattle.lisp_object.specs.declared.refusal.TheConstants.{INPUT}
 use Rattle.plist_state.specs.State.{WorldState}
@@ -21,7 +21,7 @@ use Rattle.sessions.specs.steps.Input.{HasForm, IsPending}
 use Rattle.sessions.specs.Pace.{EndsInPace, Paces, fill_of}
 use Rattle.sessions.specs.Serve.{Advances, AreAccepted, IsAfter, IsPlace, Serves, ServesInPace, StaysAnswered, StaysRefused, StopsStrict}
 use Rattle.prevalence_store.specs.calls.Store.{StoreView}
-use Rattle.sessions.specs.steps.Serve.{Answers, ComesTo, EndsAt, GoesOn, HasEndedAt, ServesStrict}
+use Rattle.sessions.specs.steps.Serve.{AnswersPiece, PieceComesTo, EndsAt, GoesOn, HasEndedAt, ServesStrict}
 use Rattle.sessions.specs.steps.Course.{Course}
 use Rattle.sessions.specs.steps.Answer.{PassesForm}
 use Rattle.sessions.proofs.Pacing.{ends_after, paces_both}
@@ -64,7 +64,7 @@ module _ (functions : Functions) {D R : Type 0} (state : D → State) where
   }
 
   -- nothing was answered yet
-  pub nothing_answered : ((d : D) → IsHonest (state d) → IsSound (state d)) → (strict : Bool) (course : Course) (old : StoreView D R) (w : WorldState) (mode : Mode) (text : List ℕ) (held : Option (List ℕ)) (pending : Pending)
+  pub nothing_answered : ((d : D) → IsHonest (state d) → IsSoundDisk (state d)) → (strict : Bool) (course : Course) (old : StoreView D R) (w : WorldState) (mode : Mode) (text : List ℕ) (held : Option (List ℕ)) (pending : Pending)
       → old.world ≡ Some w → IsPending functions w mode pending text → GoesOn functions state strict course course old old w mode text held held pending []
   nothing_answered sound strict course old w mode text held pending known is = record {
     forms = 0;
@@ -111,7 +111,7 @@ module _ (functions : Functions) {D R : Type 0} (state : D → State) where
 
   -- ---- one after the other
 
-  module _ (sound : (d : D) → IsHonest (state d) → IsSound (state d)) (wanted : Wanted) (course later last : Course) (old mid new : StoreView D R) (w : WorldState) (mode : Mode) (a b c : Option (List ℕ)) (pending : Pending)
+  module _ (sound : (d : D) → IsHonest (state d) → IsSoundDisk (state d)) (wanted : Wanted) (course later last : Course) (old mid new : StoreView D R) (w : WorldState) (mode : Mode) (a b c : Option (List ℕ)) (pending : Pending)
       (honest : (state mid.disk).honest ≡ (state old.disk).honest) where
     module _ (text : List ℕ) (left : List ℕ) (first : GoesOn functions state wanted.strict course later old mid w mode text a b pending left) where
       abbrev p : Progress
@@ -261,7 +261,7 @@ module _ (functions : Functions) {D R : Type 0} (state : D → State) where
 
     -- what was answered, and what became of what was left
     pub answers_both : (text left : List ℕ) (first : GoesOn functions state wanted.strict course later old mid w mode text a b pending left) (after : Pending) (result : Option Ended)
-        → Answers functions state wanted later last mid new first.far.world mode (first.bytes ++ left) b c after result → Answers functions state wanted course last old new w mode text a c after result
+        → AnswersPiece functions state wanted later last mid new first.far.world mode (first.bytes ++ left) b c after result → AnswersPiece functions state wanted course last old new w mode text a c after result
     unfolding extended
     answers_both text left first after None second = goes_on_both text left first after [] second
     answers_both text left first after (Some ended) second = λ more.
@@ -270,13 +270,13 @@ module _ (functions : Functions) {D R : Type 0} (state : D → State) where
 
     -- what was left, and what a piece of it came to
     pub next_both : (text rest : List ℕ) (first : GoesOn functions state wanted.strict course later old mid w mode text a b pending rest) (after : Pending) (result : Result ℕ Ended)
-        → ComesTo functions state wanted later last mid new first.far.world mode (first.bytes ++ rest) b c after rest result → ComesTo functions state wanted course last old new w mode text a c after rest result
+        → PieceComesTo functions state wanted later last mid new first.far.world mode (first.bytes ++ rest) b c after rest result → PieceComesTo functions state wanted course last old new w mode text a c after rest result
     next_both text rest first after (Ok count) second = goes_on_both text rest first after (drop count rest) second
     next_both text rest first after (Err ended) second = answers_both text rest first after (Some ended) second
 
     -- more of the text, and what it came to
     pub more_both : (text more : List ℕ) (first : GoesOn functions state wanted.strict course later old mid w mode text a b pending []) (after : Pending) (result : Option Ended)
-        → Answers functions state wanted later last mid new first.far.world mode (first.bytes ++ more) b c after result → Answers functions state wanted course last old new w mode (text ++ more) a c after result
+        → AnswersPiece functions state wanted later last mid new first.far.world mode (first.bytes ++ more) b c after result → AnswersPiece functions state wanted course last old new w mode (text ++ more) a c after result
     unfolding extended
     more_both text more first after result second = answers_both (text ++ more) more (extended wanted.strict course later old mid w mode text a b pending [] more first) after result second
 
@@ -288,7 +288,7 @@ module _ (functions : Functions) {D R : Type 0} (state : D → State) where
 
   -- the session ended within a piece
   pub ended_within : (wanted : Wanted) (course later : Course) (old new : StoreView D R) (w : WorldState) (mode : Mode) (a b : Option (List ℕ)) (after : Pending) (bytes piece : List ℕ) (n : ℕ) (ended : Ended)
-      → Answers functions state wanted course later old new w mode (bytes ++ take n piece) a b after (Some ended) → Answers functions state wanted course later old new w mode (bytes ++ piece) a b after (Some ended)
+      → AnswersPiece functions state wanted course later old new w mode (bytes ++ take n piece) a b after (Some ended) → AnswersPiece functions state wanted course later old new w mode (bytes ++ piece) a b after (Some ended)
   ended_within wanted course later old new w mode a b after bytes piece n ended is more =
       subst (λ t. HasEndedAt functions state wanted course old new w mode t a b ended)
       (append_assoc bytes (take n piece) (drop n piece ++ more) ∙ ap (λ t. bytes ++ t) (sym (append_assoc (take n piece) (drop n piece) more) ∙ ap (λ t. t ++ more) (take-append-drop n piece))

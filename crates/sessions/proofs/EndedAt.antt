@@ -1,6 +1,6 @@
 -- How a session ends at what was read: at no memory, at a refusal of the reader, and in a form.
 use Rattle.std.proofs.Common.{◌≡◌, ℕ, zero, suc, ◌+◌, ◌≤◌, true, List, [], ◌++◌, length, Option, Some, Result, Ok, Err, inl, inr, refl, sym, ap, subst, ◌∙◌, append_assoc, append-nil, length-append, arith}
-use Rattle.disk_trait.specs.Disk.{State, IsHonest, IsSound}
+use Rattle.disk_trait.specs.Disk.{State, IsHonest, IsSoundDisk}
 use Rattle.lisp_object.specs.Object.{Object}
 use Rattle.lisp_object.specs.declared.refusal.TheConstants.{NO_MEMORY}
 use Rattle.form_reader.specs.Reader.{BeginsAt, IsDecidedFrom}
@@ -25,7 +25,7 @@ use Rattle.prevalence_store.specs.calls.Store.{StoreView}
 use Rattle.sessions.specs.steps.Answer.{AnswersFault, AnswersForm, AnswersRead, BeginsWith, PassesForm, StopsInForm, TellsForm}
 use Rattle.sessions.specs.steps.Course.{Course, pass}
 use Rattle.sessions.specs.steps.Input.{HasRefusal}
-use Rattle.sessions.specs.steps.Serve.{Answers, EndsAt, HasEndedAt, ended_at}
+use Rattle.sessions.specs.steps.Serve.{AnswersPiece, EndsAt, HasEndedAt, ended_at}
 use Rattle.sessions.proofs.Places.{place_at_once, refuses_from, refuses_more_from}
 use Rattle.sessions.proofs.Endings.{any_group, done, fault_answered, no_memory, nothing}
 use Rattle.sessions.proofs.Pacing.{done_paced, fault_paced, no_memory_paced}
@@ -60,10 +60,10 @@ module _ (functions : Functions) {D R : Type 0} (state : D → State) where
   )
 
   -- the reader refused the text, whatever follows it
-  pub fault_ended : (sound : (d : D) → IsHonest (state d) → IsSound (state d)) (wanted : Wanted) (course later : Course) (old new : StoreView D R) (w : WorldState) (mode : Mode) (text : List ℕ) (a b : Option (List ℕ)) (pending : Pending)
+  pub fault_ended : (sound : (d : D) → IsHonest (state d) → IsSoundDisk (state d)) (wanted : Wanted) (course later : Course) (old new : StoreView D R) (w : WorldState) (mode : Mode) (text : List ℕ) (a b : Option (List ℕ)) (pending : Pending)
       (number : ℕ) → old.world ≡ Some w → (refuses : HasRefusal functions w mode text number) → new ≡ old → (start : ℕ) (place : Place) → place.forms ≡ course.forms → place.start ≡ course.bytes + start
       → place.at ≡ course.bytes + refuses.at → BeginsAt (setting_in functions w mode) text start × IsDecidedFrom (setting_in functions w mode) text start → (ending : Ending) → AnswersFault number a b ending
-      → Answers functions state wanted course later old new w mode text a b pending (Some (ended_at place ending))
+      → AnswersPiece functions state wanted course later old new w mode text a b pending (Some (ended_at place ending))
   unfolding fault_answered nothing
   fault_ended sound wanted course later old new w mode text a b pending number known refuses same start place forms_is start_is at_is begins ending answers more = by_ending ending answers where
     still : (others : List ℕ) → read_in functions w mode ((text ++ more) ++ others) ≡ refused number refuses.at
@@ -113,7 +113,7 @@ module _ (functions : Functions) {D R : Type 0} (state : D → State) where
     )
 
   -- there is no memory for what was read
-  pub memory_ended : (sound : (d : D) → IsHonest (state d) → IsSound (state d)) (wanted : Wanted) (course : Course) (old : StoreView D R) (w : WorldState) (mode : Mode) (text : List ℕ) (held : Option (List ℕ)) → old.world ≡ Some w
+  pub memory_ended : (sound : (d : D) → IsHonest (state d) → IsSoundDisk (state d)) (wanted : Wanted) (course : Course) (old : StoreView D R) (w : WorldState) (mode : Mode) (text : List ℕ) (held : Option (List ℕ)) → old.world ≡ Some w
       → HasEndedAt functions state wanted course old old w mode text held held (ways.Store NO_MEMORY)
   unfolding no_memory nothing
   memory_ended sound wanted course old w mode text held known = (
@@ -125,7 +125,7 @@ module _ (functions : Functions) {D R : Type 0} (state : D → State) where
     λ is_strict. (refl, λ more. absurd (omega (arith, more))),
   )
 
-  pub memory_at_end : (sound : (d : D) → IsHonest (state d) → IsSound (state d)) (wanted : Wanted) (course : Course) (old : StoreView D R) (w : WorldState) (mode : Mode) (text : List ℕ) (held : Option (List ℕ)) → old.world ≡ Some w
+  pub memory_at_end : (sound : (d : D) → IsHonest (state d) → IsSoundDisk (state d)) (wanted : Wanted) (course : Course) (old : StoreView D R) (w : WorldState) (mode : Mode) (text : List ℕ) (held : Option (List ℕ)) → old.world ≡ Some w
       → EndsAt functions state wanted course old old w mode text held held (ways.Store NO_MEMORY)
   unfolding no_memory nothing
   memory_at_end sound wanted course old w mode text held known = (
@@ -138,7 +138,7 @@ module _ (functions : Functions) {D R : Type 0} (state : D → State) where
   )
 
   -- nothing is left at the end of the input
-  pub done_at_end : (sound : (d : D) → IsHonest (state d) → IsSound (state d)) (wanted : Wanted) (course : Course) (old : StoreView D R) (w : WorldState) (mode : Mode) (text : List ℕ) (held : Option (List ℕ)) → old.world ≡ Some w
+  pub done_at_end : (sound : (d : D) → IsHonest (state d) → IsSoundDisk (state d)) (wanted : Wanted) (course : Course) (old : StoreView D R) (w : WorldState) (mode : Mode) (text : List ℕ) (held : Option (List ℕ)) → old.world ≡ Some w
       → empty ≡ read_in functions w mode text → EndsAt functions state wanted course old old w mode text held held ways.End
   unfolding done nothing
   done_at_end sound wanted course old w mode text held known none = (
@@ -148,7 +148,7 @@ module _ (functions : Functions) {D R : Type 0} (state : D → State) where
   )
 
   -- the reader refuses the text at the end of the input
-  pub fault_at_end : (sound : (d : D) → IsHonest (state d) → IsSound (state d)) (wanted : Wanted) (course : Course) (old new : StoreView D R) (w : WorldState) (mode : Mode) (text : List ℕ) (a b : Option (List ℕ)) (number at : ℕ)
+  pub fault_at_end : (sound : (d : D) → IsHonest (state d) → IsSoundDisk (state d)) (wanted : Wanted) (course : Course) (old new : StoreView D R) (w : WorldState) (mode : Mode) (text : List ℕ) (a b : Option (List ℕ)) (number at : ℕ)
       → old.world ≡ Some w → (reads : read_in functions w mode text ≡ refused number at) → new ≡ old → (start : ℕ) (place : Place) → place.forms ≡ course.forms → place.start ≡ course.bytes + start → place.at ≡ course.bytes + at
       → BeginsAt (setting_in functions w mode) text start × (decided_from (setting_in functions w mode) text ≡ start) → (ending : Ending) → AnswersFault number a b ending → EndsAt functions state wanted course old new w mode text a b (ended_at place ending)
   unfolding fault_answered nothing

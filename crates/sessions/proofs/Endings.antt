@@ -1,7 +1,7 @@
 -- A session in which no form was taken, and what is written of a line.
 use Rattle.std.proofs.Common.{◌≡◌, ◌≢◌, ℕ, Bool, false, List, [], ◌++◌, Option, None, Some, refl, sym, ap, subst, ◌∙◌, inl, inr, append-nil, arith}
 use Rattle.std.specs.Option.{option_map}
-use Rattle.disk_trait.specs.Disk.{State, IsHonest, IsSound}
+use Rattle.disk_trait.specs.Disk.{State, IsHonest, IsSoundDisk}
 use Rattle.disk_trait.specs.Half.{opposite_of}
 use Rattle.lisp_object.specs.declared.refusal.TheConstants.{INPUT, NO_MEMORY}
 use Rattle.form_reader.specs.Reader.{MayGoOn}
@@ -77,7 +77,7 @@ module _ (functions : Functions) where
   pub after_one_form : (w : WorldState) (mode : Mode) (text : List ℕ) (p : Progress) → one_form functions w mode text (read_in functions w mode text) ≡ Some p → after_forms functions 1 w mode text ≡ Some p
   after_one_form w mode text p is = ap (option_map (onward (first_progress w text))) is
 
-  module _ {D R : Type 0} (state : D → State) (sound : (d : D) → IsHonest (state d) → IsSound (state d)) (old new : StoreView D R) (w : WorldState) (mode : Mode) (text : List ℕ) (held written : Option (List ℕ))
+  module _ {D R : Type 0} (state : D → State) (sound : (d : D) → IsHonest (state d) → IsSoundDisk (state d)) (old new : StoreView D R) (w : WorldState) (mode : Mode) (text : List ℕ) (held written : Option (List ℕ))
       (known : old.world ≡ Some w) where
     -- nothing was taken
     pub after_none : (rest lines refusals : List ℕ) → new ≡ old → IsAfter functions state old new w (record { world = w; rest = rest; taken = []; lines = lines; refused = refusals })

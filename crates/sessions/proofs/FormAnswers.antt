@@ -1,6 +1,6 @@
 -- What the answer to a form is to a session.
 use Rattle.std.proofs.Common.{◌≡◌, ◌≢◌, ◌∷◌, ℕ, Bool, true, false, List, [], ◌++◌, length, drop, Option, Some, IsSome, is_some, Result, Ok, Err, refl, sym, ap, subst, ◌∙◌, inl, inr, append_assoc, arith}
-use Rattle.disk_trait.specs.Disk.{State, IsHonest, IsSound}
+use Rattle.disk_trait.specs.Disk.{State, IsHonest, IsSoundDisk}
 use Rattle.gate_log.specs.Layout.{LogRecord}
 use Rattle.lisp_object.specs.Object.{Object}
 use Rattle.lisp_object.specs.Datum.{object_of}
@@ -34,7 +34,7 @@ use Rattle.prevalence_store.proofs.meaning.Replaying.{stepped}
 use Rattle.prevalence_store.proofs.meaning.Transactions.{refused_alike}
 use Rattle.sessions.specs.Streams.{Writes, WritesPart}
 use Rattle.sessions.specs.steps.Answer.{EndsTry, IsLeft, LeavesRecord, LogsAtOnce, MayBeHeard, StopsInForm, TriesForm, answered_of}
-use Rattle.sessions.specs.steps.Output.{IsLine}
+use Rattle.sessions.specs.steps.Output.{IsAnswerLine}
 use Rattle.prevalence_store.proofs.Surviving.{all_or_none_of_one, fewer_survive, unchanged_survives}
 use Rattle.user_macros.specs.Functions.{Functions}
 use Rattle.sessions.proofs.Endings.{writes_nothing, part_of, after_one_form, after_none, nothing}
@@ -52,10 +52,10 @@ some_line : (lines line : List ℕ) → line ≡ lines → lines ≢ [] → line
 some_line lines line same some is = some (sym same ∙ is)
 
 module _ (functions : Functions) where
-  value_lines : {D R : Type 0} (new : StoreView D R) (e : Evaluated) (line : List ℕ) (given : WorldState) → new.world ≡ Some given → IsLine new (Ok e) line → line ≡ value_line given (object_of e.value)
+  value_lines : {D R : Type 0} (new : StoreView D R) (e : Evaluated) (line : List ℕ) (given : WorldState) → new.world ≡ Some given → IsAnswerLine new (Ok e) line → line ≡ value_line given (object_of e.value)
   value_lines new e line given left is = is.line_of ∙ ap (λ u. value_line u (object_of e.value)) (sym (is.one given left))
 
-  module _ {D R : Type 0} (state : D → State) (sound : (d : D) → IsHonest (state d) → IsSound (state d)) (old new : StoreView D R) (w : WorldState) (mode : Mode) (text : List ℕ) (held written : Option (List ℕ))
+  module _ {D R : Type 0} (state : D → State) (sound : (d : D) → IsHonest (state d) → IsSoundDisk (state d)) (old new : StoreView D R) (w : WorldState) (mode : Mode) (text : List ℕ) (held written : Option (List ℕ))
       (known : old.world ≡ Some w) (start stop next : ℕ) (x : Object) (is : read_in functions w mode text ≡ form x start stop next) (own : List ℕ) (own_is : own ≡ between start stop text) where
     one_read : (given : Evaluation Object) → transacted functions.names w x ≡ given
         → one_form functions w mode text (read_in functions w mode text) ≡ Some (evaluated w mode own (drop next text) given)
@@ -115,7 +115,7 @@ module _ (functions : Functions) where
     refused_leaves same = inl (refl, refl, ap (λ (s : StoreView D R). fill_of s) same)
 
     -- the form is answered, and the session goes on
-    form_is_answered : (answer : Result Evaluated Failure) (line : List ℕ) → TakesForm functions state old new mode own x answer → IsLine new answer line
+    form_is_answered : (answer : Result Evaluated Failure) (line : List ℕ) → TakesForm functions state old new mode own x answer → IsAnswerLine new answer line
         → Writes held written line → TriesForm functions state old new w mode text held written (Ok (answered_of answer))
     form_is_answered (Ok e) line of is_line writes =
         let given = of.accepted w known in (
@@ -145,7 +145,7 @@ module _ (functions : Functions) where
     form_is_answered (Err DeviceFault) line of is_line writes = absurd is_line.line_of
     form_is_answered (Err OutOfMemory) line of is_line writes = absurd is_line.line_of
 
-    pub form_answered : (answer : Result Evaluated Failure) (line : List ℕ) → TakesForm functions state old new mode own x answer → IsLine new answer line
+    pub form_answered : (answer : Result Evaluated Failure) (line : List ℕ) → TakesForm functions state old new mode own x answer → IsAnswerLine new answer line
         → Writes held written line → (told : Answered) → told ≡ answered_of answer → TriesForm functions state old new w mode text held written (Ok told)
     form_answered answer line of is_line writes told same =
         subst (λ t. TriesForm functions state old new w mode text held written (Ok t)) (sym same) (form_is_answered answer line of is_line writes)
@@ -183,7 +183,7 @@ module _ (functions : Functions) where
     unwritten_front : (lines line : List ℕ) (front rest more : List ℕ) → line ≡ lines → line ≡ front ++ rest → lines ++ more ≡ front ++ (rest ++ more)
     unwritten_front lines line front rest more same parts = ap (λ t. t ++ more) (sym same ∙ parts) ∙ append_assoc front rest more
 
-    line_unwritten : (answer : Result Evaluated Failure) (line : List ℕ) → TakesForm functions state old new mode own x answer → IsLine new answer line
+    line_unwritten : (answer : Result Evaluated Failure) (line : List ℕ) → TakesForm functions state old new mode own x answer → IsAnswerLine new answer line
         → WritesPart held written line → Stops OUTPUT
     unfolding taken_only
     line_unwritten (Ok e) line of is_line writes =
@@ -288,7 +288,7 @@ module _ (functions : Functions) where
     form_stops cause number left stop quiet = (over_in cause number left stop, λ other. stops_in cause number left stop other quiet)
 
     -- the writer failed
-    pub form_unwritten : (answer : Result Evaluated Failure) (line : List ℕ) → TakesForm functions state old new mode own x answer → IsLine new answer line
+    pub form_unwritten : (answer : Result Evaluated Failure) (line : List ℕ) → TakesForm functions state old new mode own x answer → IsAnswerLine new answer line
         → WritesPart held written line → TriesForm functions state old new w mode text held written (Err OUTPUT)
     form_unwritten answer line of is_line writes = (λ full. absurd (omega arith), λ other. line_unwritten answer line of is_line writes)
 
@@ -301,7 +301,7 @@ module _ (functions : Functions) where
 
   -- a store whose form has a line has a world
   pub line_known : {D R : Type 0} (state : D → State) (old new : StoreView D R) (w : WorldState) (mode : Mode) (own : List ℕ) (x : Object) (answer : Result Evaluated Failure) (line : List ℕ)
-      → TakesForm functions state old new mode own x answer → IsLine new answer line → old.world ≡ Some w → IsSome new.world
+      → TakesForm functions state old new mode own x answer → IsAnswerLine new answer line → old.world ≡ Some w → IsSome new.world
   line_known state old new w mode own x (Ok e) line of is_line known =
       let given = of.accepted w known in ap is_some (stores_left state old new e.wrote mode own given.0 given.2)
   line_known {D} {R} state old new w mode own x (Err (Refused number)) line of is_line known = ap (λ (s : StoreView D R). is_some s.world) (of.unchanged refl) ∙ ap is_some known

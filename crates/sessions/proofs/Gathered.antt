@@ -3,7 +3,7 @@ use Rattle.std.proofs.Common.{◌≡◌, ◌≢◌, ◌⊎◌, ℕ, zero, suc, �
 use Rattle.std.specs.Option.{option_map}
 use Rattle.std.specs.List.{flat_map}
 use Rattle.std.proofs.lemmas.List.{drop-drop}
-use Rattle.disk_trait.specs.Disk.{State, IsHonest, IsSound}
+use Rattle.disk_trait.specs.Disk.{State, IsHonest, IsSoundDisk}
 use Rattle.gate_log.specs.Layout.{LogRecord, open_record}
 use Rattle.lisp_object.specs.Object.{Object}
 use Rattle.lisp_object.specs.declared.refusal.TheConstants.{DEVICE, OUTPUT}
@@ -180,7 +180,7 @@ module _ (functions : Functions) where
 
   -- ---- how a session goes on, or has ended
 
-  module _ {D R : Type 0} (state : D → State) (sound : (d : D) → IsHonest (state d) → IsSound (state d)) (wanted : Wanted) (course later : Course) (old new : StoreView D R) (w : WorldState) (text rest : List ℕ)
+  module _ {D R : Type 0} (state : D → State) (sound : (d : D) → IsHonest (state d) → IsSoundDisk (state d)) (wanted : Wanted) (course later : Course) (old new : StoreView D R) (w : WorldState) (text rest : List ℕ)
       (held written : Option (List ℕ)) (known : old.world ≡ Some w) where
     -- the forms were answered
     pub group_answered : (gathered : GatheredForms) (next count : ℕ) → TakesForms functions wanted state old new w text gathered → Writes held written gathered.lines.items → drop next text ≡ rest

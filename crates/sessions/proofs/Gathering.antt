@@ -25,7 +25,7 @@ use Rattle.sessions.specs.steps.Answer.{BeginsWith}
 use Rattle.form_eval.specs.Laws.{MayEvaluate}
 use Rattle.prevalence_store.specs.steps.Batch.{entries_in, IsEmpty}
 use Rattle.sessions.specs.steps.Input.{HasForm}
-use Rattle.sessions.specs.steps.Gather.{BeginsWhole, HoldsNone, IsAdded, IsCounted, IsGathered, IsNext}
+use Rattle.sessions.specs.steps.Gather.{BeginsWhole, HoldsNone, IsAdded, AreWithinLimit, IsGathered, AddsNextForm}
 use Rattle.prevalence_store.proofs.calls.Executing.{form_places, own_whole}
 use Rattle.sessions.proofs.Progressing.{forms_onward}
 use Rattle.sessions.proofs.Endings.{after_one_form}
@@ -74,7 +74,7 @@ module _ (functions : Functions) (mode : Mode) (w : WorldState) (text : List ℕ
     by_given (Err number) is = (is.again, is.fit)
 
 -- its datum may be evaluated
-pub may_add : (functions : Functions) (mode : Mode) (w : WorldState) (text : List ℕ) (read : ReadForm) (own : List ℕ) (next : ℕ) → BeginsWhole functions w mode text (object_of read.datum) own next → world.IsSound w
+pub may_add : (functions : Functions) (mode : Mode) (w : WorldState) (text : List ℕ) (read : ReadForm) (own : List ℕ) (next : ℕ) → BeginsWhole functions w mode text (object_of read.datum) own next → world.IsSoundWorldState w
     → is_proper read.datum ≡ true → IsSound (object_of read.datum) → (read.known ≡ true → are_there w.packages (object_of read.datum) ≡ true) → MayEvaluate w.packages read
 may_add functions mode w text read own next begins present proper sound all_there =
     may_evaluate functions w mode read own proper sound all_there (text, (next, begins_with functions mode w text (object_of read.datum) own next begins)) present
@@ -110,7 +110,7 @@ module _ (functions : Functions) (wanted : Wanted) (w : WorldState) (text : List
 
   -- one form more
   pub more_gathered : (u v : WorldState) (had has : Batch) (old new : GatheredForms) (piece : List ℕ) (count : ℕ) → IsGathered functions wanted w text u (entries_in had) old → drop old.bytes text ≡ piece
-      → IsNext functions wanted piece u v had has old new count → IsGathered functions wanted w text v (entries_in has) new
+      → AddsNextForm functions wanted piece u v had has old new count → IsGathered functions wanted w text v (entries_in has) new
   more_gathered u v had has old new piece count is piece_is after_it =
       let p : Progress = is.far in
       let begins = after_it.begins in
@@ -148,9 +148,9 @@ module _ (functions : Functions) (wanted : Wanted) (w : WorldState) (text : List
 
 -- how many forms there are, by a limit that is the same
 pub counted_by : (next many : ℕ) (limit other : GroupLimit) (gathered : GatheredForms) → other ≡ limit → 0 < gathered.forms → gathered.forms ≤ gathered.bytes → next ≤ gathered.bytes → gathered.bytes ≤ next + many
-    → gathered.records ≤ other.forms → gathered.record_bytes ≤ other.bytes → IsCounted next many limit gathered
+    → gathered.records ≤ other.forms → gathered.record_bytes ≤ other.bytes → AreWithinLimit next many limit gathered
 counted_by next many limit other gathered same some forms first others records bytes =
-    subst (λ (l : GroupLimit). IsCounted next many l gathered) same (record { some = some; forms = forms; first = first; others = others; records = records; record_bytes = bytes })
+    subst (λ (l : GroupLimit). AreWithinLimit next many l gathered) same (record { some = some; forms = forms; first = first; others = others; records = records; record_bytes = bytes })
 
 -- a form has one record at most
 record_at_most : (wrote : Bool) (mode : Mode) (own : List ℕ) → length (records_of wrote mode own) ≤ 1

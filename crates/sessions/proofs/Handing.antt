@@ -1,7 +1,7 @@
 -- Where a session stands to the recipient of its lines, and that they may be handed to it.
 use Rattle.std.proofs.Common.{◌≡◌, ◌⊎◌, ℕ, ◌+◌, Bool, List, [], ◌∷◌, ◌++◌, length, take, unwrap_or, Option, None, Some, IsTrue, Ok, Err, inl, inr, refl, sym, ap, subst, ◌∙◌, append-nil, arith}
 use Rattle.std.specs.Option.{option_map}
-use Rattle.disk_trait.specs.Disk.{Image, State, IsHonest, IsSound, Throughout}
+use Rattle.disk_trait.specs.Disk.{Image, State, IsHonest, IsSoundDisk, Throughout}
 use Rattle.disk_trait.specs.Moments.{joined, weaker}
 use Rattle.gate_log.specs.Layout.{LogRecord}
 use Rattle.lisp_object.specs.Object.{Object}
@@ -29,7 +29,7 @@ use Rattle.sessions.specs.steps.Course.{Course}
 use Rattle.sessions.specs.steps.Gather.{FailsForms, TakesForms}
 use Rattle.sessions.specs.steps.Schedule.{Renewing, RenewsAfterForm, RenewsIfDue}
 use Rattle.sessions.specs.steps.Serve.{GoesOn}
-use Rattle.sessions.specs.steps.Standing.{AcknowledgesNone, Follows, HandsOn, IsAtRest, Stands, StandsBefore, StandsBeforeAll}
+use Rattle.sessions.specs.steps.Standing.{AcknowledgesNone, IsLaterAccount, HandsOn, IsAtRest, StandsAfterLines, StandsBefore, StandsBeforeAll}
 use Rattle.prevalence_store.proofs.Surviving.{all_or_none_of_one, both_survive, none_taken, unchanged_survives}
 use Rattle.sessions.proofs.Progressing.{forms_onward}
 use Rattle.sessions.proofs.Pieces.{longer, stays_longer}
@@ -65,7 +65,7 @@ module _ (functions : Functions) where
       subst (λ es. Throughout s t (MeansAllOrNone functions w es)) (sym one.1.1)
       (all_or_none_of_one functions s t w one.1.0 (subst (λ es. Throughout s t (MeansSome functions w es 0)) one.1.1 run))
 
-module _ (functions : Functions) {D R : Type 0} (state : D → State) (sound : (d : D) → IsHonest (state d) → IsSound (state d)) where
+module _ (functions : Functions) {D R : Type 0} (state : D → State) (sound : (d : D) → IsHonest (state d) → IsSoundDisk (state d)) where
   -- ---- at rest
 
   -- nothing was done yet
@@ -109,9 +109,9 @@ module _ (functions : Functions) {D R : Type 0} (state : D → State) (sound : (
   module _ (told : Option (Account D)) (store : StoreView D R) (w : WorldState) (mode : Mode) (input : Option (List ℕ)) (text : List ℕ)
       (begins : (kept : Account D) → told ≡ Some kept → kept ≡ first_account w mode input store.disk) (keeps : IsHonest (state store.disk) → Keeps functions (state store.disk) w)
       (fits : (all : List ℕ) → input ≡ Some all → (left : List ℕ) × (all ≡ text ++ left)) where
-    first_stands : (kept : Account D) → told ≡ Some kept → (s : Stands functions state kept store w mode text) × (s.text ≡ text) × (kept.input ≡ input)
+    first_stands : (kept : Account D) → told ≡ Some kept → (s : StandsAfterLines functions state kept store w mode text) × (s.text ≡ text) × (kept.input ≡ input)
     first_stands kept is =
-        subst (λ (a : Account D). (s : Stands functions state a store w mode text) × (s.text ≡ text) × (a.input ≡ input)) (sym (begins kept is)) (
+        subst (λ (a : Account D). (s : StandsAfterLines functions state a store w mode text) × (s.text ≡ text) × (a.input ≡ input)) (sym (begins kept is)) (
           record {
             text = text;
             of_input = fits;
@@ -135,8 +135,8 @@ module _ (functions : Functions) {D R : Type 0} (state : D → State) (sound : (
   -- after forms that were answered, before what is left
   module _ (strict : Bool) (course later : Course) (old new : StoreView D R) (w : WorldState) (mode : Mode) (text : List ℕ) (a b : Option (List ℕ)) (pending : Pending) (left : List ℕ) (told now : Option (Account D))
       (goes : GoesOn functions state strict course later old new w mode text a b pending left) (hands : HandsOn functions state course.forms later.forms told now new) where
-    on_from : (before kept : Account D) → Follows course.forms later.forms before kept → IsAtRest functions state kept new goes.far.world → (s : Stands functions state before old w mode text)
-        → (t : Stands functions state kept new goes.far.world mode (goes.bytes ++ left)) × (t.text ≡ s.text)
+    on_from : (before kept : Account D) → IsLaterAccount course.forms later.forms before kept → IsAtRest functions state kept new goes.far.world → (s : StandsAfterLines functions state before old w mode text)
+        → (t : StandsAfterLines functions state kept new goes.far.world mode (goes.bytes ++ left)) × (t.text ≡ s.text)
     on_from before kept follows rest s =
         let count : kept.forms ≡ goes.forms + before.forms = omega (arith, follows.forms, goes.comes.forms_are) in (
           record {
@@ -187,8 +187,8 @@ module _ (functions : Functions) {D R : Type 0} (state : D → State) (sound : (
   -- ---- before all that is left of the input
 
   -- what was not read yet, if the input is told, and nothing if it is not
-  to_the_end : (kept : Account D) (store : StoreView D R) (w : WorldState) (mode : Mode) (bytes more : List ℕ) → (s : Stands functions state kept store w mode bytes) → ((all : List ℕ) → kept.input ≡ Some all → s.text ++ more ≡ all)
-      → (t : Stands functions state kept store w mode (bytes ++ more)) × ((all : List ℕ) → kept.input ≡ Some all → t.text ≡ all)
+  to_the_end : (kept : Account D) (store : StoreView D R) (w : WorldState) (mode : Mode) (bytes more : List ℕ) → (s : StandsAfterLines functions state kept store w mode bytes) → ((all : List ℕ) → kept.input ≡ Some all → s.text ++ more ≡ all)
+      → (t : StandsAfterLines functions state kept store w mode (bytes ++ more)) × ((all : List ℕ) → kept.input ≡ Some all → t.text ≡ all)
   to_the_end kept store w mode bytes more s whole = (
     record {
       text = s.text ++ more;
@@ -207,13 +207,13 @@ module _ (functions : Functions) {D R : Type 0} (state : D → State) (sound : (
       → (more : List ℕ) × StandsBeforeAll functions state told store w mode (bytes ++ more)
   rest_of_input None store w mode bytes stands = ([], λ kept is. absurd (cc))
   rest_of_input (Some kept) store w mode bytes stands = by kept.input refl where
-    s : Stands functions state kept store w mode bytes
+    s : StandsAfterLines functions state kept store w mode bytes
     s = stands kept refl
 
     to_rest : (more : List ℕ) → ((all : List ℕ) → kept.input ≡ Some all → s.text ++ more ≡ all) → StandsBeforeAll functions state (Some kept) store w mode (bytes ++ more)
     to_rest more whole other is =
         let same : kept ≡ other = cc in
-        subst (λ (a : Account D). (t : Stands functions state a store w mode (bytes ++ more)) × ((all : List ℕ) → a.input ≡ Some all → t.text ≡ all)) same (to_the_end kept store w mode bytes more s whole)
+        subst (λ (a : Account D). (t : StandsAfterLines functions state a store w mode (bytes ++ more)) × ((all : List ℕ) → a.input ≡ Some all → t.text ≡ all)) same (to_the_end kept store w mode bytes more s whole)
 
     by : (o : Option (List ℕ)) → kept.input ≡ o → (more : List ℕ) × StandsBeforeAll functions state (Some kept) store w mode (bytes ++ more)
     by None none = ([], to_rest [] (λ all is. absurd (cc)))
@@ -236,7 +236,7 @@ module _ (functions : Functions) {D R : Type 0} (state : D → State) (sound : (
       let before = kept_before forms new told later (given later is) in (
         before.0,
         before.1,
-        subst (λ (l : Account D). Follows from to before.0 l) before.2 (record { first = refl; mode = refl; input = refl; forms = omega (arith, count) }),
+        subst (λ (l : Account D). IsLaterAccount from to before.0 l) before.2 (record { first = refl; mode = refl; input = refl; forms = omega (arith, count) }),
         subst (λ (l : Account D). IsAtRest functions state l new w) before.2 (rests_here (with_forms forms new before.0) new w refl (ap (λ o. unwrap_or o before.0.now) known) (keeps w known)),
       )
 
@@ -339,8 +339,8 @@ module _ (functions : Functions) {D R : Type 0} (state : D → State) (sound : (
   -- ---- what may be handed on
 
   module _ (kept : Account D) (old new : StoreView D R) (w : WorldState) (mode : Mode) (bytes lines : List ℕ)
-      (at : (stands : Stands functions state kept old w mode bytes) × ((all : List ℕ) → kept.input ≡ Some all → stands.text ≡ all)) (known : old.world ≡ Some w) where
-    abbrev s : Stands functions state kept old w mode bytes
+      (at : (stands : StandsAfterLines functions state kept old w mode bytes) × ((all : List ℕ) → kept.input ≡ Some all → stands.text ≡ all)) (known : old.world ≡ Some w) where
+    abbrev s : StandsAfterLines functions state kept old w mode bytes
     s = at.0
 
     -- the lines of forms that were taken

@@ -1,6 +1,6 @@
 -- How far the snapshots of a session have come, and how its parts join.
 use Rattle.std.proofs.Common.{◌≡◌, ℕ, ◌+◌, ◌<◌, ◌⊎◌, Bool, List, [], ◌∷◌, ◌++◌, length, Option, Some, refl, sym, ap, subst, ◌∙◌, inl, inr, append_assoc, arith}
-use Rattle.disk_trait.specs.Disk.{State, IsHonest, IsSound}
+use Rattle.disk_trait.specs.Disk.{State, IsHonest, IsSoundDisk}
 use Rattle.gate_log.specs.Layout.{LogRecord}
 use Rattle.lisp_object.specs.declared.refusal.TheConstants.{DEVICE, OUTPUT, NO_MEMORY}
 use Rattle.lisp_reading.specs.Reading.{empty, refused}
@@ -11,7 +11,7 @@ use Rattle.sessions.specs.declared.ending.Ending.TheVariants.{End, Reader, Store
 use Rattle.prevalence_store.specs.meaning.Acceptance.{after, read_in}
 use Rattle.user_macros.specs.Functions.{Functions}
 use Rattle.sessions.specs.Answers.{Progress, after_forms, first_progress, onward}
-use Rattle.sessions.specs.Pace.{Counts, EndsInPace, Fill, HasMadeRoom, IsOverIn, IsPaced, IsUnfollowed, LogsWithRoom, Pace, Paces, IsFollowed, begun_with, fill_of}
+use Rattle.sessions.specs.Pace.{CountsLoggedForm, EndsInPace, Fill, HasMadeRoom, IsOverIn, IsPaced, IsUnfollowed, LogsWithRoom, Pace, Paces, IsFollowed, begun_with, fill_of}
 use Rattle.prevalence_store.specs.calls.Store.{StoreView}
 use Rattle.sessions.specs.steps.Answer.{AnswersFault, LeavesRecord, LogsAtOnce}
 use Rattle.prevalence_store.proofs.Surviving.{after-append}
@@ -24,7 +24,7 @@ module _ (functions : Functions) (limit : ℕ) where
 
   -- one form that was logged, and what follows it
   pub one_paced : (w given : WorldState) (entry : LogRecord) (pace later : Pace) (fill logged now : Fill) (taken : List LogRecord) → taken ≡ entry ∷ [] → after functions w taken ≡ Some given
-      → LogsWithRoom limit w entry fill logged → Counts pace later → IsFollowed limit pace given logged now → Paces functions limit w taken pace later fill now
+      → LogsWithRoom limit w entry fill logged → CountsLoggedForm pace later → IsFollowed limit pace given logged now → Paces functions limit w taken pace later fill now
   one_paced w given entry pace later fill logged now taken is given_is logs counts followed =
       subst (λ xs. Paces functions limit w xs pace later fill now) (sym is)
       (given, later, now, record { given_is = ap (after functions w) (sym is) ∙ given_is; logged = logged; logs = logs; counts = counts; followed = followed }, (refl, refl))
@@ -169,7 +169,7 @@ module _ (functions : Functions) (limit : ℕ) where
 
 -- ---- nothing was done
 
-module _ (functions : Functions) {D R : Type 0} (state : D → State) (sound : (d : D) → IsHonest (state d) → IsSound (state d)) (old new : StoreView D R) (w : WorldState) (mode : Mode) (text : List ℕ) (held written : Option (List ℕ))
+module _ (functions : Functions) {D R : Type 0} (state : D → State) (sound : (d : D) → IsHonest (state d) → IsSoundDisk (state d)) (old new : StoreView D R) (w : WorldState) (mode : Mode) (text : List ℕ) (held written : Option (List ℕ))
     (known : old.world ≡ Some w) where
   same_fill : new ≡ old → fill_of new ≡ fill_of old
   same_fill same = ap (λ (s : StoreView D R). fill_of s) same

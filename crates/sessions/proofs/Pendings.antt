@@ -18,12 +18,12 @@ use Rattle.form_reader.specs.declared.reader.ReaderState.TheVariants.{Open, Refu
 use Rattle.form_reader.specs.declared.reader.Advance.{Advance}
 use Rattle.form_reader.specs.declared.reader.Advance.TheVariants.{More as AdvanceMore, Form as AdvanceForm, Refused as AdvanceRefused}
 use Rattle.lisp_reading.specs.Plans.{Read}
-use Rattle.form_reader.specs.Reader.{begun, fed, limits_of, BeginsAt, BeginsLater, HasBegun, IsAfter, IsAfterIn, IsDecidedFrom, MayGoOn, Steps, StepsBegun}
+use Rattle.form_reader.specs.Reader.{begun, fed, limits_of, BeginsAt, BeginsLater, HasBegun, IsAfterBytes, IsAfterIn, IsDecidedFrom, MayGoOn, Steps, StepsBegun}
 use Rattle.lisp_reading.specs.Reading.{form, empty, outcome, reads, reads_at}
 use Rattle.lisp_reading.specs.Setting.{Setting}
 use Rattle.lisp_reading.specs.Fitting.{IsFitting}
 use Rattle.lisp_reading.proofs.Forms.{reads_is, stood, the_end_there}
-use Rattle.plist_state.specs.Sound.{IsSound}
+use Rattle.plist_state.specs.Sound.{IsSoundWorldState}
 use Rattle.plist_state.specs.State.{WorldState}
 use Rattle.sessions.specs.declared.input.Pending.{Pending}
 use Rattle.session_words.specs.declared.mode.Mode.{Mode}
@@ -41,7 +41,7 @@ unfolding reads
 reads_none setting = reads_is setting 0 [] ∙ ap (outcome setting.table 0 (λ next cs. reads_at setting next cs)) (the_end_there setting)
 
 -- nothing is pending, if the reader is new
-pub none_pending : (functions : Functions) (w : WorldState) (mode : Mode) (pending : Pending) → limits_of pending.reader ≡ form_limits → IsAfter (setting_in functions w mode) pending.reader []
+pub none_pending : (functions : Functions) (w : WorldState) (mode : Mode) (pending : Pending) → limits_of pending.reader ≡ form_limits → IsAfterBytes (setting_in functions w mode) pending.reader []
     → fed pending.reader ≡ 0 → begun pending.reader ≡ 0 → pending.text.items ≡ [] → pending.dropped ≡ 0
     → HasBegun (setting_in functions w mode) pending.reader [] → IsPending functions w mode pending []
 none_pending functions w mode pending limits after count begins none zero has_begun = record {
@@ -67,7 +67,7 @@ form_from setting start (Ok (the_end, at, cs)) x first stop next is = absurd (cc
 form_from setting start (Err e) x first stop next is = absurd (cc)
 
 -- a form at the end of the text began where what is open began, or later
-pub form_begun : (setting : Setting) (reader : FormReader) (bytes : List ℕ) (x : Object) (start stop next : ℕ) → IsAfter setting reader bytes
+pub form_begun : (setting : Setting) (reader : FormReader) (bytes : List ℕ) (x : Object) (start stop next : ℕ) → IsAfterBytes setting reader bytes
     → reads setting bytes ≡ form x start stop next → begun reader ≤ start
 form_begun setting reader bytes x start stop next after is = by_state reader.state after where
   whole : reads setting (bytes ++ []) ≡ form x start stop next
@@ -155,7 +155,7 @@ module _ (functions : Functions) (w : WorldState) (mode : Mode) (old : Pending) 
             is_own = is_own;
             next_is = by_left next count (nat_lt (next - old.dropped) count) refl places all ∙ sym many;
             none = λ later in_mode. none_pending functions later in_mode after (ap limits_of reader ∙ limits)
-                (subst (λ (r : FormReader). IsAfter (setting_in functions later in_mode) r []) (sym reader) (form_told.5 (setting_in functions later in_mode)))
+                (subst (λ (r : FormReader). IsAfterBytes (setting_in functions later in_mode) r []) (sym reader) (form_told.5 (setting_in functions later in_mode)))
                 (ap fed reader ∙ fed_none) (ap begun reader ∙ fresh.start) none zero
                 (subst (λ (r : FormReader). HasBegun (setting_in functions later in_mode) r []) (sym reader) (again (setting_in functions later in_mode)));
           },
@@ -173,7 +173,7 @@ module _ (functions : Functions) (w : WorldState) (mode : Mode) (old : Pending) 
       let there : HasBegun setting new (bytes ++ byte ∷ []) = subst (λ (s : Advance). StepsBegun setting new (bytes ++ byte ∷ []) s) is has_begun in
       record {
         limits = ap limits_of same ∙ limits ∙ pending.limits;
-        after = subst (λ (r : FormReader). IsAfter setting r (bytes ++ byte ∷ [])) (sym same) told.0;
+        after = subst (λ (r : FormReader). IsAfterBytes setting r (bytes ++ byte ∷ [])) (sym same) told.0;
         count = ap fed same ∙ told.1;
         kept = kept;
         only = only;
@@ -212,13 +212,13 @@ module _ (functions : Functions) (w : WorldState) (mode : Mode) (text : List ℕ
   begins_whole = subst (λ t. read_in functions w mode t ≡ form x 0 (length t) (length t)) (sym begins.is_own)
       (own_whole functions w mode text x begins.start begins.stop next begins.reads)
 
-  pub begins_fits : IsSound w → IsFitting w.packages x
+  pub begins_fits : IsSoundWorldState w → IsFitting w.packages x
   begins_fits sound = fits_in functions w mode text x begins.start begins.stop next sound begins.reads
 
 -- it may be evaluated there
 pub may_evaluate : (functions : Functions) (w : WorldState) (mode : Mode) (read : ReadForm) (own : List ℕ) → is_proper read.datum ≡ true → object.IsSound (object_of read.datum)
     → (read.known ≡ true → are_there w.packages (object_of read.datum) ≡ true)
-    → (text : List ℕ) × ((next : ℕ) × BeginsWith functions w mode text (object_of read.datum) own next) → IsSound w → MayEvaluate w.packages read
+    → (text : List ℕ) × ((next : ℕ) × BeginsWith functions w mode text (object_of read.datum) own next) → IsSoundWorldState w → MayEvaluate w.packages read
 may_evaluate functions w mode read own proper sound all_there b present = record {
   proper = proper;
   form = is_form w.packages (object_of read.datum) sound (begins_fits functions w mode b.0 (object_of read.datum) own b.1.0 b.1.1 present);

@@ -18,7 +18,7 @@ use Rattle.sessions.specs.steps.Gather.{BeginsWhole}
 use Rattle.sessions.specs.steps.Input.{HasForm, IsLastForm, IsPending}
 use Rattle.sessions.specs.Serve.{Advances}
 use Rattle.prevalence_store.specs.calls.Store.{StoreView}
-use Rattle.sessions.specs.steps.Serve.{GoesOn, MovesOn, ServesStrict}
+use Rattle.sessions.specs.steps.Serve.{GoesOn, PassesBytes, ServesStrict}
 use Rattle.session_words.specs.declared.wanted.Wanted.{Wanted}
 use Rattle.sessions.specs.steps.Course.{Course}
 use Rattle.sessions.specs.steps.Answer.{BeginsWith, PassesForm}
@@ -76,7 +76,7 @@ to_take zero many = many + many
 to_take (suc n) many = suc (many + many)
 
 -- more of them were taken
-pub moves_further : (before after many count more : ℕ) → MovesOn before after many (Ok count) → count + more ≤ many → MovesOn before after many (Ok (count + more))
+pub moves_further : (before after many count more : ℕ) → PassesBytes before after many (Ok count) → count + more ≤ many → PassesBytes before after many (Ok (count + more))
 moves_further before after many count more moves within = (within, omega (arith, moves.1), by_first moves.2) where
   by_first : (0 < count) ⊎ ((0 < before) × (after ≡ 0)) → (0 < count + more) ⊎ ((0 < before) × (after ≡ 0))
   by_first (inl some) = inl (omega (arith, some))
@@ -177,7 +177,7 @@ module _ (functions : Functions) (w : WorldState) (mode : Mode) (pending : Pendi
           ap (λ m. drop m (bytes ++ piece)) next ∙ drop-append-add bytes piece count,
         )
 
-    pub form_takes : (old : Pending) → IsPending functions w mode old bytes → MovesOn (fed old.reader) (fed pending.reader) (length piece) (Ok count)
+    pub form_takes : (old : Pending) → IsPending functions w mode old bytes → PassesBytes (fed old.reader) (fed pending.reader) (length piece) (Ok count)
     form_takes old before = (omega arith, rw none (omega arith), by_count count next_is) where
       none : fed pending.reader ≡ 0
       none = (has.none w mode).count

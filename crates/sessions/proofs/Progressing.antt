@@ -2,7 +2,7 @@
 use Rattle.std.proofs.Common.{◌≡◌, ℕ, zero, suc, Bool, ◌+◌, ◌⊎◌, List, [], ◌∷◌, ◌++◌, length, Option, None, Some, IsTrue, refl, sym, ap, subst, ◌∙◌, inl, inr, append_assoc, append-nil, arith, length-append}
 use Rattle.std.specs.Option.{option_map, option_and_then}
 use Rattle.std.proofs.lemmas.List.Sums.{sum_by-append}
-use Rattle.disk_trait.specs.Disk.{State, IsHonest, IsSound}
+use Rattle.disk_trait.specs.Disk.{State, IsHonest, IsSoundDisk}
 use Rattle.disk_trait.specs.Half.{opposite_of}
 use Rattle.disk_trait.specs.declared.half.Half.{Half}
 use Rattle.gate_log.specs.Layout.{LogRecord, with_records}
@@ -52,7 +52,7 @@ half_after_both zero m k half is = let same : k ≡ m = omega arith in ap (λ j.
 half_after_both (suc n) m zero half is = absurd (omega arith)
 half_after_both (suc n) m (suc k) half is = let less : k ≡ n + m = omega arith in ap opposite_of (half_after_both n m k half less)
 
-module _ (functions : Functions) {D R : Type 0} (state : D → State) (sound : (d : D) → IsHonest (state d) → IsSound (state d)) (old mid new : StoreView D R) (w v : WorldState) (xs ys : List LogRecord)
+module _ (functions : Functions) {D R : Type 0} (state : D → State) (sound : (d : D) → IsHonest (state d) → IsSoundDisk (state d)) (old mid new : StoreView D R) (w v : WorldState) (xs ys : List LogRecord)
     (here : after functions w xs ≡ Some v) (limit : mid.limit ≡ old.limit) (honest : (state mid.disk).honest ≡ (state old.disk).honest) where
   both_extended : IsExtended state old mid xs → IsExtended state mid new ys → IsExtended state old new (xs ++ ys)
   both_extended one two = record {
@@ -149,7 +149,7 @@ module _ (functions : Functions) {D R : Type 0} (state : D → State) (sound : (
   log_both (inr one) (inl two) = inr (renewed_extended one two)
   log_both (inr one) (inr two) = inr (both_renewed one two)
 
-module _ (functions : Functions) {D R : Type 0} (state : D → State) (sound : (d : D) → IsHonest (state d) → IsSound (state d)) (old mid new : StoreView D R) (w : WorldState) (p : Progress)
+module _ (functions : Functions) {D R : Type 0} (state : D → State) (sound : (d : D) → IsHonest (state d) → IsSoundDisk (state d)) (old mid new : StoreView D R) (w : WorldState) (p : Progress)
     (first : IsAfter functions state old mid w p) (honest : (state mid.disk).honest ≡ (state old.disk).honest) where
   pub after_both : (q : Progress) → IsAfter functions state mid new p.world q → IsAfter functions state old new w (onward p q)
   after_both q second = record {
@@ -186,7 +186,7 @@ module _ (functions : Functions) where
 
   -- ---- a session goes on
 
-  module _ {D R : Type 0} (state : D → State) (sound : (d : D) → IsHonest (state d) → IsSound (state d)) (old mid new : StoreView D R) (w : WorldState) (mode : Mode) (text : List ℕ) (a b c : Option (List ℕ)) (m : ℕ) (p : Progress)
+  module _ {D R : Type 0} (state : D → State) (sound : (d : D) → IsHonest (state d) → IsSoundDisk (state d)) (old mid new : StoreView D R) (w : WorldState) (mode : Mode) (text : List ℕ) (a b c : Option (List ℕ)) (m : ℕ) (p : Progress)
       (first : Advances functions state old mid w mode text a b m p) (honest : (state mid.disk).honest ≡ (state old.disk).honest) where
     survive_both : (taken : List LogRecord) (n : ℕ) → SurvivesAs functions state mid new p.world taken n → SurvivesAs functions state old new w (p.taken ++ taken) (length p.taken + n)
     survive_both taken n second known claims keeps =

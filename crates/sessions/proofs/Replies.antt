@@ -1,7 +1,7 @@
 -- What became of a form that was read, by what logging its record did to the store.
 use Rattle.std.proofs.Common.{◌≡◌, ℕ, ◌+◌, Bool, true, false, List, [], ◌++◌, length, Some, Result, Ok, Err, refl, sym, ap, subst, ◌∙◌, arith}
 use Rattle.std.specs.List.{AllByRecursion}
-use Rattle.disk_trait.specs.Disk.{State, IsHonest, IsSound}
+use Rattle.disk_trait.specs.Disk.{State, IsHonest, IsSoundDisk}
 use Rattle.gate_log.specs.Layout.{IsLogRecord, LogRecord}
 use Rattle.lisp_object.specs.Object.{Object}
 use Rattle.lisp_operators.specs.Evaluated.{done}
@@ -54,7 +54,7 @@ module _ (functions : Functions) where
   reply_made mode w v own x begun new reply (Err DeviceFault) is none whole = absurd is
   reply_made mode w v own x begun new reply (Err OutOfMemory) is none whole = absurd is
 
-  module _ {D R : Type 0} (state : D → State) (sound : (d : D) → IsHonest (state d) → IsSound (state d)) (old new : StoreView D R) where
+  module _ {D R : Type 0} (state : D → State) (sound : (d : D) → IsHonest (state d) → IsSoundDisk (state d)) (old new : StoreView D R) where
     module _ (mode : Mode) (text : List ℕ) where
       module _ (x : Object) where
         -- of which nothing is left
@@ -159,7 +159,7 @@ module _ (functions : Functions) (mode : Mode) (own : List ℕ) (x : Object) (w 
         subst (λ (es : List LogRecord). AllByRecursion IsLogRecord es) (sym taken) made.2,
       )
 
-  module _ {D R : Type 0} (state : D → State) (sound : (d : D) → IsHonest (state d) → IsSound (state d)) (old new : StoreView D R) (known : old.world ≡ Some w)
+  module _ {D R : Type 0} (state : D → State) (sound : (d : D) → IsHonest (state d) → IsSoundDisk (state d)) (old new : StoreView D R) (known : old.world ≡ Some w)
       (whole : read_in functions w mode own ≡ form x 0 (length own) (length own)) where
     -- what the log was to get of it
     taken_of : (v : WorldState) (records : List LogRecord) (reply : Reply) (is : IsReplied functions.names mode x own w v records reply) → records ≡ entries_to functions mode own is.answer

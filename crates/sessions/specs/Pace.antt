@@ -26,7 +26,7 @@ abbrev pub first_pace : (every ratio : ℕ) → Pace
 first_pace every ratio = record { every = every; left = every; ratio = ratio }
 
 -- that form was counted
-pub record Counts (pace later : Pace) : Type 0 where
+pub record CountsLoggedForm (pace later : Pace) : Type 0 where
   pub every : later.every ≡ pace.every
   pub ratio : later.ratio ≡ pace.ratio
   pub fewer : 1 < pace.left → later.left + 1 ≡ pace.left
@@ -39,6 +39,7 @@ pub record Fill : Type 0 where
   pub size : ℕ
   pub first_size : ℕ
 
+-- what a store tells of its half in use
 abbrev pub fill_of : {D R : Type 0} → StoreView D R → Fill
 fill_of store = record { generation = store.generation; record_count = store.record_count; size = store.size; first_size = store.first_size }
 
@@ -92,7 +93,7 @@ module _ (functions : Functions) (limit : ℕ) where
     pub given_is : after functions world (entry ∷ []) ≡ Some given
     pub logged : Fill
     pub logs : LogsWithRoom limit world entry fill logged
-    pub counts : Counts pace later
+    pub counts : CountsLoggedForm pace later
     pub followed : IsFollowed limit pace given logged now
 
   -- Forms with these records, from this world on, each with what follows it. A form that leaves no record changes nothing of it.
@@ -152,6 +153,7 @@ module _ (functions : Functions) (limit : ℕ) where
         pub some_open : lines < forms
         pub before : IsPaced answered.taken now ⊎ HasMadeRoom mode answered now
 
+      -- how far the snapshots have come, by the way in which the session ended
       abbrev pub EndsInPace : Ending → Type 0
       EndsInPace End = IsPaced far.taken now
       EndsInPace (Reader number) = IsPaced far.taken now

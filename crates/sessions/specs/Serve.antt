@@ -1,4 +1,10 @@
 -- How a session goes, and how it ends: one relation, with a case for each ending.
+--
+-- Read it in this order: `Progress` and `after_forms` of Answers.antt, what comes of the forms of a text; `Serves`, which forms were taken and
+-- answered, with `Ends`, a record for each ending; `EndsInPace` of Pace.antt, which snapshots were taken; `HasRead`, how much was read. Then
+-- `ServesInput` is all of these over a reader, and `ServesWanted`, which contracts cite, adds places and strict sessions.
+--
+-- There `lines` is how many forms were answered, and `lines` of a `Progress` their bytes; `taken` are the records of the forms that wrote.
 use Rattle.std.specs.Prelude.{◌≡◌, ◌≢◌, ◌⊎◌, ℕ, zero, suc, ◌+◌, ◌-◌, ◌<◌, ◌≤◌, max, List, [], ◌∷◌, ◌++◌, length, take, drop, Option, Some, Err, Bool, true, false}
 use Rattle.std.specs.List.{sum_by}
 use Rattle.disk_trait.specs.Disk.{State, IsHonest}
@@ -200,6 +206,7 @@ module _ (functions : Functions) {D R : Type 0} (state : D → State) (old new :
         pub no_part : part ≡ []
         pub after : IsAfter functions state old new world far
 
+      -- by the way in which the session ended; a fault by its number has one of seven causes
       abbrev pub Ends : Bool → Ending → Type 0
       Ends group End = IsDone
       Ends group (Reader number) = IsRefused number
@@ -339,6 +346,7 @@ module _ (functions : Functions) {D R : Type 0} (state : D → State) (old new :
 abbrev pub AreAccepted : (forms lines : ℕ) (far answered : Progress) → Type 0
 AreAccepted forms lines far answered = (answered.refused ≡ []) × (lines + 1 < forms → far.refused ≡ [])
 
+-- the pace at which a session begins that is wanted so
 abbrev pub pace_wanted : Wanted → Pace
 pace_wanted wanted = first_pace wanted.snapshot_every wanted.snapshot_ratio
 

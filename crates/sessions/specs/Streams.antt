@@ -13,5 +13,6 @@ pub record IsPart (held : List ℕ) (new : Option (List ℕ)) (text : List ℕ) 
   pub more : rest ≢ []
   pub written : new ≡ Some (held ++ front)
 
+-- of a writer that tells what it holds: it got a part of the text
 abbrev pub WritesPart : Option (List ℕ) → Option (List ℕ) → List ℕ → Type 0
 WritesPart old new text = (held : List ℕ) → old ≡ Some held → IsPart held new text

@@ -79,7 +79,8 @@ pub(crate) fn answer_fault<D: Disk, R: MacroFunctions, W: Recipient<D, R>>(
     number: u16,
 ) -> Ending
     requires is_open { IsSome store.old.world }
-    requires stands { StandsAtRefusal R.Meaning.functions D.state (W.account writer.old) store.old mode number }
+    requires stands { StandsAtRefusal R.Meaning.functions D.state
+        (W.account writer.old) store.old mode number }
     ensures answers { AnswersFault number (W.contents writer.old) (W.contents writer.new) result }
     ensures under_way { AcknowledgesNone R.Meaning.functions D.state (W.account writer.new) store.new }
     ensures first { W.first writer.new ≡ W.first writer.old }
@@ -105,7 +106,8 @@ pub(crate) fn answer_read<D: Disk, R: MacroFunctions, W: Recipient<D, R>>(
     form: &PlacedForm,
 ) -> Result<(), Ended>
     // The form was read in the world of the store, the recipient stands before it, and its places have room.
-    requires form { IsFormOf R.Meaning.functions store.old.world wanted.mode form.now.read form.now.own.items }
+    requires form { IsFormOf R.Meaning.functions store.old.world wanted.mode form.now.read
+        form.now.own.items }
     requires stands { StandsAtForm R.Meaning.functions D.state (W.account writer.old) store.old
         wanted.mode (object_of form.now.read.datum) form.now.own.items }
     requires order { form.now.start < form.now.next }
@@ -118,11 +120,13 @@ pub(crate) fn answer_read<D: Disk, R: MacroFunctions, W: Recipient<D, R>>(
         → begins.start ≡ form.now.start
         → AnswersRead R.Meaning.functions D.state (course_of course.old) (course_of course.new) store.old store.new w wanted
         text (W.contents writer.old) (W.contents writer.new) form.now.start form.now.next result }
-    ensures hands { OnOk result (HandsOn R.Meaning.functions D.state (course_of course.old).forms (course_of course.new).forms
+    ensures hands { OnOk result
+        (HandsOn R.Meaning.functions D.state (course_of course.old).forms (course_of course.new).forms
         (W.account writer.old) (W.account writer.new) store.new) }
-    ensures under_way { OnErr result (AcknowledgesNone R.Meaning.functions D.state (W.account writer.new) store.new) }
+    ensures under_way { OnErr result
+        (AcknowledgesNone R.Meaning.functions D.state (W.account writer.new) store.new) }
 
-    // How far the session has come, and what stays.
+    // No more forms are counted than bytes, and no more bytes than the form took.
     ensures forms { (course_of course.new).forms ≤ (course_of course.new).bytes }
     ensures bytes { (course_of course.new).bytes ≤ (course_of course.old).bytes + form.now.next }
     ensures first { W.first writer.new ≡ W.first writer.old }
@@ -163,8 +167,10 @@ pub(crate) fn answer_form<D: Disk, R: MacroFunctions, W: Recipient<D, R>>(
         → BeginsWith R.Meaning.functions w mode text (object_of form.now.read.now.datum) form.now.own.now next
         → AnswersForm R.Meaning.functions D.state store.old store.new w mode (pace_of schedule.old) (pace_of schedule.new)
         text (W.contents writer.old) (W.contents writer.new) result }
-    ensures hands { OnOk result (HandsOn R.Meaning.functions D.state 0 1 (W.account writer.old) (W.account writer.new) store.new) }
-    ensures under_way { OnErr result (AcknowledgesNone R.Meaning.functions D.state (W.account writer.new) store.new) }
+    ensures hands { OnOk result
+        (HandsOn R.Meaning.functions D.state 0 1 (W.account writer.old) (W.account writer.new) store.new) }
+    ensures under_way { OnErr result
+        (AcknowledgesNone R.Meaning.functions D.state (W.account writer.new) store.new) }
     ensures first { W.first writer.new ≡ W.first writer.old }
     ensures honest { (D.state store.new.disk).honest ≡ (D.state store.old.disk).honest }
 {
@@ -193,8 +199,10 @@ fn fit_form<D: Disk, R: MacroFunctions, W: Recipient<D, R>>(
         → FitsForm R.Meaning.functions D.state store.old store.new w mode
         text (W.contents writer.old) (W.contents writer.new) result }
     ensures is_open { OnOk result (IsSome store.new.world) }
-    ensures hands { OnOk result (HandsOn R.Meaning.functions D.state 0 1 (W.account writer.old) (W.account writer.new) store.new) }
-    ensures under_way { OnErr result (AcknowledgesNone R.Meaning.functions D.state (W.account writer.new) store.new) }
+    ensures hands { OnOk result
+        (HandsOn R.Meaning.functions D.state 0 1 (W.account writer.old) (W.account writer.new) store.new) }
+    ensures under_way { OnErr result
+        (AcknowledgesNone R.Meaning.functions D.state (W.account writer.new) store.new) }
     ensures first { W.first writer.new ≡ W.first writer.old }
     ensures honest { (D.state store.new.disk).honest ≡ (D.state store.old.disk).honest }
 {
@@ -234,10 +242,12 @@ fn try_form<D: Disk, R: MacroFunctions, W: Recipient<D, R>>(
     ensures unchanged { IfErr result (λ number. number ≡ LOG_FULL → store.new ≡ store.old) }
     ensures quiet { IfErr result (λ number. number ≡ LOG_FULL → writer.new ≡ writer.old) }
 
-    // What the recipient was handed, and what stays.
+    // It was handed the line of this form, whose record is stored; or, where the session ends, nothing that was done is acknowledged.
     ensures is_open { OnOk result (IsSome store.new.world) }
-    ensures hands { OnOk result (HandsOn R.Meaning.functions D.state 0 1 (W.account writer.old) (W.account writer.new) store.new) }
-    ensures under_way { OnErr result (AcknowledgesNone R.Meaning.functions D.state (W.account writer.new) store.new) }
+    ensures hands { OnOk result
+        (HandsOn R.Meaning.functions D.state 0 1 (W.account writer.old) (W.account writer.new) store.new) }
+    ensures under_way { OnErr result
+        (AcknowledgesNone R.Meaning.functions D.state (W.account writer.new) store.new) }
     ensures first { W.first writer.new ≡ W.first writer.old }
     ensures honest { (D.state store.new.disk).honest ≡ (D.state store.old.disk).honest }
 {
@@ -311,7 +321,8 @@ pub(crate) fn reply_to<R: MacroFunctions>(
     own: &[u8],
 ) -> Result<Reply, AllocError>
     requires form { MayEvaluate world.old.0.packages form.now }
-    ensures replies { IfOk result (λ reply. (answer : Result Evaluated Failure) × IsReplyTo R.Meaning.functions.names mode (object_of form.now.datum)
+    ensures replies { IfOk result (λ reply. (answer : Result Evaluated Failure)
+        × IsReplyTo R.Meaning.functions.names mode (object_of form.now.datum)
         own.now world.old.0 world.new.0 batch.old batch.new reply answer) }
     ensures marks { (worlds : Worlds) → IsMarked worlds world.old.1
         → IsMarked worlds world.new.1 }

@@ -45,7 +45,8 @@ pub(crate) fn answer_group<D: Disk, R: MacroFunctions, W: Recipient<D, R>>(
     rest: &[u8],
 ) -> Grouped
     // The form was read in the world of the store, the recipient stands before it, and its places have room.
-    requires form { IsFormOf R.Meaning.functions store.old.world wanted.mode first.now.read first.now.own.items }
+    requires form { IsFormOf R.Meaning.functions store.old.world wanted.mode first.now.read
+        first.now.own.items }
     requires stands { StandsAtWhole R.Meaning.functions D.state (W.account writer.old) store.old
         wanted.mode (object_of first.now.read.datum) first.now.own.items first.now.next rest.now }
     requires some { 0 < first.now.next }
@@ -66,7 +67,7 @@ pub(crate) fn answer_group<D: Disk, R: MacroFunctions, W: Recipient<D, R>>(
     ensures under_way { (ended : Ended) → result ≡ HasEnded ended
         → AcknowledgesNone R.Meaning.functions D.state (W.account writer.new) store.new }
 
-    // How far the session has come, and what stays.
+    // No more forms are counted than bytes, and no more bytes than the forms took that were answered.
     ensures within { (count : ℕ) → result ≡ Answered count → count ≤ length rest.now }
     ensures forms { (course_of course.new).forms ≤ (course_of course.new).bytes }
     ensures bytes { (count : ℕ) → result ≡ Answered count

@@ -1,7 +1,7 @@
 // What a session has read and not answered yet.
 ghost use Rattle.std.specs.Prelude.{◌≡◌, ◌+◌, ◌<◌, ◌≤◌, ◌^◌, ℕ, List, [], ◌∷◌, ◌++◌, drop, take, length, IfOk, OnOk, vec_len};
 ghost use Rattle.plist_state.specs.State.{WorldState};
-ghost use Rattle.form_reader.specs.Reader.{fed, begun, limits_of, HasBegun, IsAfter, Steps, StepsBegun, BeginsLater, RefusesFrom, IsOutcome, IsSoundStep};
+ghost use Rattle.form_reader.specs.Reader.{fed, begun, limits_of, HasBegun, IsAfterBytes, Steps, StepsBegun, BeginsLater, RefusesFrom, IsOutcome, IsSoundStep};
 ghost use Rattle.prevalence_store.specs.meaning.Acceptance.{between, form_limits, read_in, setting_in, table_in};
 ghost use Rattle.user_macros.specs.Functions.{Functions};
 ghost use Rattle.sessions.specs.steps.Input.{AreAllThere, IsPending, IsSoundFed, PlacesAreWithin, Feeds, Finishes, FeedsPart};
@@ -292,16 +292,16 @@ fn step_in<R: MacroFunctions>(
 
     // What the byte is, with those before it.
     ensures steps { (bytes : List ℕ)
-        → IsAfter (setting_in R.Meaning.functions world.now.0 mode) reader.old bytes
+        → IsAfterBytes (setting_in R.Meaning.functions world.now.0 mode) reader.old bytes
         → IfOk result (Steps (setting_in R.Meaning.functions world.now.0 mode)
         reader.new (bytes ++ byte ∷ [])) }
     ensures has_begun { (bytes : List ℕ)
-        → IsAfter (setting_in R.Meaning.functions world.now.0 mode) reader.old bytes
+        → IsAfterBytes (setting_in R.Meaning.functions world.now.0 mode) reader.old bytes
         → HasBegun (setting_in R.Meaning.functions world.now.0 mode) reader.old bytes
         → IfOk result (StepsBegun (setting_in R.Meaning.functions world.now.0 mode)
         reader.new (bytes ++ byte ∷ [])) }
 
-    // What stays, and what is bounded.
+    // The limits stay, at most one byte more is fed, and a form that it gives is sound.
     ensures limits { limits_of reader.new ≡ limits_of reader.old }
     ensures count { fed reader.new ≤ fed reader.old + 1 }
     ensures begun { IfOk result (BeginsLater reader.old reader.new) }
@@ -323,7 +323,7 @@ fn finish_in<R: MacroFunctions>(
     requires limits { limits_of reader ≡ form_limits }
     requires count { fed reader ≤ 2 ^ 63 }
     ensures outcome { (bytes : List ℕ)
-        → IsAfter (setting_in R.Meaning.functions world.now.0 mode) reader bytes
+        → IsAfterBytes (setting_in R.Meaning.functions world.now.0 mode) reader bytes
         → IfOk result (λ outcome. IsOutcome outcome
         (read_in R.Meaning.functions world.now.0 mode bytes)) }
     ensures has_begun { (bytes : List ℕ)

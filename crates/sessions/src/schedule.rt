@@ -1,7 +1,7 @@
 // When a session takes snapshots, and how.
 ghost use Rattle.std.specs.Prelude.{◌≡◌, ◌↔◌, ◌<◌, ◌≤◌, ◌+◌, ◌-◌, ◌^◌, ℕ, None, Some, IfSome, IsSome, IsTrue};
 ghost use Rattle.plist_state.specs.State.{WorldState};
-ghost use Rattle.sessions.specs.Pace.{Counts, HasGrown, IsDueByCount, fill_of, first_pace};
+ghost use Rattle.sessions.specs.Pace.{CountsLoggedForm, HasGrown, IsDueByCount, fill_of, first_pace};
 ghost use Rattle.sessions.specs.steps.Schedule.{CountsAll, IsBeforeDue, IsBeforeGrown, Renewing, RenewsAfterForm, pace_of};
 
 use disk_trait::Disk;
@@ -60,7 +60,7 @@ impl Schedule {
     /// Counts a form that was logged, and says whether a snapshot is due by the number of forms.
     pub(crate) fn count(&mut self) -> bool
         ensures due { IsTrue result ↔ IsDueByCount (pace_of self.old) }
-        ensures counts { Counts (pace_of self.old) (pace_of self.new) }
+        ensures counts { CountsLoggedForm (pace_of self.old) (pace_of self.new) }
     {
         if self.left > 1 {
             self.left -= 1;

@@ -10,7 +10,7 @@ ghost use Rattle.sessions.specs.Pace.{first_pace};
 ghost use Rattle.sessions.specs.Serve.{ServesInput, ServesWanted};
 ghost use Rattle.sessions.specs.steps.Input.{AreAllThere, AwaitsMore, IsPending, IsSoundFed, PlacesAreWithin, Feeds, FeedsPart, Finishes};
 ghost use Rattle.sessions.specs.steps.Course.{course_of};
-ghost use Rattle.sessions.specs.steps.Serve.{Answers, ComesTo, EndsAt, MovesOn};
+ghost use Rattle.sessions.specs.steps.Serve.{AnswersPiece, PieceComesTo, EndsAt, PassesBytes};
 ghost use Rattle.sessions.specs.steps.Standing.{AcknowledgesNone, HandsOn, StandsAtEnd, StandsInPiece};
 
 use crate::answer::{answer_fault, answer_read};
@@ -166,7 +166,7 @@ fn answer_piece<D: Disk, R: MacroFunctions, W: Recipient<D, R>>(
     // What the piece comes to, and what the recipient was handed.
     ensures answers { (w : WorldState) → store.old.world ≡ Some w → (bytes : List ℕ)
         → IsPending R.Meaning.functions w wanted.mode pending.old bytes
-        → Answers R.Meaning.functions D.state wanted (course_of course.old) (course_of course.new) store.old store.new w wanted.mode
+        → AnswersPiece R.Meaning.functions D.state wanted (course_of course.old) (course_of course.new) store.old store.new w wanted.mode
         (bytes ++ piece.now) (W.contents writer.old) (W.contents writer.new) pending.new result }
     ensures hands { result ≡ None
         → HandsOn R.Meaning.functions D.state (course_of course.old).forms (course_of course.new).forms
@@ -174,7 +174,7 @@ fn answer_piece<D: Disk, R: MacroFunctions, W: Recipient<D, R>>(
     ensures under_way { IsSome result
         → AcknowledgesNone R.Meaning.functions D.state (W.account writer.new) store.new }
 
-    // How far the session has come, and what stays.
+    // No more forms are counted than bytes; and of bytes, those that were answered and those that are pending, no more than came.
     ensures forms { (course_of course.new).forms ≤ (course_of course.new).bytes }
     ensures count { (course_of course.new).bytes + fed pending.new.reader
         ≤ (course_of course.old).bytes + fed pending.old.reader + length piece.now }
@@ -212,15 +212,17 @@ fn answer_next<D: Disk, R: MacroFunctions, W: Recipient<D, R>>(
     // What the piece comes to, and what the recipient was handed.
     ensures answers { (w : WorldState) → store.old.world ≡ Some w → (bytes : List ℕ)
         → IsPending R.Meaning.functions w wanted.mode pending.old bytes
-        → ComesTo R.Meaning.functions D.state wanted (course_of course.old) (course_of course.new) store.old store.new w wanted.mode
+        → PieceComesTo R.Meaning.functions D.state wanted (course_of course.old) (course_of course.new) store.old store.new w wanted.mode
         (bytes ++ piece.now) (W.contents writer.old) (W.contents writer.new) pending.new piece.now result }
-    ensures some { MovesOn (fed pending.old.reader) (fed pending.new.reader)
+    ensures some { PassesBytes (fed pending.old.reader) (fed pending.new.reader)
         (length piece.now) result }
-    ensures hands { OnOk result (HandsOn R.Meaning.functions D.state (course_of course.old).forms (course_of course.new).forms
+    ensures hands { OnOk result
+        (HandsOn R.Meaning.functions D.state (course_of course.old).forms (course_of course.new).forms
         (W.account writer.old) (W.account writer.new) store.new) }
-    ensures under_way { OnErr result (AcknowledgesNone R.Meaning.functions D.state (W.account writer.new) store.new) }
+    ensures under_way { OnErr result
+        (AcknowledgesNone R.Meaning.functions D.state (W.account writer.new) store.new) }
 
-    // How far the session has come, and what stays.
+    // No more forms are counted than bytes; and of bytes, those that were answered and those that are pending, no more than came.
     ensures forms { (course_of course.new).forms ≤ (course_of course.new).bytes }
     ensures count { IfOk result (λ count. (course_of course.new).bytes + fed pending.new.reader
         ≤ (course_of course.old).bytes + fed pending.old.reader + count) }

@@ -4,7 +4,7 @@ ghost use Rattle.lisp_object.specs.Datum.{object_of};
 ghost use Rattle.plist_state.specs.State.{WorldState, Worlds};
 ghost use Rattle.prevalence_store.specs.steps.Batch.{IsEmpty, IsMarked, entries_in};
 ghost use Rattle.sessions.specs.steps.Answer.{IsFormOf};
-ghost use Rattle.sessions.specs.steps.Gather.{AreTaken, BeginsWhole, IsCounted, MayBeTaken, TakesGroup};
+ghost use Rattle.sessions.specs.steps.Gather.{AreTaken, BeginsWhole, AreWithinLimit, MayBeTaken, TakesGroup};
 
 use crate::gather::{GatheredForms, GroupLimit};
 use crate::input::PlacedForm;
@@ -102,7 +102,7 @@ pub(crate) fn take_group<D: Disk, R: MacroFunctions>(
         → drop turn.now.first.now.next text ≡ turn.now.rest.now
         → TakesGroup R.Meaning.functions turn.now.wanted D.state store.old store.new world text result }
     ensures counts { IfOk result (λ made. IfSome made
-        (IsCounted turn.now.first.now.next (length turn.now.rest.now) turn.now.limit)) }
+        (AreWithinLimit turn.now.first.now.next (length turn.now.rest.now) turn.now.limit)) }
     ensures honest { (D.state store.new.disk).honest ≡ (D.state store.old.disk).honest }
 {
     open_world(store).soundness();

@@ -5,7 +5,7 @@ use Rattle.std.proofs.lemmas.Bool.{false≢true, ne_eqb}
 use Rattle.std.proofs.Math.Seq.{take-append_seam, take-length}
 use Rattle.std.proofs.lemmas.List.{append-nil, drop_more}
 use Rattle.package_table.specs.Table.{Name}
-use Rattle.canon_printer.specs.Names.{escaped}
+use Rattle.canon_printer.specs.Names.{with_backslashes}
 use Rattle.canon_printer.specs.Written.{is_escaped_in_text, printed_text}
 use Rattle.snapshot_lines.specs.declared.texts.Coming.{Coming}
 use Rattle.snapshot_lines.specs.declared.texts.Coming.TheVariants.{Item, End}
@@ -16,8 +16,8 @@ use Rattle.snapshot_lines.specs.Texts.{unescaped, unescaped_first, items_rest, p
 -- After a backslash a character comes that is taken as it is. Then come the characters of some text, its quote, and what stands
 -- after it.
 abbrev pub Left : Bool → List ℕ → List ℕ → Type 0
-Left false bytes after = (name : List ℕ) × (bytes ≡ escaped is_escaped_in_text name ++ 34 ∷ after)
-Left true bytes after = (c : ℕ) × (name : List ℕ) × (bytes ≡ c ∷ (escaped is_escaped_in_text name ++ 34 ∷ after))
+Left false bytes after = (name : List ℕ) × (bytes ≡ with_backslashes is_escaped_in_text name ++ 34 ∷ after)
+Left true bytes after = (c : ℕ) × (name : List ℕ) × (bytes ≡ c ∷ (with_backslashes is_escaped_in_text name ++ 34 ∷ after))
 
 pub after_escape : (x : ℕ) (xs after : List ℕ) → Left true (x ∷ xs) after → Left false xs after
 after_escape x xs after left = (left.1, let e = left.2 in cc)
@@ -31,7 +31,7 @@ no_backslash b plain is = false≢true (sym plain ∙ ap is_escaped_in_text is)
 pub after_backslash : (x : ℕ) (xs after : List ℕ) → x ≡ 92 → Left false (x ∷ xs) after → Left true xs after
 after_backslash x xs after is ([], e) = absurd (let head : x ≡ 34 = cc in omega arith)
 after_backslash x xs after is (b ∷ bs, e) =
-    elim (is_escaped_in_text b) as (λ t. is_escaped_in_text b ≡ t → x ∷ xs ≡ ((if t then codes "\\" ++ b ∷ [] else b ∷ []) ++ escaped is_escaped_in_text bs) ++ 34 ∷ after → Left true xs after) [
+    elim (is_escaped_in_text b) as (λ t. is_escaped_in_text b ≡ t → x ∷ xs ≡ ((if t then codes "\\" ++ b ∷ [] else b ∷ []) ++ with_backslashes is_escaped_in_text bs) ++ 34 ∷ after → Left true xs after) [
       | true ↦ λ _ e. (b, bs, cc)
       | false ↦ λ plain e. absurd (no_backslash b plain (let head : x ≡ b = cc in sym head ∙ is))
     ] refl e
@@ -39,7 +39,7 @@ after_backslash x xs after is (b ∷ bs, e) =
 pub after_other : (x : ℕ) (xs after : List ℕ) → x ≢ 92 → x ≢ 34 → Left false (x ∷ xs) after → Left false xs after
 after_other x xs after other quote ([], e) = absurd (quote (let head : x ≡ 34 = cc in head))
 after_other x xs after other quote (b ∷ bs, e) =
-    elim (is_escaped_in_text b) as (λ t. is_escaped_in_text b ≡ t → x ∷ xs ≡ ((if t then codes "\\" ++ b ∷ [] else b ∷ []) ++ escaped is_escaped_in_text bs) ++ 34 ∷ after → Left false xs after) [
+    elim (is_escaped_in_text b) as (λ t. is_escaped_in_text b ≡ t → x ∷ xs ≡ ((if t then codes "\\" ++ b ∷ [] else b ∷ []) ++ with_backslashes is_escaped_in_text bs) ++ 34 ∷ after → Left false xs after) [
       | true ↦ λ _ e. absurd (other (let head : x ≡ 92 = cc in head))
       | false ↦ λ _ e. (bs, cc)
     ] refl e
@@ -47,7 +47,7 @@ after_other x xs after other quote (b ∷ bs, e) =
 pub after_quote : (x : ℕ) (xs after : List ℕ) → x ≡ 34 → Left false (x ∷ xs) after → xs ≡ after
 after_quote x xs after is ([], e) = cc
 after_quote x xs after is (b ∷ bs, e) =
-    elim (is_escaped_in_text b) as (λ t. is_escaped_in_text b ≡ t → x ∷ xs ≡ ((if t then codes "\\" ++ b ∷ [] else b ∷ []) ++ escaped is_escaped_in_text bs) ++ 34 ∷ after → xs ≡ after) [
+    elim (is_escaped_in_text b) as (λ t. is_escaped_in_text b ≡ t → x ∷ xs ≡ ((if t then codes "\\" ++ b ∷ [] else b ∷ []) ++ with_backslashes is_escaped_in_text bs) ++ 34 ∷ after → xs ≡ after) [
       | true ↦ λ _ e. absurd (let head : x ≡ 92 = cc in omega arith)
       | false ↦ λ plain e. absurd (no_quote b plain (let head : x ≡ b = cc in sym head ∙ is))
     ] refl e
@@ -56,7 +56,7 @@ pub some_left : (escaped_one : Bool) (after : List ℕ) → Left escaped_one [] 
 some_left true after left = let e = left.2 in absurd cc
 some_left false after ([], e) = absurd cc
 some_left false after (b ∷ bs, e) =
-    elim (is_escaped_in_text b) as (λ t. [] ≡ ((if t then codes "\\" ++ b ∷ [] else b ∷ []) ++ escaped is_escaped_in_text bs) ++ 34 ∷ after → ⊥) [
+    elim (is_escaped_in_text b) as (λ t. [] ≡ ((if t then codes "\\" ++ b ∷ [] else b ∷ []) ++ with_backslashes is_escaped_in_text bs) ++ 34 ∷ after → ⊥) [
       | true ↦ λ e. absurd cc
       | false ↦ λ e. absurd cc
     ] e
@@ -96,21 +96,21 @@ module _ (text after : List ℕ) (i : ℕ) (within : i < length text) where
 -- ---- what a text is
 
 -- an escaped character is taken as it is, and so is one that needs no backslash
-pub unescaped_escaped : (name : List ℕ) → unescaped (escaped is_escaped_in_text name) ≡ name
+pub unescaped_escaped : (name : List ℕ) → unescaped (with_backslashes is_escaped_in_text name) ≡ name
 unescaped_escaped [] = refl
 unescaped_escaped (b ∷ bs) =
-    elim (is_escaped_in_text b) as (λ t. is_escaped_in_text b ≡ t → unescaped ((if t then codes "\\" ++ b ∷ [] else b ∷ []) ++ escaped is_escaped_in_text bs) ≡ b ∷ bs) [
+    elim (is_escaped_in_text b) as (λ t. is_escaped_in_text b ≡ t → unescaped ((if t then codes "\\" ++ b ∷ [] else b ∷ []) ++ with_backslashes is_escaped_in_text bs) ≡ b ∷ bs) [
       | true ↦ λ _. ap (λ cs. b ∷ cs) (unescaped_escaped bs)
-      | false ↦ λ none. plain b (escaped is_escaped_in_text bs) (no_backslash b none) ∙ ap (λ cs. b ∷ cs) (unescaped_escaped bs)
+      | false ↦ λ none. plain b (with_backslashes is_escaped_in_text bs) (no_backslash b none) ∙ ap (λ cs. b ∷ cs) (unescaped_escaped bs)
     ] refl
   where
     plain : (c : ℕ) (cs : List ℕ) → c ≢ 92 → unescaped (c ∷ cs) ≡ c ∷ unescaped cs
     plain c cs other = ap (λ b. if b then unescaped_first cs else c ∷ unescaped cs) (ne_eqb c 92 other)
 
 -- where the quote is found, the text is before it
-pub text_before : (text name after : List ℕ) (i : ℕ) → text ≡ escaped is_escaped_in_text name ++ 34 ∷ after → i < length text → drop i text ≡ 34 ∷ after → unescaped (take i text) ≡ name
+pub text_before : (text name after : List ℕ) (i : ℕ) → text ≡ with_backslashes is_escaped_in_text name ++ 34 ∷ after → i < length text → drop i text ≡ 34 ∷ after → unescaped (take i text) ≡ name
 text_before text name after i e within at =
-    let front = escaped is_escaped_in_text name in
+    let front = with_backslashes is_escaped_in_text name in
     let whole : length text ≡ length front + length (34 ∷ after) = ap length e ∙ length-append front (34 ∷ after) in
     let rest : length (drop i text) ≡ length (34 ∷ after) = ap length at in
     let cut = length-drop i text in

@@ -8,8 +8,8 @@ abbrev pub OrNoMemory : {A : Type 0} → Type 0 → Result A BuildError → Type
 OrNoMemory P result = MatchResult result (λ _. P) (λ e. e ≡ OutOfMemory)
 
 -- of what was made it is so, or memory ran out
-abbrev pub Makes : {A : Type 0} → Result A BuildError → (A → Type 0) → Type 0
-Makes result P = MatchResult result P (λ e. e ≡ OutOfMemory)
+abbrev pub IsOfMade : {A : Type 0} → Result A BuildError → (A → Type 0) → Type 0
+IsOfMade result P = MatchResult result P (λ e. e ≡ OutOfMemory)
 
 -- it is no error, and of what was found it is so
 abbrev pub Succeeds : {A E : Type 0} → Result A E → (A → Type 0) → Type 0

@@ -1,4 +1,4 @@
 pub mod Answers
 pub mod Lines
-pub mod Refused
+pub mod BuildRefusals
 pub mod Texts

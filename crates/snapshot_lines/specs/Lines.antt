@@ -17,9 +17,9 @@ abbrev pub line_setting : WorldState → Functions → Setting
 line_setting now functions = setting_of snapshot_limits standard 10 now.packages common_lisp_user functions
 
 -- What was read is this object, which ends at this offset; or memory ran out.
-abbrev pub IsFirst : Object → ℕ → Result (Datum × ℕ) BuildError → Type 0
-IsFirst x end (Ok read) = (object_of read.0 ≡ x) × (is_proper read.0 ≡ true) × (read.1 ≡ end)
-IsFirst x end (Err e) = e ≡ OutOfMemory
+abbrev pub IsReadFirst : Object → ℕ → Result (Datum × ℕ) BuildError → Type 0
+IsReadFirst x end (Ok read) = (object_of read.0 ≡ x) × (is_proper read.0 ≡ true) × (read.1 ≡ end)
+IsReadFirst x end (Err e) = e ≡ OutOfMemory
 
 -- The same of an object within a text, and of what follows it.
 abbrev pub IsNext : Object → List ℕ → List ℕ → Result (Datum × ℕ) BuildError → Type 0

@@ -26,7 +26,7 @@ impl From<AllocError> for BuildError {
 
 impl From<PackageError> for BuildError {
     ghost use Rattle.std.specs.Prelude.{◌≡◌};
-    ghost use Rattle.snapshot_lines.specs.Refused.{of_packages};
+    ghost use Rattle.snapshot_lines.specs.BuildRefusals.{of_packages};
 
     ghost from_gives = { λ error refusal. refusal ≡ of_packages error };
 
@@ -40,7 +40,7 @@ impl From<PackageError> for BuildError {
 
 impl From<ReadtableError> for BuildError {
     ghost use Rattle.std.specs.Prelude.{◌≡◌};
-    ghost use Rattle.snapshot_lines.specs.Refused.{of_readtables};
+    ghost use Rattle.snapshot_lines.specs.BuildRefusals.{of_readtables};
 
     ghost from_gives = { λ error refusal. refusal ≡ of_readtables error };
 

@@ -5,8 +5,8 @@ ghost use Rattle.readtable_core.specs.Tables.{standard};
 ghost use Rattle.package_table.specs.Table.{Table};
 ghost use Rattle.lisp_reading.specs.Reading.{form, reads};
 ghost use Rattle.world_text.specs.Lines.{IsLineRead};
-ghost use Rattle.snapshot_lines.specs.Lines.{IsFirst, IsNext, line_setting};
-ghost use Rattle.world_text.specs.Snapshot.{line};
+ghost use Rattle.snapshot_lines.specs.Lines.{IsReadFirst, IsNext, line_setting};
+ghost use Rattle.world_text.specs.Snapshot.{snapshot_line};
 
 use crate::error::BuildError;
 use crate::source::Source;
@@ -29,7 +29,7 @@ fn first_object<R: MacroFunctions>(
     requires table { source.now.table.now ≡ standard }
     ensures { let setting = line_setting world.now.0 (R.functions source.now.macros.now) in
         (x : Object) (end next : ℕ) → reads setting bytes.now ≡ form x 0 end next
-        → IsFirst x end result }
+        → IsReadFirst x end result }
 {
     let packages = world.packages();
     packages.soundness();
@@ -82,7 +82,7 @@ pub fn next_object<R: MacroFunctions>(
     requires table { source.now.table.now ≡ standard }
     ensures { let setting = line_setting world.now.0 (R.functions source.now.macros.now) in
         (packages : Table) (x : Object) (rest : List ℕ) → length source.now.bytes.now ≤ 4294967295
-        → drop at source.now.bytes.now ≡ line packages x ++ rest
+        → drop at source.now.bytes.now ≡ snapshot_line packages x ++ rest
         → IsLineRead setting packages x rest → IsNext x source.now.bytes.now rest result }
 {
     let (datum, end) = object_at(source, world, at)?;

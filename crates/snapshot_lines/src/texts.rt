@@ -6,7 +6,7 @@ ghost use Rattle.lisp_object.specs.Ascii.{is_ascii};
 ghost use Rattle.canon_printer.specs.Written.{printed_text};
 ghost use Rattle.package_table.specs.Table.{Name};
 ghost use Rattle.snapshot_lines.specs.Texts.{unescaped, unescaped_pair, texts_text, pair_text, pairs_text, IsAtItems, IsComing, LeavesLess};
-ghost use Rattle.snapshot_lines.specs.Answers.{Makes, Succeeds};
+ghost use Rattle.snapshot_lines.specs.Answers.{IsOfMade, Succeeds};
 
 use crate::error::BuildError;
 use lisp_object::Bytes;
@@ -101,7 +101,7 @@ pub fn name_of(alloc: Global, written: &[u8]) -> Result<Bytes, BuildError>
     ensures same { IfOk result (λ name. name ≡ unescaped written.now) }
     ensures below { IfOk result (λ name. All (λ b. b < 128) name) }
     ensures read { list_all is_ascii (unescaped written.now) ≡ true
-        → Makes result (λ name. name ≡ unescaped written.now) }
+        → IsOfMade result (λ name. name ≡ unescaped written.now) }
 {
     let name = text_of(alloc, written)?;
     if !name.is_ascii() {
@@ -120,7 +120,7 @@ fn push_item<T: Copy>(items: &mut Vec<T>, item: T) -> Result<(), AllocError>
 /// The texts of the list that begins here, and what stands after it.
 pub fn texts_in(alloc: Global, bytes: &[u8]) -> Result<(Vec<&[u8]>, &[u8]), BuildError>
     ensures texts { (names : List Name) (after : List ℕ) → bytes.now ≡ texts_text names ++ after
-        → Makes result (λ read. (map (λ b. unescaped b.now) read.0.items ≡ names)
+        → IsOfMade result (λ read. (map (λ b. unescaped b.now) read.0.items ≡ names)
         × (read.1.now ≡ after)) }
     ensures shorter { IfOk result (λ read. length read.1.now < length bytes.now) }
 {
@@ -154,7 +154,7 @@ fn pair_in(bytes: &[u8]) -> Result<((&[u8], &[u8]), &[u8]), BuildError>
 pub fn pairs_in(alloc: Global, bytes: &[u8]) -> Result<(Vec<(&[u8], &[u8])>, &[u8]), BuildError>
     ensures pairs { (pairs : List (Name × Name)) (after : List ℕ)
         → bytes.now ≡ pairs_text pairs ++ after
-        → Makes result (λ read. (map unescaped_pair read.0.items ≡ pairs)
+        → IsOfMade result (λ read. (map unescaped_pair read.0.items ≡ pairs)
         × (read.1.now ≡ after)) }
     ensures shorter { IfOk result (λ read. length read.1.now < length bytes.now) }
 {

@@ -6,17 +6,17 @@
 use Rattle.std.proofs.Common.{◌≡◌, ◌≢◌, ℕ, ◌<◌, List, [], true, Some, length, get_or, is_some, sym, ap, subst, ◌∙◌, inl, inr, arith}
 use Rattle.std.specs.Prelude.{All, option_map, option_and_then}
 use Rattle.std.specs.FinMap as finite
-use Rattle.package_table.specs.Table.{Name, Present, Package, Table, common_lisp, IsPackage, IsPresent, IsSound}
+use Rattle.package_table.specs.Table.{Name, Present, Package, Table, common_lisp, IsPackage, IsPresent, AreSoundPackages}
 use Rattle.package_table.proofs.Frames.{name_cases}
 use Rattle.package_table.proofs.KeptSound.{used_is_package}
 use Rattle.package_table.proofs.Names.{same_some}
 use Rattle.snapshot_text.specs.declared.package_parts.PackageParts.{PackageParts}
-use Rattle.snapshot_text.specs.Phases.{HasOwn, HasSymbols, HasExternals, HasUses, IsBegun, IsRowOf, AreRowsOf, Everywhere, other_packages}
+use Rattle.snapshot_text.specs.Phases.{HasOwn, HasSymbols, HasExternals, HasUses, HasItsPackages, IsRowOf, AreRowsOf, Everywhere, other_packages}
 use Rattle.snapshot_text.proofs.PackageLists.{others_are, other_among}
 use Rattle.snapshot_text.proofs.PartFinds.{present_entry, present_package}
 use Rattle.snapshot_text.proofs.PartSame.{same_parts}
 
-module _ (t s : Table) (sound_t : IsSound t) (sound_s : IsSound s) where
+module _ (t s : Table) (sound_t : AreSoundPackages t) (sound_s : AreSoundPackages s) where
   same_lisp : finite.get s common_lisp ≡ finite.get t common_lisp
   same_lisp = sound_s.first.fixed ∙ sym sound_t.first.fixed
 
@@ -39,7 +39,7 @@ everywhere s P lisp all = λ p there.
       | inr differ ↦ other_among s P all p there differ
     ]
 
-module _ (t s : Table) (sound_t : IsSound t) (sound_s : IsSound s) where
+module _ (t s : Table) (sound_t : AreSoundPackages t) (sound_s : AreSoundPackages s) where
   pub own_everywhere : All (HasOwn t s) (other_packages s) → Everywhere s (HasOwn t s)
   own_everywhere all = everywhere s (HasOwn t s) (lisp_own t s sound_t sound_s) all
 
@@ -75,7 +75,7 @@ row_at s rows i row are lt at =
 
 -- ---- at the end
 
-pub same_packages : (t s : Table) → IsBegun t s → Everywhere s (HasSymbols t s) → Everywhere s (HasExternals t s) → Everywhere s (HasUses t s) → t ≡ s
+pub same_packages : (t s : Table) → HasItsPackages t s → Everywhere s (HasSymbols t s) → Everywhere s (HasExternals t s) → Everywhere s (HasUses t s) → t ≡ s
 same_packages t s begun symbols externals uses = same_parts t s begun.part (record {
   packages = λ p there. (begun.own p there).there;
   symbols = λ p n e at.

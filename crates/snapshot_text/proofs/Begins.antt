@@ -6,12 +6,12 @@ use Rattle.std.proofs.lemmas.List.Elements.{All-more, All-weaker}
 use Rattle.package_table.specs.Table.{Name, Table}
 use Rattle.package_table.specs.Growth.{Grows}
 use Rattle.snapshot_text.specs.Part.{IsPartOf}
-use Rattle.snapshot_text.specs.Phases.{HasOwn, HasSymbols, HasExternals, HasUses, IsBegun}
+use Rattle.snapshot_text.specs.Phases.{HasOwn, HasSymbols, HasExternals, HasUses, HasItsPackages}
 
 pub own_grown : (t u s : Table) (p : Name) → HasOwn t s p → Grows t u → HasOwn u s p
 own_grown t u s p own grows = record { there = grows.packages p own.there; names = λ n here. grows.homes p n p (own.names n here) }
 
-pub begun_grown : (t u s : Table) → IsBegun t s → Grows t u → IsPartOf u s → IsBegun u s
+pub begun_grown : (t u s : Table) → HasItsPackages t s → Grows t u → IsPartOf u s → HasItsPackages u s
 begun_grown t u s begun grows part = record {
   sound = begun.sound;
   part = part;

@@ -4,11 +4,11 @@ use Rattle.std.specs.Prelude.{Ok, Err, if◌then◌else◌, bytes_eq, option_map
 use Rattle.std.specs.Option.{option_map_or}
 use Rattle.package_table.specs.declared.error.PackageError.TheVariants.{NoSuchPackage, PackageIsLocked, Limit}
 use Rattle.package_table.specs.Limits.{most_symbols, longest_symbol_name}
-use Rattle.package_table.specs.Table.{Name, Table, Present, common_lisp, keyword, IsPackage, IsPresent, IsExternal, IsSound, symbol_count}
+use Rattle.package_table.specs.Table.{Name, Table, Present, common_lisp, keyword, IsPackage, IsPresent, IsExternal, AreSoundPackages, symbol_count}
 use Rattle.package_table.specs.Changes.{after_intern, after_export, with_external, with_new_symbol}
 use Rattle.package_table.proofs.Found.{present_found}
 use Rattle.snapshot_text.specs.Part.{IsPartOf}
-use Rattle.snapshot_text.specs.Phases.{HasSymbols, IsBegun}
+use Rattle.snapshot_text.specs.Phases.{HasSymbols, HasItsPackages}
 use Rattle.snapshot_text.proofs.Gave.{same_ok}
 use Rattle.snapshot_text.proofs.PartFinds.{external_entry, present_package}
 use Rattle.snapshot_text.proofs.PartSteps.{not_locked, export_goes, export_part, export_there}
@@ -21,7 +21,7 @@ intern_goes t p n h there here = λ i.
     else (if nat_lt longest_symbol_name (length n) || nat_le most_symbols (symbol_count t) then Err Limit
     else Ok (p, with_new_symbol t p n)))
 
-module _ (t s : Table) (p n : Name) (begun : IsBegun t s) (has : HasSymbols t s p) (shown : IsExternal s p n) where
+module _ (t s : Table) (p n : Name) (begun : HasItsPackages t s) (has : HasSymbols t s p) (shown : IsExternal s p n) where
   abbrev pub home : Name
   home = (external_entry s p n shown).0.home
 
@@ -43,7 +43,7 @@ module _ (t s : Table) (p n : Name) (begun : IsBegun t s) (has : HasSymbols t s 
       let both = same_ok (g, u) (home, t) (sym e ∙ interns) in
       (ap (λ (r : Name × Table). r.0) both, ap (λ (r : Name × Table). r.1) both)
 
-  module _ (lisp : p ≢ common_lisp) (key : p ≢ keyword) (sound : IsSound t) where
+  module _ (lisp : p ≢ common_lisp) (key : p ≢ keyword) (sound : AreSoundPackages t) where
     pub exports : after_export t p home n ≡ Ok (with_external t p home n)
     exports = export_goes t s begun.part begun.sound p n home there got shown sound here (not_locked p lisp key)
 

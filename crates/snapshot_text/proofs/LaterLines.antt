@@ -6,14 +6,14 @@ use Rattle.package_table.specs.Table.{common_lisp_user}
 use Rattle.canon_printer.specs.Printed.{printed}
 use Rattle.lisp_reading.specs.Setting.{setting_of}
 use Rattle.plist_state.specs.State.{WorldState}
-use Rattle.plist_state.specs.Sound.{IsSound}
+use Rattle.plist_state.specs.Sound.{IsSoundWorldState}
 use Rattle.snapshot_text.specs.Built.{with_packages_of, with_properties_of}
 use Rattle.world_text.specs.Lines.{snapshot_limits, IsLineRead}
 use Rattle.world_text.specs.Snapshot.{properties_object, tables_object_in}
 use Rattle.world_text.proofs.LinesRead.{second_read, third_read}
 use Rattle.user_macros.specs.Functions.{Functions}
 
-module _ (functions : Functions) (s : WorldState) (sound : IsSound s) (w : WorldState) where
+module _ (functions : Functions) (s : WorldState) (sound : IsSoundWorldState s) (w : WorldState) where
   pub second_line : w ≡ with_packages_of s → length (printed s.packages common_lisp_user (properties_object s)) ≤ 4294967295 → (rest : List ℕ)
       → IsLineRead (setting_of snapshot_limits standard 10 w.packages common_lisp_user functions) s.packages (properties_object s) rest
   second_line old fits rest =

@@ -14,7 +14,7 @@ use Rattle.readtable_core.specs.Characters.{is_lower_case, is_digit}
 use Rattle.readtable_core.specs.Names.{is_function_name, is_dispatch_name, dispatch_name}
 use Rattle.readtable_core.specs.Tables.{CharacterEntry, Table, entry_at}
 use Rattle.readtable_core.specs.Sound.{IsCharacterEntry, is_macro, is_dispatching, dispatches, is_none_or_name}
-use Rattle.readtable_core.specs.Changes.{with_entry, with_function, macro_entry, macro_syntax, dispatching_entry}
+use Rattle.readtable_core.specs.Changes.{with_character_entry, with_function, macro_entry, macro_syntax, dispatching_entry}
 use Rattle.readtable_core.proofs.Named.{all_named, passes}
 use Rattle.package_table.specs.Table.{Name, keyword}
 use Rattle.package_table.specs.Lookup.{is_symbol}
@@ -103,7 +103,7 @@ pub record IsFilling (s : WorldState) (n : Name) (t : Table) (c : ℕ) (e : Char
   pub proper : list_all is_proper pairs ≡ true
   pub objects : map object_of pairs ≡ dispatch_objects e
   pub places : List (Option Name)
-  pub is : now ≡ with_table s n (with_entry t c (with_places e places))
+  pub is : now ≡ with_table s n (with_character_entry t c (with_places e places))
   pub left : put_all places (drop k (subs e)) ≡ e.dispatch
 
 dispatching_is : (e : CharacterEntry) (b : Bool) → IsCharacterEntry e → e.syntax ≡ macro_syntax b → is_dispatch_name (function_of e) ≡ true → dispatching_entry b ≡ with_places e (replicate 128 None)
@@ -116,12 +116,12 @@ many_places e b sound is named = sound.places ∙ ap (λ b. if b then 128 else 0
 
 pub first_filling : (s : WorldState) (n : Name) (t : Table) (c : ℕ) (e : CharacterEntry) (b : Bool) (pairs : List Datum) (now : WorldState) → IsCharacterEntry e → e.syntax ≡ macro_syntax b
     → is_dispatch_name (function_of e) ≡ true → list_all is_proper pairs ≡ true → map object_of pairs ≡ dispatch_objects e
-    → now ≡ with_table s n (with_entry t c (dispatching_entry b)) → IsFilling s n t c e pairs 0 now
+    → now ≡ with_table s n (with_character_entry t c (dispatching_entry b)) → IsFilling s n t c e pairs 0 now
 first_filling s n t c e b pairs now sound is named proper objects made = record {
   proper = proper;
   objects = objects;
   places = replicate 128 None;
-  is = made ∙ ap (λ f. with_table s n (with_entry t c f)) (dispatching_is e b sound is named);
+  is = made ∙ ap (λ f. with_table s n (with_character_entry t c f)) (dispatching_is e b sound is named);
   left = filled (sub_update e.dispatch) None e.dispatch (replicate 128 None) 0 128 refl (many_places e b sound is named) (λ q small. absurd (omega arith))
       (λ q past nothing. blank q ∙ sym (unset (get_or e.dispatch q None) nothing))
       (λ q x some. set_to (get_or e.dispatch q None) x some);
@@ -150,7 +150,7 @@ pub record IsPair (s : WorldState) (n : Name) (t : Table) (c : ℕ) (e : Charact
   pub table : Table
   pub writable : IsWritable now.readtables n table
   pub dispatching : is_dispatching (entry_at table c) ≡ true
-  pub later : (after : WorldState) → after ≡ with_table now n (with_entry table c (with_function (entry_at table c) sub function)) → IsFilling s n t c e pairs (k + 1) after
+  pub later : (after : WorldState) → after ≡ with_table now n (with_character_entry table c (with_function (entry_at table c) sub function)) → IsFilling s n t c e pairs (k + 1) after
 
 no_key : (a : Bool) (o : Option Name) → is_some o ≡ true → (IsTrue a → o ≡ None) → a ≡ false
 no_key true o some nothing = absurd (let e : o ≡ None = nothing refl in both_ways (is_some o) (ap is_some e) some)
@@ -180,7 +180,7 @@ pair_at s n t c e b pairs k now pair named syntax dispatches_here small w so_far
     (and_parts (passes (is_symbol s.packages keyword) e.function) (list_all (passes (is_symbol s.packages keyword)) e.dispatch)
     (sym (all_named (is_symbol s.packages keyword) (e.function ∷ e.dispatch)) ∙ named.functions)).1 in
     let same : s.packages ≡ now.packages = sym (ap (λ (x : WorldState). x.packages) so_far.is) in
-    let here = with_entry t c (with_places e so_far.places) in
+    let here = with_character_entry t c (with_places e so_far.places) in
     let at_c : entry_at here c ≡ with_places e so_far.places = entry_there t c (with_places e so_far.places) (let m = w.count in omega arith) in
     let may : IsSubFunction s.packages u.0 f = record {
       character = below;
@@ -203,20 +203,20 @@ pair_at s n t c e b pairs k now pair named syntax dispatches_here small w so_far
         proper = so_far.proper;
         objects = so_far.objects;
         places = set so_far.places u.0 u.1;
-        is = made ∙ ap (λ (x : WorldState). with_table x n (with_entry here c (with_function (entry_at here c) u.0 f))) so_far.is
-            ∙ table_twice s n here (with_entry here c (with_function (entry_at here c) u.0 f))
+        is = made ∙ ap (λ (x : WorldState). with_table x n (with_character_entry here c (with_function (entry_at here c) u.0 f))) so_far.is
+            ∙ table_twice s n here (with_character_entry here c (with_function (entry_at here c) u.0 f))
             ∙ ap (with_table s n) (entry_twice t c (with_places e so_far.places) (with_function (entry_at here c) u.0 f)
-            ∙ ap (λ x. with_entry t c (with_function x u.0 f)) at_c
-            ∙ ap (λ i. with_entry t c (with_places e (set so_far.places i (Some f)))) (upper_same s.packages u.0 f may)
-            ∙ ap (λ o. with_entry t c (with_places e (set so_far.places u.0 o))) (sym of.1));
+            ∙ ap (λ x. with_character_entry t c (with_function x u.0 f)) at_c
+            ∙ ap (λ i. with_character_entry t c (with_places e (set so_far.places i (Some f)))) (upper_same s.packages u.0 f may)
+            ∙ ap (λ o. with_character_entry t c (with_places e (set so_far.places u.0 o))) (sym of.1));
         left = put_next so_far.places us k (0, None) among ∙ so_far.left;
       };
     }
 
 pub last_filling : (s : WorldState) (n : Name) (t : Table) (c : ℕ) (e : CharacterEntry) (pairs : List Datum) (k : ℕ) (now : WorldState) → IsFilling s n t c e pairs k now → k ≡ length pairs
-    → now ≡ with_table s n (with_entry t c e)
+    → now ≡ with_table s n (with_character_entry t c e)
 last_filling s n t c e pairs k now so_far all =
     let us = subs e in
     let count : length pairs ≡ length us = item_count pairs (dispatch_objects e) so_far.objects ∙ ap length (subs_are e) ∙ length-map us sub_object in
     let done : so_far.places ≡ e.dispatch = ap (put_all so_far.places) (sym (ap (λ j. drop j us) (all ∙ count) ∙ drop-length us)) ∙ so_far.left in
-    so_far.is ∙ ap (λ places. with_table s n (with_entry t c (with_places e places))) done
+    so_far.is ∙ ap (λ places. with_table s n (with_character_entry t c (with_places e places))) done

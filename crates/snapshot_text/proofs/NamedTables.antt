@@ -18,7 +18,7 @@ use Rattle.readtable_core.specs.Tables.{Table, standard}
 use Rattle.package_table.specs.Table.{Name, name_cmp, keyword}
 use Rattle.plist_state.specs.State.{Readtables, WorldState, standard_name, user_name, first_readtables}
 use Rattle.plist_state.specs.Readers.{readtable_names}
-use Rattle.plist_state.specs.Sound.{IsSound, IsNamed, IsSymbol}
+use Rattle.plist_state.specs.Sound.{IsSoundWorldState, IsNamed, IsSymbol}
 use Rattle.plist_state.proofs.Orders.{name_total, name_exact, one_name, name_tied}
 use Rattle.world_text.specs.Snapshot.{readtable_object, table_named}
 use Rattle.snapshot_text.specs.Built.{with_table, with_properties_of, with_readtables_of, CanBeMade}
@@ -138,7 +138,7 @@ table_is s n there =
     ] there
 
 -- where a name has no readtable in a sound state, it had none from the first
-first_at : (s : WorldState) → IsSound s → (q : Name) → bytes_eq q standard_name ≡ false → finite.contains_key s.readtables q ≡ false → finite.get first_readtables q ≡ finite.get s.readtables q
+first_at : (s : WorldState) → IsSoundWorldState s → (q : Name) → bytes_eq q standard_name ≡ false → finite.contains_key s.readtables q ≡ false → finite.get first_readtables q ≡ finite.get s.readtables q
 first_at s sound q other absent =
     let start : Readtables = finite.empty in
     get-insert name_total (finite.insert start standard_name standard) user_name standard q
@@ -165,7 +165,7 @@ first_standard =
     either start true = sym (get-insert name_total start standard_name standard standard_name ∙ ap (λ b. cond b (Some standard) (finite.get start standard_name)) (name_tied standard_name))
     either start false = refl
 
-all_named : (s : WorldState) → IsSound s → put_named first_readtables s (names s) ≡ s.readtables
+all_named : (s : WorldState) → IsSoundWorldState s → put_named first_readtables s (names s) ≡ s.readtables
 all_named s sound = same_map name_total name_exact _ _ (λ q.
     got first_readtables s (names s) q
     ∙ ap (λ b. cond b (Some (table_named s q)) (finite.get first_readtables q)) (any_filtered other_name q (readtable_names s)
@@ -193,7 +193,7 @@ pub record IsNaming (s : WorldState) (rows : List Datum) (k : ℕ) (now : WorldS
   pub left : put_named now.readtables s (drop k (names s)) ≡ s.readtables
   pub standard : finite.get now.readtables standard_name ≡ Some standard
 
-pub first_naming : (s : WorldState) → IsSound s → (rows : List Datum) (now : WorldState) → now ≡ with_properties_of s → list_all is_proper rows ≡ true
+pub first_naming : (s : WorldState) → IsSoundWorldState s → (rows : List Datum) (now : WorldState) → now ≡ with_properties_of s → list_all is_proper rows ≡ true
     → map object_of rows ≡ map (row_of s) (names s) → IsNaming s rows 0 now
 first_naming s sound rows now is proper objects = record {
   proper = proper;
@@ -213,7 +213,7 @@ pub record IsTableRow (s : WorldState) (rows : List Datum) (k : ℕ) (now : Worl
   pub can : CanBeMade now.readtables name
   pub later : (after : WorldState) → after ≡ with_table now name (table_named s name) → IsNaming s rows (k + 1) after
 
-pub table_row_at : (s : WorldState) → IsSound s → (rows : List Datum) (k : ℕ) (now : WorldState) (row : Datum) → IsNaming s rows k now → k < length rows → row ≡ get_or rows k row
+pub table_row_at : (s : WorldState) → IsSoundWorldState s → (rows : List Datum) (k : ℕ) (now : WorldState) (row : Datum) → IsNaming s rows k now → k < length rows → row ≡ get_or rows k row
     → IsTableRow s rows k now row
 table_row_at s sound rows k now row so_far few is =
     let ns = names s in

@@ -3,7 +3,7 @@ use Rattle.std.proofs.Common.{◌≡◌, ℕ, ◌+◌, ◌≤◌, ◌<◌, List,
 use Rattle.std.specs.Prelude.{codes}
 use Rattle.std.proofs.lemmas.List.{drop_more}
 use Rattle.lisp_object.specs.Object.{Object, text, list_of}
-use Rattle.package_table.specs.Table.{Name, Table, IsSound, common_lisp_user}
+use Rattle.package_table.specs.Table.{Name, Table, AreSoundPackages, common_lisp_user}
 use Rattle.package_table.specs.Readers.{used_names, imports}
 use Rattle.canon_printer.specs.Written.{written_rest, printed_text}
 use Rattle.canon_printer.specs.Printed.{printed_prefix}
@@ -20,7 +20,7 @@ module _ (s : Table) where
   rest_is f (x ∷ xs) = ap (λ r. 32 ∷ (object_text s (f x) ++ r)) (rest_is f xs)
 
   -- objects in a list
-  pub listed_are : IsSound s → {A : Type 0} (f : A → Object) (xs : List A) → object_text s (list_of (map f xs)) ≡ items_text (map (λ x. object_text s (f x)) xs)
+  pub listed_are : AreSoundPackages s → {A : Type 0} (f : A → Object) (xs : List A) → object_text s (list_of (map f xs)) ≡ items_text (map (λ x. object_text s (f x)) xs)
   listed_are sound f [] = ap (λ prefix. prefix ++ codes "NIL") (no_prefix s sound)
   listed_are sound f (x ∷ xs) = ap (λ r. 40 ∷ (object_text s (f x) ++ r)) (rest_is f xs)
 
@@ -48,7 +48,7 @@ five_apart a b c d e after =
     let two = append_assoc b (32 ∷ (c ++ (32 ∷ (d ++ (32 ∷ (e ++ 41 ∷ [])))))) after ∙ ap (λ x. b ++ 32 ∷ x) three in
     ap (λ x. 40 ∷ x) (append_assoc a (32 ∷ (b ++ (32 ∷ (c ++ (32 ∷ (d ++ (32 ∷ (e ++ 41 ∷ [])))))))) after ∙ ap (λ x. a ++ 32 ∷ x) two)
 
-pub row_apart : (s : Table) → IsSound s → (p : Name) (after : List ℕ) → object_text s (package_object s p) ++ after ≡ 40 ∷ (printed_text p ++ after_name s p after)
+pub row_apart : (s : Table) → AreSoundPackages s → (p : Name) (after : List ℕ) → object_text s (package_object s p) ++ after ≡ 40 ∷ (printed_text p ++ after_name s p after)
 row_apart s sound p after =
     (λ i. (40 ∷ (printed_text p ++ (32 ∷ (listed_are s sound (λ n. text n) (used_names s p) i ++ (32 ∷ (listed_are s sound (λ n. text n) (made_names s p) i
     ++ (32 ∷ (listed_are s sound (λ n. text n) (shown_names s p) i ++ (32 ∷ (listed_are s sound imported_name (imports s p) i ++ 41 ∷ [])))))))))) ++ after)

@@ -5,7 +5,7 @@
 use Rattle.std.proofs.Common.{◌≡◌, Bool, true, false, not, None, Some, IsTrue, bytes_eq, is_some, refl, sym, ap, ◌∙◌, inl, inr}
 use Rattle.std.specs.Option.{option_map, option_map_or, option_and_then}
 use Rattle.std.specs.FinMap as finite
-use Rattle.package_table.specs.Table.{Name, Present, Package, Table, entry_at, IsPackage, IsPresent, IsExternal, Uses, Finds, IsJoined, IsSound}
+use Rattle.package_table.specs.Table.{Name, Present, Package, Table, entry_at, IsPackage, IsPresent, IsExternal, Uses, Finds, IsJoined, AreSoundPackages}
 use Rattle.package_table.specs.Lookup.{found}
 use Rattle.package_table.specs.Changes.{finds_other, user_finds_other, finds_other_than_shown}
 use Rattle.package_table.proofs.Names.{same_some, none_some}
@@ -74,14 +74,14 @@ module _ (t s : Table) (part : IsPartOf t s) where
         ] refl
 
     -- what is external there may become so here
-    pub no_user_other : IsSound t → (p h n : Name) → IsExternal s p n → IsPresent s p n h → user_finds_other t p h n ≡ false
+    pub no_user_other : AreSoundPackages t → (p h n : Name) → IsExternal s p n → IsPresent s p n h → user_finds_other t p h n ≡ false
     no_user_other sound p h n shown there =
         by_false (user_finds_other t p h n) (λ other.
         let user = (users_other t sound p h n).0 other in
         user.4 (joined.one user.0 n user.1 h (finds_more user.0 n user.1 user.3) (inr (p, part.uses user.0 p user.2, shown, there))))
 
     -- what is used there may be used here
-    pub no_shown_other : IsSound t → (p q : Name) → Uses s p q → finds_other_than_shown t p q ≡ false
+    pub no_shown_other : AreSoundPackages t → (p q : Name) → Uses s p q → finds_other_than_shown t p q ≡ false
     no_shown_other sound p q used =
         by_false (finds_other_than_shown t p q) (λ other.
         let two = (shown_other t sound p q).0 other in

@@ -11,9 +11,9 @@ use Rattle.std.proofs.lemmas.Bool.{false≢true}
 use Rattle.package_table.specs.declared.error.PackageError.{PackageError}
 use Rattle.package_table.specs.declared.error.PackageError.TheVariants.{EmptyName, NoSuchPackage, PackageExists, PackageIsLocked, Limit, OutOfMemory}
 use Rattle.package_table.specs.Limits.{most_packages, most_symbols, longest_package_name, longest_symbol_name}
-use Rattle.package_table.specs.Table.{Name, Present, Table, entry_at, common_lisp, keyword, package_named, IsPackage, IsPresent, IsExternal, IsSound, IsPackageName, symbol_count, with_new_package, empty_package}
+use Rattle.package_table.specs.Table.{Name, Present, Table, entry_at, common_lisp, keyword, package_named, IsPackage, IsPresent, IsExternal, AreSoundPackages, IsPackageName, symbol_count, with_new_package, empty_package}
 use Rattle.package_table.specs.Lookup.{found}
-use Rattle.package_table.specs.Changes.{after_make, after_intern, with_new_symbol, Gives}
+use Rattle.package_table.specs.Changes.{after_make, after_intern, with_new_symbol, AnswersPackages}
 use Rattle.package_table.proofs.Names.{same_some}
 use Rattle.package_table.proofs.Frames.{equal_names, not_equal, get_inserted}
 use Rattle.package_table.proofs.Found.{found_finds, found_none}
@@ -21,7 +21,7 @@ use Rattle.package_table.proofs.Keeping.{present_at_home, new_home}
 use Rattle.package_table.proofs.KeptSound.{no_entry}
 use Rattle.snapshot_lines.specs.declared.error.BuildError.{BuildError}
 use Rattle.snapshot_lines.specs.declared.error.BuildError.TheVariants.{OutOfMemory as NoMemory}
-use Rattle.snapshot_lines.specs.Refused.{of_packages}
+use Rattle.snapshot_lines.specs.BuildRefusals.{of_packages}
 use Rattle.snapshot_text.specs.Part.{IsPartOf}
 use Rattle.snapshot_lines.specs.Answers.{OrNoMemory}
 use Rattle.snapshot_text.proofs.Gave.{same_ok}
@@ -48,7 +48,7 @@ pub record Owns (t s : Table) (p n : Name) (u : Table) : Type 0 where
   pub still : IsPartOf u s
   pub home : IsPresent u p n p
 
-module _ (t s : Table) (part : IsPartOf t s) (sound : IsSound s) where
+module _ (t s : Table) (part : IsPartOf t s) (sound : AreSoundPackages s) where
   -- ---- MAKE-PACKAGE
 
   module _ (p : Name) (absent : finite.contains_key t p ≡ false) (there : IsPackage s p) where
@@ -75,7 +75,7 @@ module _ (t s : Table) (part : IsPartOf t s) (sound : IsSound s) where
 
   -- ---- INTERN
 
-  pub intern_goes : IsSound t → (p n : Name) → IsPackage t p → p ≢ common_lisp → IsPresent s p n p → (u : Table) × Owns t s p n u
+  pub intern_goes : AreSoundPackages t → (p n : Name) → IsPackage t p → p ≢ common_lisp → IsPresent s p n p → (u : Table) × Owns t s p n u
   intern_goes sound_t p n here lisp there =
       elim (found t p n) as (λ o. found t p n ≡ o → (u : Table) × Owns t s p n u) [
         | Some h ↦ λ is.
@@ -119,7 +119,7 @@ module _ (t s : Table) (part : IsPartOf t s) (sound : IsSound s) where
 
 -- ---- what a call answers then
 
-pub made_is : (t s u : Table) → IsPartOf t s → IsSound s → (p : Name) → finite.contains_key t p ≡ false → IsPackage s p → after_make t p ≡ Ok u → IsPartOf u s × IsPackage u p
+pub made_is : (t s u : Table) → IsPartOf t s → AreSoundPackages s → (p : Name) → finite.contains_key t p ≡ false → IsPackage s p → after_make t p ≡ Ok u → IsPartOf u s × IsPackage u p
 made_is t s u part sound p absent there goes =
     let is : with_new_package t p ≡ u = same_ok (with_new_package t p) u (sym (make_goes t s part sound p absent there) ∙ goes) in
     let here : IsPackage (with_new_package t p) p = ap is_some (get_inserted t p empty_package) in
@@ -131,11 +131,11 @@ owned_is t s u p n h o goes =
     subst (λ (u : Table). IsPartOf u s × IsPresent u p n p) is (o.1.still, o.1.home)
 
 -- a refusal of what goes says that memory ran out
-no_memory : {A B : Type 0} (view : A → B) (e : PackageError) (said : Result B PackageError) (x : B) → said ≡ Ok x → Gives view (Err e) said → of_packages e ≡ NoMemory
+no_memory : {A B : Type 0} (view : A → B) (e : PackageError) (said : Result B PackageError) (x : B) → said ≡ Ok x → AnswersPackages view (Err e) said → of_packages e ≡ NoMemory
 no_memory view OutOfMemory said x goes gives = refl
 no_memory {B = B} view e said x goes gives = absurd (let both : ◌≡◌ {A = Result B PackageError} (Ok x) (Err e) = sym goes ∙ gives in cc)
 
-pub refused_so : {A B C : Type 0} (P : Type 0) (view : A → B) (e : PackageError) (said : Result B PackageError) (x : B) → said ≡ Ok x → Gives view (Err e) said
+pub refused_so : {A B C : Type 0} (P : Type 0) (view : A → B) (e : PackageError) (said : Result B PackageError) (x : B) → said ≡ Ok x → AnswersPackages view (Err e) said
     → (r : Result C BuildError) → IsErrAnd r (λ b. b ≡ of_packages e) → OrNoMemory P r
 refused_so P view e said x goes gives (Ok y) refused = absurd refused
 refused_so P view e said x goes gives (Err b) refused = refused ∙ no_memory view e said x goes gives

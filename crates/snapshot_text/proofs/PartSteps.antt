@@ -10,7 +10,7 @@ use Rattle.std.specs.FinMap as finite
 use Rattle.std.proofs.lemmas.Bool.{false≢true}
 use Rattle.package_table.specs.declared.error.PackageError.{PackageError}
 use Rattle.package_table.specs.declared.error.PackageError.TheVariants.{NoSuchPackage, PackageIsLocked, NameConflict, NotAccessible}
-use Rattle.package_table.specs.Table.{Name, Present, Package, Table, entry_at, common_lisp, keyword, is_locked, IsPackage, IsPresent, IsExternal, Uses, IsSound, with_entry, with_used}
+use Rattle.package_table.specs.Table.{Name, Present, Package, Table, entry_at, common_lisp, keyword, is_locked, IsPackage, IsPresent, IsExternal, Uses, AreSoundPackages, with_entry, with_used}
 use Rattle.package_table.specs.Lookup.{is_present, is_used}
 use Rattle.package_table.specs.Changes.{finds_this, finds_other_than_shown, with_present, with_external, after_import, after_export, after_use}
 use Rattle.package_table.proofs.Names.{same_some}
@@ -34,7 +34,7 @@ used_uses t p q e =
 pub not_locked : (p : Name) → p ≢ common_lisp → p ≢ keyword → is_locked p ≡ false
 not_locked p lisp key = λ i. if not_equal p common_lisp lisp i then true else not_equal p keyword key i
 
-module _ (t s : Table) (part : IsPartOf t s) (sound : IsSound s) where
+module _ (t s : Table) (part : IsPartOf t s) (sound : AreSoundPackages s) where
   module _ (p n h : Name) (there : IsPackage t p) (got : IsPresent s p n h) where
     -- ---- IMPORT
 
@@ -65,7 +65,7 @@ module _ (t s : Table) (part : IsPartOf t s) (sound : IsSound s) where
 
     -- ---- EXPORT
 
-    module _ (shown : IsExternal s p n) (sound_t : IsSound t) (here : IsPresent t p n h) where
+    module _ (shown : IsExternal s p n) (sound_t : AreSoundPackages t) (here : IsPresent t p n h) where
       pub export_goes : is_locked p ≡ false → after_export t p h n ≡ Ok (with_external t p h n)
       export_goes locked =
           let finds : finds_this t p h n ≡ true = ap (λ o. option_map_or (λ g. bytes_eq g h) o false) (present_found t n p h here) ∙ equal_itself h in
@@ -87,7 +87,7 @@ module _ (t s : Table) (part : IsPartOf t s) (sound : IsSound s) where
 
   -- ---- USE-PACKAGE
 
-  module _ (p q : Name) (there : IsPackage t p) (that : IsPackage t q) (uses : Uses s p q) (sound_t : IsSound t) where
+  module _ (p q : Name) (there : IsPackage t p) (that : IsPackage t q) (uses : Uses s p q) (sound_t : AreSoundPackages t) where
     abbrev pub after_used : Table
     after_used = if is_used t p q then t else with_used t p q
 

@@ -15,12 +15,12 @@ use Rattle.lisp_reading.specs.Reading.{form, space_at, reads}
 use Rattle.plist_state.specs.Properties.{Symbol}
 use Rattle.plist_state.specs.State.{WorldState}
 use Rattle.plist_state.specs.Readers.{symbols_with_properties}
-use Rattle.plist_state.specs.Sound.{IsSound}
+use Rattle.plist_state.specs.Sound.{IsSoundWorldState}
 use Rattle.snapshot_text.specs.Built.{with_properties_of}
 use Rattle.world_text.specs.Lines.{snapshot_limits}
 use Rattle.world_text.specs.Texts.{row_of}
 use Rattle.snapshot_text.specs.Rows.{row_symbol_at, row_text, text_after, IsUpTo}
-use Rattle.world_text.specs.Snapshot.{line, properties_object}
+use Rattle.world_text.specs.Snapshot.{snapshot_line, properties_object}
 use Rattle.world_text.specs.Tokens.{ends_with_token}
 use Rattle.world_text.proofs.Spelling.{met_text}
 use Rattle.world_text.proofs.Whole.{object_read_back}
@@ -58,14 +58,14 @@ none_after s n all =
 
 -- ---- the line
 
-pub no_rows_line : (s : WorldState) → IsSound s → length (symbols_with_properties s) ≡ 0 → line s.packages (properties_object s) ≡ codes "NIL" ++ 10 ∷ []
+pub no_rows_line : (s : WorldState) → IsSoundWorldState s → length (symbols_with_properties s) ≡ 0 → snapshot_line s.packages (properties_object s) ≡ codes "NIL" ++ 10 ∷ []
 no_rows_line s sound none = go (symbols_with_properties s) none
   where
     go : (xs : List Symbol) → length xs ≡ 0 → printed s.packages common_lisp_user (list_of (map (row_of s) xs)) ++ 10 ∷ [] ≡ codes "NIL" ++ 10 ∷ []
     go [] e = ap (λ prefix. (prefix ++ codes "NIL") ++ 10 ∷ []) (no_prefix s.packages sound.packages)
     go (x ∷ xs) e = absurd (omega arith)
 
-pub rows_line : (s : WorldState) → 0 < length (symbols_with_properties s) → line s.packages (properties_object s) ≡ (40 ∷ (row_text s 0 ++ text_after s 1)) ++ 10 ∷ []
+pub rows_line : (s : WorldState) → 0 < length (symbols_with_properties s) → snapshot_line s.packages (properties_object s) ≡ (40 ∷ (row_text s 0 ++ text_after s 1)) ++ 10 ∷ []
 rows_line s some =
     ap (λ xs. printed s.packages common_lisp_user (list_of (map (row_of s) xs)) ++ 10 ∷ []) (drop_more (symbols_with_properties s) 0 ([], []) some)
 
@@ -76,7 +76,7 @@ module _ (functions : Functions) where
   pub row_next : (s : WorldState) (n : ℕ) (rest : List ℕ) → ℕ
   row_next s n rest = length (row_text s n) + space_at standard (ends_with_token (row_of s (row_symbol_at s n))) (text_after s (n + 1) ++ rest)
 
-  pub row_read : (s : WorldState) → IsSound s → (n : ℕ) (now : WorldState) → IsUpTo s n now → n < length (symbols_with_properties s)
+  pub row_read : (s : WorldState) → IsSoundWorldState s → (n : ℕ) (now : WorldState) → IsUpTo s n now → n < length (symbols_with_properties s)
       → length (row_text s n) ≤ 4294967295 → (rest : List ℕ)
       → reads (setting_of snapshot_limits standard 10 now.packages common_lisp_user functions) (row_text s n ++ (text_after s (n + 1) ++ rest))
       ≡ form (row_of s (row_symbol_at s n)) 0 (length (row_text s n)) (row_next s n rest)
@@ -166,8 +166,8 @@ pub record IsRowsLine (s : WorldState) (bytes rest : List ℕ) (at : ℕ) : Type
   pub some : 0 < length (symbols_with_properties s)
   pub text : (next : ℕ) → next ≡ min (at + 1) 18446744073709551615 → drop next bytes ≡ row_text s 0 ++ (text_after s 1 ++ 10 ∷ rest)
 
-pub line_begins : (s : WorldState) → IsSound s → (bytes rest : List ℕ) (at : ℕ) → length bytes ≤ 4294967295
-    → drop at bytes ≡ line s.packages (properties_object s) ++ rest → IsNilLine s bytes rest at ⊎ IsRowsLine s bytes rest at
+pub line_begins : (s : WorldState) → IsSoundWorldState s → (bytes rest : List ℕ) (at : ℕ) → length bytes ≤ 4294967295
+    → drop at bytes ≡ snapshot_line s.packages (properties_object s) ++ rest → IsNilLine s bytes rest at ⊎ IsRowsLine s bytes rest at
 line_begins s sound bytes rest at fits e =
     elim (eq-or-lt_of_le {n = 0} {m = length (symbols_with_properties s)} (omega arith)) [
       | inl none ↦

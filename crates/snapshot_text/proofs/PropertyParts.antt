@@ -19,7 +19,7 @@ use Rattle.plist_state.specs.Properties.{Symbol, Plist, symbol_cmp, same_symbol,
 use Rattle.plist_state.specs.State.{WorldState}
 use Rattle.plist_state.specs.Changes.{plist, with_property}
 use Rattle.plist_state.specs.Readers.{symbols_with_properties}
-use Rattle.plist_state.specs.Sound.{IsSound, IsSymbol, IsPlist, IsValue, IsApart}
+use Rattle.plist_state.specs.Sound.{IsSoundWorldState, IsSymbol, IsPlist, IsValue, IsApart}
 use Rattle.plist_state.proofs.Orders.{symbol_total, symbol_exact, one_symbol}
 use Rattle.plist_state.proofs.Lists.{kept, get-with_list, list-with_list, with_list_twice}
 use Rattle.world_text.specs.Snapshot.{symbol_object}
@@ -208,7 +208,7 @@ pub key_at : (s : WorldState) (n : ℕ) → n < length (symbols_with_properties 
 key_at s n few =
     contains_key-keys s.properties (row_symbol_at s n) ∙ at_index symbol_cmp symbol_total (symbols_with_properties s) n none few
 
-pub row_at : (s : WorldState) → IsSound s → (n : ℕ) (now : WorldState) → IsUpTo s n now → n < length (symbols_with_properties s) → IsRow s now n
+pub row_at : (s : WorldState) → IsSoundWorldState s → (n : ℕ) (now : WorldState) → IsUpTo s n now → n < length (symbols_with_properties s) → IsRow s now n
 row_at s sound n now so_far few =
     let xs = symbols_with_properties s in
     let x = row_symbol_at s n in
@@ -229,7 +229,7 @@ one_more true false o p same = refl
 one_more false true o p same = sym (same refl)
 one_more false false o p same = refl
 
-pub next_up_to : (s : WorldState) → IsSound s → (n : ℕ) (now then : WorldState) → IsUpTo s n now → n < length (symbols_with_properties s)
+pub next_up_to : (s : WorldState) → IsSoundWorldState s → (n : ℕ) (now then : WorldState) → IsUpTo s n now → n < length (symbols_with_properties s)
     → then ≡ with_properties now (with_list now.properties (row_symbol_at s n) (plist s (row_symbol_at s n))) → IsUpTo s (n + 1) then
 next_up_to s sound n now then so_far few is =
     let xs = symbols_with_properties s in

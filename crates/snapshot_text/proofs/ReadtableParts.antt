@@ -13,8 +13,8 @@ use Rattle.lisp_object.specs.declared.datum.Datum.{Datum}
 use Rattle.lisp_object.specs.Object.{Object}
 use Rattle.lisp_object.specs.Datum.{object_of, is_proper}
 use Rattle.readtable_core.specs.Tables.{CharacterEntry, Table, entry_at, no_entry, standard}
-use Rattle.readtable_core.specs.Named.{same_entry}
-use Rattle.readtable_core.specs.Changes.{with_entry}
+use Rattle.readtable_core.specs.NamedFunctions.{same_entry}
+use Rattle.readtable_core.specs.Changes.{with_character_entry}
 use Rattle.readtable_core.proofs.Named.{same_is, named_at}
 use Rattle.readtable_core.proofs.Sound.{standard_sound}
 use Rattle.package_table.specs.Table.{Name, name_cmp, keyword}
@@ -123,7 +123,7 @@ pub record IsEntryRow (s : WorldState) (n : Name) (t : Table) (rows : List Datum
   pub named : IsNamedEntry now.packages entry
   pub table : Table
   pub writable : IsWritable now.readtables n table
-  pub later : (after : WorldState) → after ≡ with_table now n (with_entry table character entry) → IsMaking s n t rows (k + 1) after
+  pub later : (after : WorldState) → after ≡ with_table now n (with_character_entry table character entry) → IsMaking s n t rows (k + 1) after
 
 pub entry_row_at : (s : WorldState) (n : Name) (t : Table) (rows : List Datum) (k : ℕ) (now : WorldState) (row : Datum)
     → IsNamed s.packages t → IsWritable s.readtables n (with_entries t standard.entries) → IsMaking s n t rows k now → k < length rows → row ≡ get_or rows k row
@@ -153,7 +153,7 @@ entry_row_at s n t rows k now row named w so_far few is =
         objects = so_far.objects;
         entries = set so_far.entries u.0 u.1;
         count = length-set so_far.entries u.0 u.1 ∙ so_far.count;
-        is = made ∙ ap (λ (x : WorldState). with_table x n (with_entry here u.0 u.1)) so_far.is ∙ table_twice s n here (with_entry here u.0 u.1);
+        is = made ∙ ap (λ (x : WorldState). with_table x n (with_character_entry here u.0 u.1)) so_far.is ∙ table_twice s n here (with_character_entry here u.0 u.1);
         left = put_next so_far.entries us k (0, no_entry) among ∙ so_far.left;
       };
     }

@@ -14,7 +14,7 @@ use Rattle.readtable_core.specs.Characters.{upper_case, is_lower_case, is_digit}
 use Rattle.readtable_core.specs.Tables as readtable
 use Rattle.readtable_core.specs.Tables.{CharacterEntry, Table, entry_at, no_entry}
 use Rattle.readtable_core.specs.Sound.{is_dispatching}
-use Rattle.readtable_core.specs.Changes.{with_entry, with_function}
+use Rattle.readtable_core.specs.Changes.{with_character_entry, with_function}
 use Rattle.readtable_core.specs.declared.refusal.DispatchRefusal.TheVariants.{NotDispatching as NoDispatch, DigitSubcharacter as Digit}
 use Rattle.package_table.specs.Table as packages
 use Rattle.package_table.specs.Table.{Name, name_cmp}
@@ -23,7 +23,7 @@ use Rattle.package_table.proofs.Frames.{equal_names}
 use Rattle.plist_state.specs.declared.error.ReadtableError.{ReadtableError}
 use Rattle.plist_state.specs.declared.error.ReadtableError.TheVariants.{NoReadtable, StandardReadtable, NotDispatching, DigitSubcharacter, Limit, OutOfMemory}
 use Rattle.plist_state.specs.State.{Readtables, WorldState, standard_name}
-use Rattle.plist_state.specs.Changes.{writable, put_changed, with_changed, changed_readtable, in_state, dispatched, refused_as, Refused}
+use Rattle.plist_state.specs.Changes.{writable, put_changed, with_changed, changed_readtable, in_state, with_sub_function, refused_as, Refused}
 use Rattle.plist_state.specs.Sound.{IsSymbol}
 use Rattle.plist_state.proofs.Orders.{name_total, name_exact, name_tied}
 use Rattle.snapshot_text.specs.Built.{with_table, IsWritable, IsSubFunction}
@@ -49,10 +49,10 @@ neither false b e = (refl, e)
 
 -- a function at a sub-character
 pub dispatched_is : (p : packages.Table) (t : Table) (c sub : ℕ) (f : Name) → IsSubFunction p sub f → is_dispatching (entry_at t c) ≡ true
-    → dispatched t c sub f ≡ Ok (with_entry t c (with_function (entry_at t c) sub f))
+    → with_sub_function t c sub f ≡ Ok (with_character_entry t c (with_function (entry_at t c) sub f))
 dispatched_is p t c sub f may dispatching =
     let digit : is_digit sub ≡ false = (neither (is_lower_case sub) (is_digit sub) may.upper).1 in
-    ap (λ o. option_map_or (λ r. Err (refused_as r)) o (Ok (with_entry t c (with_function (entry_at t c) sub f))))
+    ap (λ o. option_map_or (λ r. Err (refused_as r)) o (Ok (with_character_entry t c (with_function (entry_at t c) sub f))))
     (ap (λ b. if not b then Some NoDispatch else (if is_digit sub then Some Digit else None)) dispatching ∙ ap (λ b. if b then Some Digit else None) digit)
 
 pub upper_same : (p : packages.Table) (sub : ℕ) (f : Name) → IsSubFunction p sub f → upper_case sub ≡ sub
@@ -65,10 +65,10 @@ table_twice s n t u = ap (λ (m : Readtables). record s { readtables = m }) (sam
     ∙ elim (eq_by_cmp name_cmp q n) as (λ b. cond b (Some u) (cond b (Some t) (finite.get s.readtables q)) ≡ cond b (Some u) (finite.get s.readtables q)) [ true ↦ refl | false ↦ refl ]
     ∙ sym (get-insert name_total s.readtables n u q)))
 
-pub entry_twice : (t : Table) (c : ℕ) (e f : CharacterEntry) → with_entry (with_entry t c e) c f ≡ with_entry t c f
+pub entry_twice : (t : Table) (c : ℕ) (e f : CharacterEntry) → with_character_entry (with_character_entry t c e) c f ≡ with_character_entry t c f
 entry_twice t c e f = ap (λ (es : List CharacterEntry). record t { entries = es }) (set-set t.entries c e f)
 
-pub entry_there : (t : Table) (c : ℕ) (e : CharacterEntry) → c < length t.entries → entry_at (with_entry t c e) c ≡ e
+pub entry_there : (t : Table) (c : ℕ) (e : CharacterEntry) → c < length t.entries → entry_at (with_character_entry t c e) c ≡ e
 entry_there t c e few = get_or-set_same t.entries c e no_entry few
 
 -- it may be written then, and again

@@ -9,7 +9,7 @@ use Rattle.readtable_core.specs.Names.{is_function_name, is_dispatch_name}
 use Rattle.readtable_core.specs.Tables as readtable
 use Rattle.readtable_core.specs.Tables.{CharacterEntry}
 use Rattle.readtable_core.specs.Sound.{IsCharacterEntry}
-use Rattle.readtable_core.specs.Named.{functions_at}
+use Rattle.readtable_core.specs.NamedFunctions.{functions_at}
 use Rattle.package_table.specs.Table as packages
 use Rattle.package_table.specs.Table.{Name, keyword}
 use Rattle.package_table.specs.Lookup.{is_symbol}

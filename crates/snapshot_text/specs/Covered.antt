@@ -1,11 +1,11 @@
 -- Which functions the readtables of a state name.
 use Rattle.std.specs.Prelude.{◌≡◌, ◌≢◌, ℕ, ◌≤◌, Bool, false, List, Some, length}
 use Rattle.std.specs.List.{list_all}
-use Rattle.readtable_core.specs.Named.{functions_of}
+use Rattle.readtable_core.specs.NamedFunctions.{functions_of}
 use Rattle.user_macros.specs.Registry.{is_covered}
 use Rattle.plist_state.specs.State.{WorldState}
 use Rattle.plist_state.specs.Readers.{readtable_names}
-use Rattle.plist_state.specs.Sound.{IsSound}
+use Rattle.plist_state.specs.Sound.{IsSoundWorldState}
 use Rattle.snapshot_text.specs.declared.error.SnapshotError.{SnapshotError}
 use Rattle.snapshot_text.specs.declared.error.SnapshotError.TheVariants.{Damaged, MissingFunction, OutOfMemory}
 use Rattle.world_text.specs.Snapshot.{table_named, snapshot_in}
@@ -17,7 +17,7 @@ are_covered registered s = list_all (λ n. list_all (is_covered registered) (fun
 -- Why bytes are refused: they are the text of no sound state in this version; or of one that names a function which is not
 -- there. That memory ran out is no word on them.
 abbrev pub IsRefused : List (List ℕ) → ℕ → List ℕ → SnapshotError → Type 0
-IsRefused registered version bytes Damaged = (s : WorldState) → IsSound s → length bytes ≤ 4294967295 → snapshot_in version s ≢ Some bytes
+IsRefused registered version bytes Damaged = (s : WorldState) → IsSoundWorldState s → length bytes ≤ 4294967295 → snapshot_in version s ≢ Some bytes
 IsRefused registered version bytes MissingFunction =
-    (s : WorldState) × IsSound s × (snapshot_in version s ≡ Some bytes) × (length bytes ≤ 4294967295) × (are_covered registered s ≡ false)
+    (s : WorldState) × IsSoundWorldState s × (snapshot_in version s ≡ Some bytes) × (length bytes ≤ 4294967295) × (are_covered registered s ≡ false)
 IsRefused registered version bytes OutOfMemory = Unit {0}

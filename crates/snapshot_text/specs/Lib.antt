@@ -2,5 +2,5 @@ pub mod Built
 pub mod Covered
 pub mod Part
 pub mod Phases
-pub mod Refused
+pub mod SnapshotRefusals
 pub mod Rows

@@ -1,7 +1,7 @@
 -- What is there, phase by phase, while the packages of a world are made from those of a snapshot: first all packages with the
 -- symbols at home in them, then what they import, what is external and what they use.
 use Rattle.std.specs.Prelude.{◌≡◌, ◌≢◌, ◌<◌, ℕ, not, List, [], map, filter, length, bytes_eq, slice_index_or}
-use Rattle.package_table.specs.Table.{Name, Table, common_lisp, IsPackage, IsPresent, IsExternal, Uses, IsSound}
+use Rattle.package_table.specs.Table.{Name, Table, common_lisp, IsPackage, IsPresent, IsExternal, Uses, AreSoundPackages}
 use Rattle.package_table.specs.Readers.{package_names, used_names, imports}
 use Rattle.snapshot_text.specs.declared.package_parts.PackageParts.{PackageParts}
 use Rattle.world_text.specs.Snapshot.{made_names, shown_names}
@@ -34,8 +34,8 @@ pub record HasUses (t s : Table) (p : Name) : Type 0 where
   pub names : (q : Name) → Uses s p q → Uses t p q
 
 -- t is a part of s, and has its packages with their own symbols
-pub record IsBegun (t s : Table) : Type 0 where
-  pub sound : IsSound s
+pub record HasItsPackages (t s : Table) : Type 0 where
+  pub sound : AreSoundPackages s
   pub part : IsPartOf t s
   pub own : (q : Name) → IsPackage s q → HasOwn t s q
 

@@ -1,6 +1,6 @@
 //! Why a text is refused as a snapshot.
 ghost use Rattle.std.specs.Prelude.{◌≡◌};
-ghost use Rattle.snapshot_text.specs.Refused.{snapshot_error_number};
+ghost use Rattle.snapshot_text.specs.SnapshotRefusals.{snapshot_error_number};
 
 use lisp_object::refusal;
 use snapshot_lines::BuildError;
@@ -43,7 +43,7 @@ impl From<AllocError> for SnapshotError {
 
 impl From<BuildError> for SnapshotError {
     ghost use Rattle.std.specs.Prelude.{◌≡◌};
-    ghost use Rattle.snapshot_text.specs.Refused.{of_build};
+    ghost use Rattle.snapshot_text.specs.SnapshotRefusals.{of_build};
 
     ghost from_gives = { λ error refusal. refusal ≡ of_build error };
 

@@ -2,9 +2,9 @@
 ghost use Rattle.std.specs.Prelude.{◌≡◌, ◌↔◌, true, All, IsTrue, unwrap_or, option_map};
 ghost use Rattle.lisp_object.specs.Object.{nil, AllAtoms};
 ghost use Rattle.lisp_object.specs.Datum.{object_of, is_proper};
-ghost use Rattle.package_table.specs.Table.{IsSound};
+ghost use Rattle.package_table.specs.Table.{AreSoundPackages};
 ghost use Rattle.plist_state.specs.Sound.{IsKnown, IsSymbol, IsValue};
-ghost use Rattle.plist_state.specs.Shown.{symbol_of};
+ghost use Rattle.plist_state.specs.Views.{symbol_of};
 
 use lisp_object::{Boxed, Datum, Items};
 use package_table::Packages;
@@ -37,7 +37,7 @@ pub(crate) fn is_value(packages: &Packages, datum: &Datum) -> bool
 // Whether each symbol of a datum is there.
 #[cycle(known)]
 fn are_known(packages: &Packages, datum: &Datum) -> bool
-    requires { IsSound packages.now.0 }
+    requires { AreSoundPackages packages.now.0 }
     ensures { IsTrue result ↔ AllAtoms (IsKnown packages.now.0) (object_of datum.now) }
 {
     match datum {
@@ -56,7 +56,7 @@ fn are_known(packages: &Packages, datum: &Datum) -> bool
 
 #[cycle(known)]
 fn each_known(packages: &Packages, items: &Items<Datum>) -> bool
-    requires { IsSound packages.now.0 }
+    requires { AreSoundPackages packages.now.0 }
     ensures { IsTrue result ↔ All (λ d. AllAtoms (IsKnown packages.now.0) (object_of d)) items.now }
 {
     let items = items.as_slice();
@@ -70,7 +70,7 @@ fn each_known(packages: &Packages, items: &Items<Datum>) -> bool
 
 #[cycle(known)]
 fn end_known(packages: &Packages, tail: &Option<Boxed<Datum>>) -> bool
-    requires { IsSound packages.now.0 }
+    requires { AreSoundPackages packages.now.0 }
     ensures { IsTrue result ↔ AllAtoms (IsKnown packages.now.0)
         (unwrap_or (option_map object_of tail.now) nil) }
 {

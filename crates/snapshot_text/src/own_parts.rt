@@ -1,6 +1,6 @@
 //! A package of a world, with the symbols at home in it, made from a row of the first line of a snapshot.
 ghost use Rattle.std.specs.Prelude.{◌≡◌, ◌≢◌, ◌<◌, All, map};
-ghost use Rattle.package_table.specs.Table.{Table, IsPackage, IsPresent, IsSound, common_lisp};
+ghost use Rattle.package_table.specs.Table.{Table, IsPackage, IsPresent, AreSoundPackages, common_lisp};
 ghost use Rattle.package_table.specs.Growth.{Grows};
 ghost use Rattle.plist_state.specs.Changes.{with_packages};
 ghost use Rattle.world_text.specs.Snapshot.{made_names};
@@ -16,7 +16,7 @@ use std::alloc::Global;
 // Makes a package of this name, where there is none.
 fn make_owner(world: &mut World, owner: &[u8]) -> Result<(), BuildError>
     requires { All (λ b. b < 128) owner.now }
-    ensures there { (s : Table) → IsSound s → IsPackage s owner.now
+    ensures there { (s : Table) → AreSoundPackages s → IsPackage s owner.now
         → IsPartOf world.old.0.packages s
         → OrNoMemory (IsPartOf world.new.0.packages s
         × IsPackage world.new.0.packages owner.now) result }
@@ -31,7 +31,7 @@ fn make_owner(world: &mut World, owner: &[u8]) -> Result<(), BuildError>
 
 // Makes the symbol that a text names, where the package has none of that name.
 fn intern_one(alloc: Global, world: &mut World, owner: &[u8], name: &[u8]) -> Result<(), BuildError>
-    ensures there { (s : Table) → IsSound s → IsPartOf world.old.0.packages s
+    ensures there { (s : Table) → AreSoundPackages s → IsPartOf world.old.0.packages s
         → IsPackage world.old.0.packages owner.now → owner.now ≢ common_lisp
         → IsPresent s owner.now (unescaped name.now) owner.now
         → OrNoMemory (IsPartOf world.new.0.packages s
@@ -51,7 +51,7 @@ fn intern_each(
     owner: &[u8],
     names: &[&[u8]],
 ) -> Result<(), BuildError>
-    ensures there { (s : Table) → IsSound s → IsPartOf world.old.0.packages s
+    ensures there { (s : Table) → AreSoundPackages s → IsPartOf world.old.0.packages s
         → IsPackage world.old.0.packages owner.now → owner.now ≢ common_lisp
         → All (λ b. IsPresent s owner.now (unescaped b.now) owner.now) names.now
         → OrNoMemory (IsPartOf world.new.0.packages s
@@ -72,7 +72,7 @@ pub(crate) fn make_own(
     name: &[u8],
     own: &[&[u8]],
 ) -> Result<(), BuildError>
-    ensures own { (s : Table) → IsSound s → IsPackage s (unescaped name.now)
+    ensures own { (s : Table) → AreSoundPackages s → IsPackage s (unescaped name.now)
         → unescaped name.now ≢ common_lisp → IsPartOf world.old.0.packages s
         → map (λ b. unescaped b.now) own.now ≡ made_names s (unescaped name.now)
         → OrNoMemory (IsPartOf world.new.0.packages s

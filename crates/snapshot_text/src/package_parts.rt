@@ -1,14 +1,14 @@
 //! The packages of a world, made from the first line of a snapshot. No text of the line is copied but one at a time.
 ghost use Rattle.std.specs.Prelude.{◌≡◌, ◌≢◌, ◌<◌, ◌++◌, ℕ, List, [], ◌∷◌, All, length, map, IfOk};
-ghost use Rattle.package_table.specs.Table.{Name, Table, common_lisp, keyword, IsPackage, IsPresent, IsExternal, IsSound, Uses};
+ghost use Rattle.package_table.specs.Table.{Name, Table, common_lisp, keyword, IsPackage, IsPresent, IsExternal, AreSoundPackages, Uses};
 ghost use Rattle.package_table.specs.Growth.{Grows};
 ghost use Rattle.plist_state.specs.Changes.{with_packages};
 ghost use Rattle.world_text.specs.Snapshot.{package_object, packages_object};
 ghost use Rattle.world_text.specs.Texts.{object_text};
 ghost use Rattle.snapshot_lines.specs.Texts.{unescaped, unescaped_pair, texts_text};
-ghost use Rattle.snapshot_lines.specs.Answers.{Makes, OrNoMemory};
+ghost use Rattle.snapshot_lines.specs.Answers.{IsOfMade, OrNoMemory};
 ghost use Rattle.snapshot_text.specs.Part.{IsPartOf};
-ghost use Rattle.snapshot_text.specs.Phases.{IsImport, HasImport, HasOwn, HasSymbols, HasExternals, HasUses, IsBegun, IsRowOf, AreRowsOf, Everywhere};
+ghost use Rattle.snapshot_text.specs.Phases.{IsImport, HasImport, HasOwn, HasSymbols, HasExternals, HasUses, HasItsPackages, IsRowOf, AreRowsOf, Everywhere};
 
 use crate::own_parts::make_own;
 use plist_state::World;
@@ -31,7 +31,7 @@ struct PackageParts<'a> {
 fn later_texts(alloc: Global, bytes: &[u8]) -> Result<(Vec<&[u8]>, &[u8]), BuildError>
     ensures texts { (names : List Name) (after : List ℕ)
         → bytes.now ≡ 32 ∷ (texts_text names ++ after)
-        → Makes result (λ read. (map (λ b. unescaped b.now) read.0.items ≡ names)
+        → IsOfMade result (λ read. (map (λ b. unescaped b.now) read.0.items ≡ names)
         × (read.1.now ≡ after)) }
     ensures shorter { IfOk result (λ read. length read.1.now < length bytes.now) }
 {
@@ -40,9 +40,9 @@ fn later_texts(alloc: Global, bytes: &[u8]) -> Result<(Vec<&[u8]>, &[u8]), Build
 
 // The package whose row begins here, and what stands after it.
 fn package_parts(alloc: Global, bytes: &[u8]) -> Result<(PackageParts<'_>, &[u8]), BuildError>
-    ensures row { (s : Table) (p : Name) (after : List ℕ) → IsSound s
+    ensures row { (s : Table) (p : Name) (after : List ℕ) → AreSoundPackages s
         → bytes.now ≡ object_text s (package_object s p) ++ after
-        → Makes result (λ read. IsRowOf s p read.0 × (read.1.now ≡ after)) }
+        → IsOfMade result (λ read. IsRowOf s p read.0 × (read.1.now ≡ after)) }
     ensures shorter { IfOk result (λ read. length read.1.now < length bytes.now) }
 {
     let (name, rest) = written_text(after_byte(bytes, b'(')?)?;
@@ -73,9 +73,9 @@ fn push_parts<'a>(
 
 // The rows of all packages, of which the list begins here, and what stands after it.
 fn rows_in(alloc: Global, bytes: &[u8]) -> Result<(Vec<PackageParts<'_>>, &[u8]), BuildError>
-    ensures { (s : Table) (after : List ℕ) → IsSound s
+    ensures { (s : Table) (after : List ℕ) → AreSoundPackages s
         → bytes.now ≡ object_text s (packages_object s) ++ after
-        → Makes result (λ read. AreRowsOf s read.0.items × (read.1.now ≡ after)) }
+        → IsOfMade result (λ read. AreRowsOf s read.0.items × (read.1.now ≡ after)) }
 {
     let mut rows = Vec::new(alloc);
     let mut rest = bytes;
@@ -98,7 +98,7 @@ fn import_symbol(
     name: &[u8],
     home: &[u8],
 ) -> Result<(), BuildError>
-    ensures made { (s : Table) (p : Name) → IsBegun world.old.0.packages s → owner.now ≡ p
+    ensures made { (s : Table) (p : Name) → HasItsPackages world.old.0.packages s → owner.now ≡ p
         → p ≢ common_lisp → IsPresent s p name.now home.now → home.now ≢ p
         → OrNoMemory (IsPartOf world.new.0.packages s
         × IsPresent world.new.0.packages p name.now home.now) result }
@@ -119,7 +119,7 @@ fn import_one(
     owner: &[u8],
     import: (&[u8], &[u8]),
 ) -> Result<(), BuildError>
-    ensures made { (s : Table) (p : Name) → IsBegun world.old.0.packages s → owner.now ≡ p
+    ensures made { (s : Table) (p : Name) → HasItsPackages world.old.0.packages s → owner.now ≡ p
         → p ≢ common_lisp → IsImport s p (unescaped_pair import.entry)
         → OrNoMemory (IsPartOf world.new.0.packages s
         × HasImport world.new.0.packages p (unescaped_pair import.entry)) result }
@@ -138,7 +138,7 @@ fn import_pairs(
     owner: &[u8],
     imports: &[(&[u8], &[u8])],
 ) -> Result<(), BuildError>
-    ensures made { (s : Table) (p : Name) → IsBegun world.old.0.packages s → owner.now ≡ p
+    ensures made { (s : Table) (p : Name) → HasItsPackages world.old.0.packages s → owner.now ≡ p
         → p ≢ common_lisp → All (λ b. IsImport s p (unescaped_pair b)) imports.now
         → OrNoMemory (IsPartOf world.new.0.packages s
         × All (λ b. HasImport world.new.0.packages p (unescaped_pair b)) imports.now) result }
@@ -153,7 +153,7 @@ fn import_pairs(
 
 // Imports what a package has from other homes.
 fn import_each(alloc: Global, world: &mut World, row: &PackageParts<'_>) -> Result<(), BuildError>
-    ensures made { (s : Table) (p : Name) → IsBegun world.old.0.packages s → IsRowOf s p row.now
+    ensures made { (s : Table) (p : Name) → HasItsPackages world.old.0.packages s → IsRowOf s p row.now
         → p ≢ common_lisp
         → OrNoMemory (IsPartOf world.new.0.packages s
         × HasSymbols world.new.0.packages s p) result }
@@ -167,7 +167,7 @@ fn import_each(alloc: Global, world: &mut World, row: &PackageParts<'_>) -> Resu
 // Makes the symbol that a package has by this name external.
 fn export_symbol(world: &mut World, owner: &[u8], name: &[u8]) -> Result<(), BuildError>
     requires { All (λ b. b < 128) name.now }
-    ensures made { (s : Table) (p : Name) → IsBegun world.old.0.packages s
+    ensures made { (s : Table) (p : Name) → HasItsPackages world.old.0.packages s
         → HasSymbols world.old.0.packages s p → owner.now ≡ p → p ≢ common_lisp → p ≢ keyword
         → IsExternal s p name.now
         → OrNoMemory (IsPartOf world.new.0.packages s
@@ -183,7 +183,7 @@ fn export_symbol(world: &mut World, owner: &[u8], name: &[u8]) -> Result<(), Bui
 
 // The same of a text as it is written.
 fn export_one(alloc: Global, world: &mut World, owner: &[u8], name: &[u8]) -> Result<(), BuildError>
-    ensures made { (s : Table) (p : Name) → IsBegun world.old.0.packages s
+    ensures made { (s : Table) (p : Name) → HasItsPackages world.old.0.packages s
         → HasSymbols world.old.0.packages s p → owner.now ≡ p → p ≢ common_lisp → p ≢ keyword
         → IsExternal s p (unescaped name.now)
         → OrNoMemory (IsPartOf world.new.0.packages s
@@ -201,7 +201,7 @@ fn export_names(
     owner: &[u8],
     names: &[&[u8]],
 ) -> Result<(), BuildError>
-    ensures made { (s : Table) (p : Name) → IsBegun world.old.0.packages s
+    ensures made { (s : Table) (p : Name) → HasItsPackages world.old.0.packages s
         → HasSymbols world.old.0.packages s p → owner.now ≡ p → p ≢ common_lisp
         → All (λ b. (p ≢ keyword) × IsExternal s p (unescaped b.now)) names.now
         → OrNoMemory (IsPartOf world.new.0.packages s
@@ -217,7 +217,7 @@ fn export_names(
 
 // Makes the symbols that a package has by these names external.
 fn export_each(alloc: Global, world: &mut World, row: &PackageParts<'_>) -> Result<(), BuildError>
-    ensures made { (s : Table) (p : Name) → IsBegun world.old.0.packages s
+    ensures made { (s : Table) (p : Name) → HasItsPackages world.old.0.packages s
         → HasSymbols world.old.0.packages s p → IsRowOf s p row.now → p ≢ common_lisp
         → OrNoMemory (IsPartOf world.new.0.packages s
         × HasExternals world.new.0.packages s p) result }
@@ -232,7 +232,7 @@ fn export_each(alloc: Global, world: &mut World, row: &PackageParts<'_>) -> Resu
 
 // Makes a package use another.
 fn use_one(alloc: Global, world: &mut World, owner: &[u8], used: &[u8]) -> Result<(), BuildError>
-    ensures made { (s : Table) (p : Name) → IsBegun world.old.0.packages s → owner.now ≡ p
+    ensures made { (s : Table) (p : Name) → HasItsPackages world.old.0.packages s → owner.now ≡ p
         → p ≢ common_lisp → Uses s p (unescaped used.now)
         → OrNoMemory (IsPartOf world.new.0.packages s
         × Uses world.new.0.packages p (unescaped used.now)) result }
@@ -251,7 +251,7 @@ fn use_names(
     owner: &[u8],
     names: &[&[u8]],
 ) -> Result<(), BuildError>
-    ensures made { (s : Table) (p : Name) → IsBegun world.old.0.packages s → owner.now ≡ p
+    ensures made { (s : Table) (p : Name) → HasItsPackages world.old.0.packages s → owner.now ≡ p
         → p ≢ common_lisp → All (λ b. Uses s p (unescaped b.now)) names.now
         → OrNoMemory (IsPartOf world.new.0.packages s
         × All (λ b. Uses world.new.0.packages p (unescaped b.now)) names.now) result }
@@ -266,7 +266,7 @@ fn use_names(
 
 // Makes a package use those that it is to use.
 fn use_each(alloc: Global, world: &mut World, row: &PackageParts<'_>) -> Result<(), BuildError>
-    ensures made { (s : Table) (p : Name) → IsBegun world.old.0.packages s → IsRowOf s p row.now
+    ensures made { (s : Table) (p : Name) → HasItsPackages world.old.0.packages s → IsRowOf s p row.now
         → p ≢ common_lisp
         → OrNoMemory (IsPartOf world.new.0.packages s × HasUses world.new.0.packages s p) result }
     ensures grows { Grows world.old.0.packages world.new.0.packages }
@@ -278,7 +278,7 @@ fn use_each(alloc: Global, world: &mut World, row: &PackageParts<'_>) -> Result<
 
 // Makes a package with its own symbols.
 fn make_each(alloc: Global, world: &mut World, row: &PackageParts<'_>) -> Result<(), BuildError>
-    ensures made { (s : Table) (p : Name) → IsSound s → IsPackage s p → p ≢ common_lisp
+    ensures made { (s : Table) (p : Name) → AreSoundPackages s → IsPackage s p → p ≢ common_lisp
         → IsPartOf world.old.0.packages s → IsRowOf s p row.now
         → OrNoMemory (IsPartOf world.new.0.packages s × HasOwn world.new.0.packages s p) result }
     ensures grows { Grows world.old.0.packages world.new.0.packages }
@@ -289,8 +289,8 @@ fn make_each(alloc: Global, world: &mut World, row: &PackageParts<'_>) -> Result
 
 // Makes the packages with their own symbols.
 fn make_all(alloc: Global, world: &mut World, rows: &[PackageParts<'_>]) -> Result<(), BuildError>
-    ensures made { (s : Table) → IsSound s → IsPartOf world.old.0.packages s → AreRowsOf s rows.now
-        → OrNoMemory (IsBegun world.new.0.packages s) result }
+    ensures made { (s : Table) → AreSoundPackages s → IsPartOf world.old.0.packages s → AreRowsOf s rows.now
+        → OrNoMemory (HasItsPackages world.new.0.packages s) result }
     ensures grows { Grows world.old.0.packages world.new.0.packages }
     ensures rest { world.new ≡ (with_packages world.old.0 world.new.0.packages, world.old.1) }
 {
@@ -302,8 +302,8 @@ fn make_all(alloc: Global, world: &mut World, rows: &[PackageParts<'_>]) -> Resu
 }
 
 fn import_all(alloc: Global, world: &mut World, rows: &[PackageParts<'_>]) -> Result<(), BuildError>
-    ensures made { (s : Table) → IsBegun world.old.0.packages s → AreRowsOf s rows.now
-        → OrNoMemory (IsBegun world.new.0.packages s
+    ensures made { (s : Table) → HasItsPackages world.old.0.packages s → AreRowsOf s rows.now
+        → OrNoMemory (HasItsPackages world.new.0.packages s
         × Everywhere s (HasSymbols world.new.0.packages s)) result }
     ensures grows { Grows world.old.0.packages world.new.0.packages }
     ensures rest { world.new ≡ (with_packages world.old.0 world.new.0.packages, world.old.1) }
@@ -316,9 +316,9 @@ fn import_all(alloc: Global, world: &mut World, rows: &[PackageParts<'_>]) -> Re
 }
 
 fn export_all(alloc: Global, world: &mut World, rows: &[PackageParts<'_>]) -> Result<(), BuildError>
-    ensures made { (s : Table) → IsBegun world.old.0.packages s
+    ensures made { (s : Table) → HasItsPackages world.old.0.packages s
         → Everywhere s (HasSymbols world.old.0.packages s) → AreRowsOf s rows.now
-        → OrNoMemory (IsBegun world.new.0.packages s
+        → OrNoMemory (HasItsPackages world.new.0.packages s
         × Everywhere s (HasExternals world.new.0.packages s)) result }
     ensures grows { Grows world.old.0.packages world.new.0.packages }
     ensures rest { world.new ≡ (with_packages world.old.0 world.new.0.packages, world.old.1) }
@@ -331,8 +331,8 @@ fn export_all(alloc: Global, world: &mut World, rows: &[PackageParts<'_>]) -> Re
 }
 
 fn use_all(alloc: Global, world: &mut World, rows: &[PackageParts<'_>]) -> Result<(), BuildError>
-    ensures made { (s : Table) → IsBegun world.old.0.packages s → AreRowsOf s rows.now
-        → OrNoMemory (IsBegun world.new.0.packages s
+    ensures made { (s : Table) → HasItsPackages world.old.0.packages s → AreRowsOf s rows.now
+        → OrNoMemory (HasItsPackages world.new.0.packages s
         × Everywhere s (HasUses world.new.0.packages s)) result }
     ensures grows { Grows world.old.0.packages world.new.0.packages }
     ensures rest { world.new ≡ (with_packages world.old.0 world.new.0.packages, world.old.1) }
@@ -351,9 +351,9 @@ pub(crate) fn make_packages<'a>(
     world: &mut World,
     bytes: &'a [u8],
 ) -> Result<&'a [u8], BuildError>
-    ensures made { (s : Table) (after : List ℕ) → IsSound s → IsPartOf world.old.0.packages s
+    ensures made { (s : Table) (after : List ℕ) → AreSoundPackages s → IsPartOf world.old.0.packages s
         → bytes.now ≡ object_text s (packages_object s) ++ after
-        → Makes result (λ rest. (world.new.0.packages ≡ s) × (rest.now ≡ after)) }
+        → IsOfMade result (λ rest. (world.new.0.packages ≡ s) × (rest.now ≡ after)) }
     ensures rest { world.new ≡ (with_packages world.old.0 world.new.0.packages, world.old.1) }
 {
     let (rows, after) = rows_in(alloc, bytes)?;

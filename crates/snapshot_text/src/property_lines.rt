@@ -4,11 +4,11 @@ ghost use Rattle.std.specs.Prelude.{◌≡◌, ◌≤◌, ◌<◌, ◌+◌, ℕ,
 ghost use Rattle.readtable_core.specs.Tables.{standard};
 ghost use Rattle.plist_state.specs.State.{WorldState};
 ghost use Rattle.plist_state.specs.Readers.{symbols_with_properties};
-ghost use Rattle.plist_state.specs.Sound.{IsSound as IsSoundState};
+ghost use Rattle.plist_state.specs.Sound.{IsSoundWorldState as IsSoundState};
 ghost use Rattle.snapshot_text.specs.Built.{with_packages_of, with_properties_of};
 ghost use Rattle.snapshot_text.specs.Rows.{IsUpTo, row_text, text_after};
-ghost use Rattle.world_text.specs.Snapshot.{line, properties_object};
-ghost use Rattle.snapshot_lines.specs.Answers.{Makes};
+ghost use Rattle.world_text.specs.Snapshot.{snapshot_line, properties_object};
+ghost use Rattle.snapshot_lines.specs.Answers.{IsOfMade};
 
 use crate::property_parts::put_row;
 use plist_state::World;
@@ -27,7 +27,7 @@ fn read_row<R: MacroFunctions>(
         → length source.now.bytes.now ≤ 4294967295 → n < length (symbols_with_properties s)
         → IsUpTo s n world.old.0
         → drop at source.now.bytes.now ≡ row_text s n ++ (text_after s (n + 1) ++ rest)
-        → Makes result (λ next. IsUpTo s (n + 1) world.new.0
+        → IsOfMade result (λ next. IsUpTo s (n + 1) world.new.0
         × (drop next source.now.bytes.now ≡ text_after s (n + 1) ++ rest)) }
     ensures on { IfOk result (λ next. at ≤ next) }
 {
@@ -48,7 +48,7 @@ fn read_rows<R: MacroFunctions>(
         → length source.now.bytes.now ≤ 4294967295 → 0 < length (symbols_with_properties s)
         → world.old.0 ≡ with_packages_of s
         → drop at source.now.bytes.now ≡ row_text s 0 ++ (text_after s 1 ++ 10 ∷ rest)
-        → Makes result (λ next. (world.new.0 ≡ with_properties_of s)
+        → IsOfMade result (λ next. (world.new.0 ≡ with_properties_of s)
         × (drop next source.now.bytes.now ≡ rest)) }
 {
     let mut next_row = at;
@@ -75,9 +75,9 @@ pub(crate) fn read_properties<R: MacroFunctions>(
     requires table { source.now.table.now ≡ standard }
     ensures { (s : WorldState) (rest : List ℕ) → IsSoundState s
         → length source.now.bytes.now ≤ 4294967295
-        → drop at source.now.bytes.now ≡ line s.packages (properties_object s) ++ rest
+        → drop at source.now.bytes.now ≡ snapshot_line s.packages (properties_object s) ++ rest
         → world.old.0 ≡ with_packages_of s
-        → Makes result (λ next. (world.new.0 ≡ with_properties_of s)
+        → IsOfMade result (λ next. (world.new.0 ≡ with_properties_of s)
         × (drop next source.now.bytes.now ≡ rest)) }
 {
     let Some(byte) = source.bytes.get(at) else {

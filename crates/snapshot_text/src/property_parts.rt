@@ -5,11 +5,11 @@ ghost use Rattle.lisp_object.specs.Datum.{object_of, is_proper};
 ghost use Rattle.plist_state.specs.Properties as properties;
 ghost use Rattle.plist_state.specs.Properties.{Plist, with_list};
 ghost use Rattle.plist_state.specs.Changes.{plist, with_property};
-ghost use Rattle.plist_state.specs.Shown.{symbol_of};
+ghost use Rattle.plist_state.specs.Views.{symbol_of};
 ghost use Rattle.plist_state.specs.Sound.{IsSymbol, IsValue, IsPlist};
 ghost use Rattle.world_text.specs.Snapshot.{symbol_object, plist_object};
 ghost use Rattle.snapshot_text.specs.Built.{with_properties, with_each};
-ghost use Rattle.snapshot_lines.specs.Answers.{Makes, OrNoMemory};
+ghost use Rattle.snapshot_lines.specs.Answers.{IsOfMade, OrNoMemory};
 
 use crate::known::{is_there, is_value};
 use crate::parts::items_in;
@@ -21,7 +21,7 @@ use std::alloc::Global;
 // An interned symbol.
 fn symbol_in(alloc: Global, datum: &Datum) -> Result<Symbol, BuildError>
     ensures { is_proper datum.now ≡ true → (x : properties.Symbol)
-        → object_of datum.now ≡ symbol_object x → Makes result (λ symbol. symbol_of symbol ≡ x) }
+        → object_of datum.now ≡ symbol_object x → IsOfMade result (λ symbol. symbol_of symbol ≡ x) }
 {
     match datum {
         Datum::Symbol { package, name } => {

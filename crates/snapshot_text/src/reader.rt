@@ -3,11 +3,11 @@ ghost use Rattle.std.specs.Prelude.{◌≡◌, ◌≤◌, ℕ, List, [], ◌++�
 ghost use Rattle.readtable_core.specs.Tables.{standard};
 ghost use Rattle.plist_state.specs.State.{WorldState, initial};
 ghost use Rattle.snapshot_text.specs.Built.{with_packages_of, with_properties_of};
-ghost use Rattle.plist_state.specs.Sound.{IsSound as IsSoundState};
+ghost use Rattle.plist_state.specs.Sound.{IsSoundWorldState as IsSoundState};
 ghost use Rattle.snapshot_text.specs.Covered.{are_covered, IsRefused};
-ghost use Rattle.world_text.specs.Snapshot.{packages_object, tables_object_in, line, snapshot_in};
+ghost use Rattle.world_text.specs.Snapshot.{packages_object, tables_object_in, snapshot_line, snapshot_in};
 ghost use Rattle.lisp_object.specs.Object.{Object};
-ghost use Rattle.snapshot_lines.specs.Answers.{Makes, OrNoMemory};
+ghost use Rattle.snapshot_lines.specs.Answers.{IsOfMade, OrNoMemory};
 
 use crate::SnapshotError;
 use crate::package_parts::make_packages;
@@ -26,9 +26,9 @@ const MOST_BYTES: usize = 4_294_967_295;
 // Makes the packages of the first line, in a new world. Gives where the next line begins.
 fn read_packages(alloc: Global, world: &mut World, bytes: &[u8]) -> Result<usize, BuildError>
     ensures { (s : WorldState) (rest : List ℕ) → IsSoundState s → length bytes.now ≤ 4294967295
-        → bytes.now ≡ line s.packages (packages_object s.packages) ++ rest
+        → bytes.now ≡ snapshot_line s.packages (packages_object s.packages) ++ rest
         → world.old.0 ≡ initial
-        → Makes result (λ next. (world.new.0 ≡ with_packages_of s)
+        → IsOfMade result (λ next. (world.new.0 ≡ with_packages_of s)
         × (drop next bytes.now ≡ rest)) }
 {
     let rest = make_packages(alloc, world, bytes)?;
@@ -47,7 +47,7 @@ fn read_tables<R: MacroFunctions>(
     requires table { source.now.table.now ≡ standard }
     ensures { (s : WorldState) (third : Object) (rest : List ℕ) → IsSoundState s
         → length source.now.bytes.now ≤ 4294967295 → tables_object_in version s ≡ Some third
-        → drop at source.now.bytes.now ≡ line s.packages third ++ rest
+        → drop at source.now.bytes.now ≡ snapshot_line s.packages third ++ rest
         → world.old.0 ≡ with_properties_of s → OrNoMemory (world.new.0 ≡ s) result }
 {
     let (tables, _) = next_object(source, world, at)?;
@@ -83,7 +83,7 @@ fn built<R: MacroFunctions>(
 ) -> Result<World, BuildError>
     requires { R.answers macros.now }
     ensures { (s : WorldState) → IsSoundState s → length bytes.now ≤ 4294967295
-        → snapshot_in version s ≡ Some bytes.now → Makes result (λ world. world.0 ≡ s) }
+        → snapshot_in version s ≡ Some bytes.now → IsOfMade result (λ world. world.0 ≡ s) }
 {
     let standard = Readtable::standard(alloc)?;
     let source = Source {

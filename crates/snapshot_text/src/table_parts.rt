@@ -8,11 +8,11 @@ ghost use Rattle.readtable_core.specs.Names.{is_function_name, is_dispatch_name}
 ghost use Rattle.readtable_core.specs.Tables as readtable;
 ghost use Rattle.readtable_core.specs.Tables.{CharacterEntry, entry_at};
 ghost use Rattle.readtable_core.specs.Sound.{is_dispatching};
-ghost use Rattle.readtable_core.specs.Changes.{macro_syntax, with_entry, with_function};
+ghost use Rattle.readtable_core.specs.Changes.{macro_syntax, with_character_entry, with_function};
 ghost use Rattle.package_table.specs.Table.{Name, keyword};
 ghost use Rattle.plist_state.specs.State.{WorldState, first_base};
 ghost use Rattle.plist_state.specs.Changes.{with_base};
-ghost use Rattle.plist_state.specs.Sound.{IsSymbol, IsNamed, IsSound as IsSoundState};
+ghost use Rattle.plist_state.specs.Sound.{IsSymbol, IsNamed, IsSoundWorldState as IsSoundState};
 ghost use Rattle.world_text.specs.Snapshot.{number, dispatch_objects, entry_object, entry_objects, readtable_object, readtables_object, tables_object, tables_object_1, tables_object_in};
 ghost use Rattle.snapshot_text.specs.Built.{with_table, with_properties_of, with_readtables_of, CanBeMade, IsWritable, IsSubFunction, IsNamedEntry};
 ghost use Rattle.snapshot_lines.specs.Answers.{OrNoMemory, Succeeds};
@@ -50,7 +50,7 @@ fn put_sub_character(world: &mut World, table: &[u8], c: u8, pair: &Datum) -> Re
         → IsSubFunction world.old.0.packages sub f → IsWritable world.old.0.readtables table.now t
         → is_dispatching (entry_at t c) ≡ true
         → OrNoMemory (world.new.0 ≡ with_table world.old.0 table.now
-        (with_entry t c (with_function (entry_at t c) sub f))) result }
+        (with_character_entry t c (with_function (entry_at t c) sub f))) result }
 {
     let [sub, function] = items_in(pair)? else {
         return Err(BuildError::Damaged);
@@ -80,7 +80,7 @@ fn put_macro(
         → object_of dispatch.now ≡ list_of (dispatch_objects e)
         → e.syntax ≡ macro_syntax non_terminating → IsNamedEntry world.old.0.packages e
         → IsWritable world.old.0.readtables table.now t
-        → OrNoMemory (world.new.0 ≡ with_table world.old.0 table.now (with_entry t c e)) result }
+        → OrNoMemory (world.new.0 ≡ with_table world.old.0 table.now (with_character_entry t c e)) result }
 {
     let function = function_in(function)?;
     if !function.is_dispatch() {
@@ -103,7 +103,7 @@ fn put_standard(world: &mut World, table: &[u8], c: u8, from: u8) -> Result<(), 
     requires from { from < 128 }
     ensures { (t : readtable.Table) → IsWritable world.old.0.readtables table.now t
         → OrNoMemory (world.new.0 ≡ with_table world.old.0 table.now
-        (with_entry t c (entry_at readtable.standard from))) result }
+        (with_character_entry t c (entry_at readtable.standard from))) result }
 {
     world.set_syntax_from_char(table, c, STANDARD, from)?;
     Ok(())
@@ -124,7 +124,7 @@ fn put_typed(
         → object_of function.now ≡ text (unwrap_or e.function [])
         → object_of dispatch.now ≡ list_of (dispatch_objects e) → e.syntax ≡ syntax
         → IsNamedEntry world.old.0.packages e → IsWritable world.old.0.readtables table.now t
-        → OrNoMemory (world.new.0 ≡ with_table world.old.0 table.now (with_entry t c e)) result }
+        → OrNoMemory (world.new.0 ≡ with_table world.old.0 table.now (with_character_entry t c e)) result }
 {
     match syntax {
         Syntax::Whitespace => put_standard(world, table, c, b' '),
@@ -142,7 +142,7 @@ fn put_entry(world: &mut World, table: &[u8], entry: &Datum) -> Result<(), Build
     ensures { is_proper entry.now ≡ true → (t : readtable.Table) (c : ℕ) (e : CharacterEntry)
         → object_of entry.now ≡ entry_object c e → c < 128 → IsNamedEntry world.old.0.packages e
         → IsWritable world.old.0.readtables table.now t
-        → OrNoMemory (world.new.0 ≡ with_table world.old.0 table.now (with_entry t c e)) result }
+        → OrNoMemory (world.new.0 ≡ with_table world.old.0 table.now (with_character_entry t c e)) result }
 {
     let [c, syntax, function, dispatch] = items_in(entry)? else {
         return Err(BuildError::Damaged);

@@ -6,22 +6,22 @@ use Rattle.std_macros.specs.declared.kind.Standard.TheVariants.{List as AList, C
 use Rattle.std_macros.specs.declared.kind.StdGather.{StdGather}
 use Rattle.std_macros.specs.declared.kind.StdGather.TheVariants.{Nothing, One, List as ByList, Many, Text, Line, Block as ByBlock, Token, EscapedToken}
 
-abbrev pub name_of : Standard → List ℕ
-name_of AList = std_list
-name_of Close = std_close
-name_of Quote = std_quote
-name_of Comment = std_comment
-name_of String = std_string
-name_of Out = std_out
-name_of Char = std_char
-name_of Function = std_function
-name_of Vector = std_vector
-name_of Uninterned = std_uninterned
-name_of Block = std_block
-name_of Binary = std_binary
-name_of Octal = std_octal
-name_of Hex = std_hex
-name_of Radix = std_radix
+abbrev pub name_of_standard : Standard → List ℕ
+name_of_standard AList = std_list
+name_of_standard Close = std_close
+name_of_standard Quote = std_quote
+name_of_standard Comment = std_comment
+name_of_standard String = std_string
+name_of_standard Out = std_out
+name_of_standard Char = std_char
+name_of_standard Function = std_function
+name_of_standard Vector = std_vector
+name_of_standard Uninterned = std_uninterned
+name_of_standard Block = std_block
+name_of_standard Binary = std_binary
+name_of_standard Octal = std_octal
+name_of_standard Hex = std_hex
+name_of_standard Radix = std_radix
 
 -- those of macro characters
 abbrev pub macro_kinds : List Standard
@@ -37,7 +37,7 @@ kinds = macro_kinds ++ dispatch_kinds
 -- the first of this name
 abbrev pub kind_among : List Standard → List ℕ → Option Standard
 kind_among [] name = None
-kind_among (k ∷ ks) name = if same_name (name_of k) name then Some k else kind_among ks name
+kind_among (k ∷ ks) name = if same_name (name_of_standard k) name then Some k else kind_among ks name
 
 abbrev pub way_of_standard : Standard → StdGather
 way_of_standard AList = ByList

@@ -68,9 +68,9 @@ FinishFails OutOfMemory value = (x : Object) × (value ≡ Ok (Some x))
 FinishFails (Refused refusal) value = value ≡ Err refusal
 
 -- what was answered is the value, unless memory ran out
-abbrev pub Gives : Result Finished FinishError → Value → Type 0
-Gives (Ok answer) value = value ≡ Ok (view_finished answer)
-Gives (Err error) value = FinishFails error value
+abbrev pub AnswersWithValue : Result Finished FinishError → Value → Type 0
+AnswersWithValue (Ok answer) value = value ≡ Ok (view_finished answer)
+AnswersWithValue (Err error) value = FinishFails error value
 
 -- an object that was answered is a proper and sound datum
 abbrev pub IsProperFinished : Finished → Type 0

@@ -2,7 +2,7 @@
 ghost use Rattle.std.specs.Prelude.{◌≡◌, ◌≢◌, ◌∷◌, [], Err, IfOk, IsTrue, MatchOption};
 ghost use Rattle.token_scan.specs.Marks.{characters, mark_character as character_of_mark, are_ascii};
 ghost use Rattle.std_macros.specs.Values.{is_named, code_named, character_of, character_or_refused};
-ghost use Rattle.std_macros.specs.Results.{Gives, IsProperFinished};
+ghost use Rattle.std_macros.specs.Results.{AnswersWithValue, IsProperFinished};
 
 use crate::{FinishError, Finished, StdRefusal};
 use lisp_object::Datum;
@@ -11,7 +11,7 @@ use token_scan::Mark;
 /// The character of a token: the only one that it has, or the one of that name.
 pub(crate) fn character(marks: &[Mark]) -> Result<Finished, FinishError>
     requires { IsTrue (are_ascii marks.now) }
-    ensures value { Gives result (character_of (characters marks.now)) }
+    ensures value { AnswersWithValue result (character_of (characters marks.now)) }
     ensures proper { IfOk result IsProperFinished }
 {
     match only(marks) {
@@ -22,7 +22,8 @@ pub(crate) fn character(marks: &[Mark]) -> Result<Finished, FinishError>
 
 /// The only character that there is.
 fn only(marks: &[Mark]) -> Option<u8>
-    ensures { MatchOption result (character_of (characters marks.now) ≡ character_or_refused (code_named (characters marks.now)))
+    ensures { MatchOption result (character_of (characters marks.now)
+        ≡ character_or_refused (code_named (characters marks.now)))
         (λ c. characters marks.now ≡ c ∷ []) }
 {
     let (c, others) = first(marks)?;
@@ -57,7 +58,7 @@ fn character_of_mark(mark: Mark) -> Option<u8>
 }
 
 fn named(marks: &[Mark]) -> Result<Finished, FinishError>
-    ensures value { Gives result (character_or_refused (code_named (characters marks.now))) }
+    ensures value { AnswersWithValue result (character_or_refused (code_named (characters marks.now))) }
     ensures proper { IfOk result IsProperFinished }
 {
     match code_named(marks) {

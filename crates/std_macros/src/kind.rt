@@ -1,7 +1,7 @@
 //! The standard functions, by their names, and the ways in which they gather.
 ghost use Rattle.std.specs.Prelude.{◌≡◌, is_some, IfSome};
 ghost use Rattle.readtable_core.specs.Names.{is_standard, same_name};
-ghost use Rattle.std_macros.specs.Kinds.{name_of, macro_kinds, dispatch_kinds, kinds, kind_among, way_of_standard, radix_of};
+ghost use Rattle.std_macros.specs.Kinds.{name_of_standard, macro_kinds, dispatch_kinds, kinds, kind_among, way_of_standard, radix_of};
 
 use readtable_core::FnName;
 use readtable_core::standard_names::{
@@ -71,7 +71,7 @@ pub enum StdGather {
 /// The standard function of this name; None where it is none. STD-DISPATCH is none. Takes no memory.
 pub fn standard_of(name: FnName) -> Option<Standard>
     ensures variant { is_some result ≡ is_standard name }
-    ensures some { IfSome result (λ kind. name_of kind ≡ name) }
+    ensures some { IfSome result (λ kind. name_of_standard kind ≡ name) }
 {
     known(name.as_bytes())
 }

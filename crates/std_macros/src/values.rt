@@ -9,7 +9,7 @@ ghost use Rattle.token_meaning.specs.Meanings.{is_package_marker};
 ghost use Rattle.token_meaning.specs.Results.{view_number};
 ghost use Rattle.std_macros.specs.Values.{headed, headed_value, list_value, text_value, character_value, vector_value, is_own_name, uninterned_of, uninterned_value, rational_or_refused, rational_value, value_of};
 ghost use Rattle.std_macros.specs.declared.kind.Standard.TheVariants.{Vector};
-ghost use Rattle.std_macros.specs.Results.{view_gathered, IsProperGathered, IsSoundDatum, Gives, IsProperFinished};
+ghost use Rattle.std_macros.specs.Results.{view_gathered, IsProperGathered, IsSoundDatum, AnswersWithValue, IsProperFinished};
 
 use crate::characters::character;
 use crate::vectors::vector;
@@ -37,7 +37,7 @@ pub fn finish(
     gathered: StdGathered,
 ) -> Result<Finished, FinishError>
     requires { IsProperGathered gathered }
-    ensures value { Gives result (value_of kind case number (view_gathered gathered)) }
+    ensures value { AnswersWithValue result (value_of kind case number (view_gathered gathered)) }
     ensures proper { IfOk result IsProperFinished }
 {
     match kind {
@@ -65,7 +65,7 @@ pub fn finish(
 
 fn list(alloc: Global, gathered: StdGathered) -> Result<Finished, FinishError>
     requires { IsProperGathered gathered }
-    ensures value { Gives result (list_value (view_gathered gathered)) }
+    ensures value { AnswersWithValue result (list_value (view_gathered gathered)) }
     ensures proper { IfOk result IsProperFinished }
 {
     match gathered {
@@ -81,7 +81,7 @@ fn list(alloc: Global, gathered: StdGathered) -> Result<Finished, FinishError>
 
 fn text(gathered: StdGathered) -> Result<Finished, FinishError>
     requires { IsProperGathered gathered }
-    ensures value { Gives result (text_value (view_gathered gathered)) }
+    ensures value { AnswersWithValue result (text_value (view_gathered gathered)) }
     ensures proper { IfOk result IsProperFinished }
 {
     match gathered {
@@ -96,7 +96,7 @@ fn text(gathered: StdGathered) -> Result<Finished, FinishError>
 fn headed(alloc: Global, name: &[u8], gathered: StdGathered) -> Result<Finished, FinishError>
     requires proper { IsProperGathered gathered }
     requires name { list_all is_ascii name.now ≡ true }
-    ensures value { Gives result (headed_value name.now (view_gathered gathered)) }
+    ensures value { AnswersWithValue result (headed_value name.now (view_gathered gathered)) }
     ensures proper { IfOk result IsProperFinished }
 {
     match gathered {
@@ -132,7 +132,7 @@ fn symbol(alloc: Global, name: &[u8]) -> Result<Datum, AllocError>
 
 fn character_of(gathered: StdGathered) -> Result<Finished, FinishError>
     requires { IsProperGathered gathered }
-    ensures value { Gives result (character_value (view_gathered gathered)) }
+    ensures value { AnswersWithValue result (character_value (view_gathered gathered)) }
     ensures proper { IfOk result IsProperFinished }
 {
     match gathered {
@@ -143,7 +143,7 @@ fn character_of(gathered: StdGathered) -> Result<Finished, FinishError>
 
 fn uninterned(alloc: Global, case: Case, gathered: StdGathered) -> Result<Finished, FinishError>
     requires { IsProperGathered gathered }
-    ensures value { Gives result (uninterned_value case (view_gathered gathered)) }
+    ensures value { AnswersWithValue result (uninterned_value case (view_gathered gathered)) }
     ensures proper { IfOk result IsProperFinished }
 {
     match gathered {
@@ -154,7 +154,7 @@ fn uninterned(alloc: Global, case: Case, gathered: StdGathered) -> Result<Finish
 
 fn uninterned_symbol(alloc: Global, case: Case, marks: Marks) -> Result<Finished, FinishError>
     requires { IsTrue (are_ascii marks.items) }
-    ensures value { Gives result (uninterned_of case marks.items) }
+    ensures value { AnswersWithValue result (uninterned_of case marks.items) }
     ensures proper { IfOk result IsProperFinished }
 {
     if !is_own_name(marks.as_slice()) {
@@ -191,7 +191,7 @@ fn has_marker(marks: &[Mark]) -> bool
 fn rational_in(base: u8, gathered: StdGathered) -> Result<Finished, FinishError>
     requires lowest_base { 2 ≤ base }
     requires highest_base { base ≤ 36 }
-    ensures value { Gives result (rational_value base (view_gathered gathered)) }
+    ensures value { AnswersWithValue result (rational_value base (view_gathered gathered)) }
     ensures proper { IfOk result IsProperFinished }
 {
     match gathered {
@@ -204,7 +204,7 @@ fn rational_or_refused(
     found: Option<Result<Datum, MeaningRefusal>>,
 ) -> Result<Finished, FinishError>
     requires { IfSome found (λ given. IfOk given (λ datum. is_proper datum ≡ true)) }
-    ensures value { Gives result (rational_or_refused (option_map view_number found)) }
+    ensures value { AnswersWithValue result (rational_or_refused (option_map view_number found)) }
     ensures proper { IfOk result IsProperFinished }
 {
     match found {
@@ -228,7 +228,7 @@ fn vector_of(
     gathered: StdGathered,
 ) -> Result<Finished, FinishError>
     requires { IsProperGathered gathered }
-    ensures value { Gives result (vector_value number (view_gathered gathered)) }
+    ensures value { AnswersWithValue result (vector_value number (view_gathered gathered)) }
     ensures proper { IfOk result IsProperFinished }
 {
     match gathered {

@@ -6,7 +6,7 @@ ghost use Rattle.lisp_object.specs.Datum.{object_of, is_proper, size};
 ghost use Rattle.lisp_object.specs.Object.{vector as vector_object, list_of};
 ghost use Rattle.std_macros.specs.declared.refusal.StdRefusal.TheVariants.{VectorLength};
 ghost use Rattle.std_macros.specs.Values.{given, vector_of};
-ghost use Rattle.std_macros.specs.Results.{AreSoundData, Gives, IsProperFinished};
+ghost use Rattle.std_macros.specs.Results.{AreSoundData, AnswersWithValue, IsProperFinished};
 
 use crate::{FinishError, Finished, StdRefusal};
 use lisp_object::{Datum, Items};
@@ -22,7 +22,7 @@ pub(crate) fn vector(
     items: Items<Datum>,
 ) -> Result<Finished, FinishError>
     requires { AreSoundData items }
-    ensures value { Gives result (vector_of (Some length) (map object_of items)) }
+    ensures value { AnswersWithValue result (vector_of (Some length) (map object_of items)) }
     ensures proper { IfOk result IsProperFinished }
 {
     let count = items.len() as u64;
@@ -49,7 +49,8 @@ fn repeating(
 ) -> Result<Finished, FinishError>
     requires copies { copies < 2 ^ 32 }
     requires proper { AreSoundData (front.items ++ replicate (copies + 1) last) }
-    ensures value { Gives result (if nat_le (sum (map size front.items) + (copies + 1) * size last + 1) LARGEST_REPEATED_VECTOR
+    ensures value { AnswersWithValue result
+        (if nat_le (sum (map size front.items) + (copies + 1) * size last + 1) LARGEST_REPEATED_VECTOR
         then given (vector_object (list_of (map object_of (front.items ++ replicate (copies + 1) last)))) else Err VectorLength) }
     ensures proper { IfOk result IsProperFinished }
 {
@@ -81,7 +82,8 @@ fn repeated(
 #[tactic(auto, using(crate::proofs::Repeating::times_room, crate::proofs::Repeating::no_room))]
 fn fits(front: &[Datum], last: &Datum, copies: u64) -> bool
     requires { copies < 2 ^ 32 }
-    ensures { result ≡ nat_le (sum (map size front.now) + (copies + 1) * size last.now + 1) LARGEST_REPEATED_VECTOR }
+    ensures { result
+        ≡ nat_le (sum (map size front.now) + (copies + 1) * size last.now + 1) LARGEST_REPEATED_VECTOR }
 {
     match room_after(front, LARGEST_REPEATED_VECTOR - 1) {
         Some(room) => times_fit(last.size(), copies + 1, room),

@@ -9,7 +9,7 @@ use Rattle.session_words.specs.declared.wanted.Wanted.{Wanted}
 use Rattle.store_commands.specs.Commands.{IsEarlyFault, IsUntouched, Performs, PerformsAtTerminal, PerformsInTurn, TellsUnopened}
 use Rattle.store_commands.specs.Sessions.{AreSessions}
 use Rattle.store_commands.specs.Status.{HasFaultNumber, IsFaultNumber, status_of_ended}
-use Rattle.store_commands.specs.Told.{IsToldOf}
+use Rattle.store_commands.specs.EndLines.{IsToldOf}
 use Rattle.store_commands.specs.declared.status.Status.{Status}
 use Rattle.store_commands.specs.declared.status.Status.TheVariants.{Fault}
 use Rattle.store_commands.specs.declared.told.Told.{Told}

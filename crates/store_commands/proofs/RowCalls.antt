@@ -7,7 +7,7 @@ use Rattle.prevalence_store.specs.Theorem.{Call, Headline, Keeps, Run, disk_afte
 use Rattle.sessions.specs.Account.{Account, AreUnderWay, first_account}
 use Rattle.prevalence_store.specs.calls.Store.{StoreView}
 use Rattle.sessions.specs.declared.ending.Ended.{Ended}
-use Rattle.session_ledger.specs.Went.{Went, calls_in, handings_of}
+use Rattle.session_ledger.specs.OutgoingLines.{Went, calls_in, handings_of}
 use Rattle.session_words.specs.declared.wanted.Wanted.{Wanted}
 use Rattle.store_commands.specs.Sessions.{Earlier, InTurn, calls_before, calls_in_turn}
 use Rattle.store_laws.specs.Batches.{AreTogether}

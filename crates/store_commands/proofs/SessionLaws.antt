@@ -23,9 +23,9 @@ use Rattle.sessions.specs.Serve.{IsUnaccepted, Serves, ServesInput, ServesWanted
 use Rattle.prevalence_store.specs.calls.Store.{StoreView}
 use Rattle.prevalence_store.specs.meaning.Acceptance.{between, read_in}
 use Rattle.store_commands.specs.Commands.{is_of_opening}
-use Rattle.store_commands.specs.Session.{AnswersInput, AnswersToRefusal, IsBrokenOff, IsWritten, ReadsToEnd}
+use Rattle.store_commands.specs.Session.{AnswersInput, AnswersToRefusal, IsBrokenOff, LinesAreWritten, ReadsToEnd}
 use Rattle.store_commands.specs.Status.{HasFaultNumber, IsFaultNumber, status_of_ended}
-use Rattle.store_commands.specs.Told.{IsToldOf}
+use Rattle.store_commands.specs.EndLines.{IsToldOf}
 use Rattle.diagnostics.specs.declared.refusal.Refusal.{Refusal}
 use Rattle.store_commands.specs.declared.told.Told.{Told}
 use Rattle.store_commands.proofs.Statuses.{other_number}
@@ -61,7 +61,7 @@ module _ (functions : Functions) (mode : Mode) where
   module _ {D R : Type 0} (state : D → State) (old new : StoreView D R) (w : WorldState) (had has held_now written : Option (List ℕ)) where
     -- at the end of the input
     done_input : {group : Bool} {pace : Pace} → ServesInput functions state group pace old new w mode had has held_now written End → (input held : List ℕ) → had ≡ Some input → held_now ≡ Some held
-        → (served_all : IsWritten functions mode w input held written []) × (read_in functions served_all.far.world mode served_all.far.rest ≡ empty)
+        → (served_all : LinesAreWritten functions mode w input held written []) × (read_in functions served_all.far.world mode served_all.far.rest ≡ empty)
     done_input served input held left holds =
         let s = served.serves in
         let read = served.reads input left in
@@ -83,7 +83,7 @@ module _ (functions : Functions) (mode : Mode) where
     answered_done text served = same_progress served.lines served.forms w text served.answered served.far served.ends.all served.answered_is served.far_is
 
     refused_input : {group : Bool} {pace : Pace} (number : ℕ) → ServesInput functions state group pace old new w mode had has held_now written (Reader number) → (input held : List ℕ) → had ≡ Some input → held_now ≡ Some held
-        → (lines : IsWritten functions mode w input held written (refusal_line number)) × ((place : ℕ) × (read_in functions lines.far.world mode lines.far.rest ≡ refused number place))
+        → (lines : LinesAreWritten functions mode w input held written (refusal_line number)) × ((place : ℕ) × (read_in functions lines.far.world mode lines.far.rest ≡ refused number place))
     refused_input number served input held left holds =
         let s = served.serves in
         let read = served.reads input left in

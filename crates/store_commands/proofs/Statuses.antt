@@ -10,7 +10,7 @@ use Rattle.store_commands.specs.declared.status.Status.{Status}
 use Rattle.store_commands.specs.declared.status.Status.TheVariants.{Done, Helped, FormRefused, Unanswered, WordsRefused, LeftOut, Fault}
 use Rattle.store_commands.specs.Commands.{IsEarlyFault, is_of_opening}
 use Rattle.store_commands.specs.Status.{EndsAfter, HasFaultNumber, IsAfterOneOf, IsAfterWords, IsCarriedOut, IsFaultNumber, IsOfWords, TakesWords, status_after, status_of_ended, status_of_host}
-use Rattle.store_commands.specs.Told.{TellsFault}
+use Rattle.store_commands.specs.EndLines.{TellsFault}
 use Rattle.store_commands.specs.declared.told.Told.TheVariants.{Nothing}
 use Rattle.lisp_object.specs.declared.refusal.TheConstants.{NO_MEMORY, OUTPUT}
 use Rattle.disk_trait.specs.declared.host.HostError.{HostError}

@@ -11,13 +11,13 @@ use Rattle.user_macros.specs.Functions.{Functions}
 use Rattle.sessions.specs.declared.ending.Ended.{Ended}
 use Rattle.sessions.specs.declared.ending.Ended.TheVariants.{End, Store, Unaccepted, Unreadable}
 use Rattle.session_words.specs.declared.wanted.Wanted.{Wanted}
-use Rattle.store_commands.specs.Commands.{CarriesOut, DoesOn, IsEarlyFault, IsUntouched, Performs, TaskBreaksOff, TaskReads, TaskWrites, TellsUnopened}
+use Rattle.store_commands.specs.Commands.{IsCarriedOutOn, DoesOn, IsEarlyFault, IsUntouched, Performs, TaskBreaksOff, TaskReads, TaskWrites, TellsUnopened}
 use Rattle.store_commands.specs.Report.{IsExport, IsReport, IsSnapshot, IsUpgrade, half_line, position_line, version_line}
 use Rattle.prevalence_store.specs.calls.Open.{IsUnopened}
 use Rattle.sessions.specs.Serve.{ServesWanted}
 use Rattle.store_commands.specs.Session.{AnswersInput, IsSession, IsStatusAfter, ReadsToEnd, half_limit}
 use Rattle.store_commands.specs.Status.{HasFaultNumber, IsFaultNumber, TakesWords}
-use Rattle.store_commands.specs.Told.{IsToldOf, left_out_of}
+use Rattle.store_commands.specs.EndLines.{IsToldOf, left_out_of}
 use Rattle.store_commands.specs.declared.told.Told.{Told}
 use Rattle.store_commands.specs.declared.told.Told.TheVariants.{Nothing}
 use Rattle.store_commands.specs.declared.status.Status.{Status}
@@ -106,7 +106,7 @@ module _ (functions : Functions) {D R : Type 0} (state : D → State) (macros : 
       (λ none. absurd (named none)))
 
   performs_session : (disk back : D) (folder : Text) (wanted : Wanted) (status : Status) → (folder ≡ [] → ⊥)
-      → CarriesOut functions state macros whole remaining contents input left held written disk back (Run wanted) status told
+      → IsCarriedOutOn functions state macros whole remaining contents input left held written disk back (Run wanted) status told
       → PerformedHere folder (Run wanted) status
   performs_session disk back folder wanted status named (ended, inr (strict, at_end, is), tells, session) =
       let served = subst (λ (e : Ended). ServesWanted functions state wanted session.opened session.closed session.is_opened.world
@@ -141,7 +141,7 @@ module _ (functions : Functions) {D R : Type 0} (state : D → State) (macros : 
   }
 
   performs_snapshot : (disk back : D) (folder : Text) (status : Status) → (folder ≡ [] → ⊥)
-      → CarriesOut functions state macros whole remaining contents input left held written disk back Snapshot status told
+      → IsCarriedOutOn functions state macros whole remaining contents input left held written disk back Snapshot status told
       → PerformedHere folder Snapshot status
   performs_snapshot disk back folder status named (done, same) =
       let old = done.opened in
@@ -160,7 +160,7 @@ module _ (functions : Functions) {D R : Type 0} (state : D → State) (macros : 
       }
 
   performs_upgrade : (disk back : D) (folder : Text) (status : Status) → (folder ≡ [] → ⊥)
-      → CarriesOut functions state macros whole remaining contents input left held written disk back Upgrade status told
+      → IsCarriedOutOn functions state macros whole remaining contents input left held written disk back Upgrade status told
       → PerformedHere folder Upgrade status
   performs_upgrade disk back folder status named (done, same) =
       let old = done.opened in
@@ -179,7 +179,7 @@ module _ (functions : Functions) {D R : Type 0} (state : D → State) (macros : 
       }
 
   performs_export : (disk back : D) (folder : Text) (content : Content) (status : Status) → (folder ≡ [] → ⊥)
-      → CarriesOut functions state macros whole remaining contents input left held written disk back (Export content) status told
+      → IsCarriedOutOn functions state macros whole remaining contents input left held written disk back (Export content) status told
       → PerformedHere folder (Export content) status
   performs_export disk back folder content status named (done, same) = record {
     taken = forms_taken _ _ _ _ _ status done.tells;
@@ -194,7 +194,7 @@ module _ (functions : Functions) {D R : Type 0} (state : D → State) (macros : 
   }
 
   performs_report : (disk back : D) (folder : Text) (report : Report) (status : Status) → (folder ≡ [] → ⊥)
-      → CarriesOut functions state macros whole remaining contents input left held written disk back (Tell report) status told
+      → IsCarriedOutOn functions state macros whole remaining contents input left held written disk back (Tell report) status told
       → PerformedHere folder (Tell report) status
   performs_report disk back folder report status named (done, same) = record {
     taken = text_taken _ _ _ status done.tells;

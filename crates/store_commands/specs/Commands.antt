@@ -17,7 +17,7 @@ use Rattle.store_commands.specs.Session.{AnswersInput, IsBrokenOff, IsSession, I
 use Rattle.store_commands.specs.Sessions.{AreSessions}
 use Rattle.store_commands.specs.Status.{HasFaultNumber, IsCarriedOut, TakesWords, status_of_ended, status_of_host}
 use Rattle.diagnostics.specs.Texts.{IsFront}
-use Rattle.store_commands.specs.Told.{IsToldOf, left_out_of}
+use Rattle.store_commands.specs.EndLines.{IsToldOf, left_out_of}
 use Rattle.store_commands.specs.declared.status.Status.{Status}
 use Rattle.store_commands.specs.declared.status.Status.TheVariants.{Fault, WordsRefused}
 use Rattle.store_commands.specs.declared.told.Told.{Told}
@@ -88,24 +88,24 @@ module _ (functions : Functions) {D R : Type 0} (state : D → State) (macros : 
     {I O : Type 0} (remaining : I → Option (List ℕ)) (contents : O → Option (List ℕ)) (input left : I) (held written : O) where
   -- It was carried out over the store that a disk holds: a session went so, and the status is that of its end; or a snapshot was
   -- taken, the store was upgraded or exported, or something was told of it. The disk is left as the store that was closed left it.
-  abbrev pub CarriesOut : D → D → Task → Status → Told → Type 0
-  CarriesOut disk back (Run wanted) status told =
+  abbrev pub IsCarriedOutOn : D → D → Task → Status → Told → Type 0
+  IsCarriedOutOn disk back (Run wanted) status told =
       (ended : Ended) × IsStatusAfter functions wanted ended status × IsToldOf ended told
       × IsSession functions wanted state disk macros (remaining input) (remaining left) (contents held) (contents written) ended back
-  CarriesOut disk back Snapshot status told =
+  IsCarriedOutOn disk back Snapshot status told =
       IsSnapshot functions state disk macros (contents held) (contents written) status back × (left ≡ input)
-  CarriesOut disk back Upgrade status told =
+  IsCarriedOutOn disk back Upgrade status told =
       IsUpgrade functions state disk macros (contents held) (contents written) status back × (left ≡ input)
-  CarriesOut disk back (Export content) status told =
+  IsCarriedOutOn disk back (Export content) status told =
       IsExport functions state content disk macros (contents held) (contents written) status back (left_out_of told) × (left ≡ input)
-  CarriesOut disk back (Tell report) status told =
+  IsCarriedOutOn disk back (Tell report) status told =
       IsReport functions state report disk macros (contents held) (contents written) status back × (left ≡ input)
 
   -- It is carried out over the store that a disk holds; or the store is not opened, and nothing is read or written. The first disk
   -- becomes the second.
   abbrev pub DoesOn : D → D → Task → Status → Told → Type 0
   DoesOn disk back task status told =
-      CarriesOut disk back task status told ⊎ (TellsUnopened functions state disk back whole status × IsUntouched input left held written)
+      IsCarriedOutOn disk back task status told ⊎ (TellsUnopened functions state disk back whole status × IsUntouched input left held written)
 
 module _ (functions : Functions) {I O : Type 0} (remaining : I → Option (List ℕ)) (contents : O → Option (List ℕ)) (input left : I) (held written : O) where
   -- A task, for the store in a folder, was done, whatever that holds: this is the status, and this is to be told.

@@ -8,7 +8,7 @@ use Rattle.disk_trait.specs.declared.host.HostError.TheVariants.{NoStore}
 use Rattle.disk_trait.specs.declared.host.IfMissing.{IfMissing}
 use Rattle.disk_trait.specs.declared.host.IfMissing.TheVariants.{Make, Refuse}
 use Rattle.gate_log.specs.Layout.{IsOpen}
-use Rattle.gate_log.specs.Step.{Rests}
+use Rattle.gate_log.specs.Step.{WritesNothing}
 use Rattle.lisp_object.specs.declared.refusal.TheConstants.{DEVICE}
 use Rattle.store_commands.specs.Status.{status_of_host}
 use Rattle.store_commands.specs.declared.status.Status.TheVariants.{Fault}
@@ -20,7 +20,7 @@ HoldsStore image = IsOpen image.a ⊎ IsOpen image.b
 -- The files are looked at for whether this holds of them, and nothing is written. Of an honest disk the answer is true.
 pub record LooksWhether (P : Image → Type 0) (old new : State) (result : Result Bool DeviceFault) : Type 0 where
   pub counts : Counts old new result
-  pub rests : IsHonest old → Rests old new
+  pub rests : IsHonest old → WritesNothing old new
   pub answer : IfOk result (λ yes. IsHonest old → Decides yes (P old.reads))
 
 -- the error after a call of the disk that failed: the one that the disk tells, if it tells one

@@ -7,4 +7,4 @@ pub mod Session
 pub mod Sessions
 pub mod Status
 pub mod Texts
-pub mod Told
+pub mod EndLines

@@ -16,7 +16,7 @@ use Rattle.sessions.specs.Answers.{Progress, after_forms, last_line, refusal_lin
 use Rattle.sessions.specs.Serve.{IsPlace, IsUnaccepted, ServesWanted}
 use Rattle.prevalence_store.specs.calls.Store.{StoreView}
 use Rattle.diagnostics.specs.declared.refusal.Refusal.{Refusal}
-use Rattle.session_ledger.specs.Went.{Went}
+use Rattle.session_ledger.specs.OutgoingLines.{Went}
 use Rattle.store_commands.specs.Status.{status_of_ended}
 use Rattle.store_commands.specs.declared.status.Status.{Status}
 use Rattle.store_commands.specs.declared.status.Status.TheVariants.{Done, Helped, FormRefused, Unanswered, WordsRefused, LeftOut, Fault}
@@ -41,7 +41,7 @@ pub record IsSession (functions : Functions) (wanted : Wanted) {D R : Type 0} (s
 -- What a session writes where the macro functions mean this, and each form is read in this mode.
 module _ (functions : Functions) (mode : Mode) where
   -- the lines of so many forms of the input were written, and this last line
-  pub record IsWritten (world : WorldState) (input held : List ℕ) (written : Option (List ℕ)) (last : List ℕ) : Type 0 where
+  pub record LinesAreWritten (world : WorldState) (input held : List ℕ) (written : Option (List ℕ)) (last : List ℕ) : Type 0 where
     pub forms : ℕ
     pub far : Progress
     pub far_is : after_forms functions forms world mode input ≡ Some far
@@ -83,25 +83,25 @@ module _ (functions : Functions) (wanted : Wanted) where
   IsUnreadable refusal far at = read_in functions far.world wanted.mode far.rest ≡ refused refusal.number at
 
   -- in a strict session, the form that begins at this place was refused
-  abbrev pub IsStopped : Refusal → Progress → ℕ → Type 0
-  IsStopped refusal far start = (wanted.strict ≡ true) × IsUnaccepted functions far.world wanted.mode far.rest refusal.number start
+  abbrev pub StopsAtForm : Refusal → Progress → ℕ → Type 0
+  StopsAtForm refusal far start = (wanted.strict ≡ true) × IsUnaccepted functions far.world wanted.mode far.rest refusal.number start
 
   -- The answers to the input end with the line of this refusal, by the reader, or of a form of a strict session.
   abbrev pub AnswersToRefusal : WorldState → Refusal → List ℕ → List ℕ → Option (List ℕ) → Type 0
   AnswersToRefusal world refusal input held written =
-      ((lines : IsWritten functions wanted.mode world input held written (refusal_line refusal.number))
+      ((lines : LinesAreWritten functions wanted.mode world input held written (refusal_line refusal.number))
       × ((place : ℕ) × (read_in functions lines.far.world wanted.mode lines.far.rest ≡ refused refusal.number place))
       × IsAtPlace world input refusal.place (IsUnreadable refusal))
-      ⊎ ((stopped : IsAtPlace world input refusal.place (IsStopped refusal))
+      ⊎ ((stopped : IsAtPlace world input refusal.place (StopsAtForm refusal))
       × (written ≡ Some (held ++ (stopped.far.lines ++ refusal_line refusal.number))))
 
   -- The input was answered to its end; in a strict session no form was refused.
   abbrev pub AnswersWhole : List ℕ → List ℕ → Option (List ℕ) → Type 0
   AnswersWhole input held written =
-      (world : WorldState) × (lines : IsWritten functions wanted.mode world input held written [])
+      (world : WorldState) × (lines : LinesAreWritten functions wanted.mode world input held written [])
       × (read_in functions lines.far.world wanted.mode lines.far.rest ≡ empty) × (wanted.strict ≡ true → lines.far.refused ≡ [])
 
-  -- the status after a session that ended so; a strict one may have answered nothing of a text
+  -- the status after a session that ended in this way; a strict one may have answered nothing of a text
   abbrev pub IsStatusAfter : Ended → Status → Type 0
   IsStatusAfter ended status = (status ≡ status_of_ended ended) ⊎ ((wanted.strict ≡ true) × (ended ≡ End) × (status ≡ Unanswered))
 

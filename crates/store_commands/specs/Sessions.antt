@@ -12,7 +12,7 @@ use Rattle.sessions.specs.Account.{first_account}
 use Rattle.prevalence_store.specs.calls.Open.{IsOpened}
 use Rattle.sessions.specs.Serve.{ServesWanted}
 use Rattle.prevalence_store.specs.calls.Store.{StoreView}
-use Rattle.session_ledger.specs.Went.{Went, calls_in}
+use Rattle.session_ledger.specs.OutgoingLines.{Went, calls_in}
 use Rattle.user_macros.specs.Functions.{Functions}
 use Rattle.store_commands.specs.Session.{half_limit}
 
@@ -52,7 +52,7 @@ module _ (functions : Functions) (wanted : Wanted) {D R : Type 0} (state : D →
       × EndsRefused ended × ServesOut mid new between begun there before written ended
       × (new.world ≡ Some left) × Drops there has
 
-  -- such sessions, and a last one that ended so
+  -- sessions that refusals ended, one after the other, and a last one that ended in this way
   abbrev pub InTurn : (old new : StoreView D R) → WorldState → (had has held written : Option (List ℕ)) → Ended → Type 0
   InTurn old new world had has held written ended =
       (others : List Ended) × (mid : StoreView D R) × (between : WorldState) × (begun : Option (List ℕ)) × (there : Option (List ℕ)) × (before : Option (List ℕ))

@@ -8,7 +8,7 @@ ghost use Rattle.store_commands.specs.Commands.{DoesAfter, OpensFolder, Performs
 ghost use Rattle.store_commands.specs.Folders.{OpensStore};
 ghost use Rattle.store_commands.specs.Output.{held_by};
 ghost use Rattle.store_commands.specs.Status.{EndsAfter, HasFaultNumber, IsAfterWords, IsOfWords, IsQuiet, TakesWords};
-ghost use Rattle.store_commands.specs.Told.{TellsFault, left_out_of};
+ghost use Rattle.store_commands.specs.EndLines.{TellsFault, left_out_of};
 ghost use Rattle.store_commands.specs.declared.told.Told.{Told};
 
 use crate::folders::{Folders, TellsCause, open_folder};

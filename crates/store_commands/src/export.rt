@@ -58,7 +58,8 @@ fn write_forms<D: Disk, M: MacroFunctions, O: Write>(
     output: &mut O,
 ) -> (Status, Vec<u8>)
     requires known { IsSome store.now.world }
-    ensures { IfSome store.now.world (λ world. TellsForms result.0 (O.contents output.old) (O.contents output.new)
+    ensures { IfSome store.now.world
+        (λ world. TellsForms result.0 (O.contents output.old) (O.contents output.new)
         (forms world content) (left_out_lines world) result.1.items) }
 {
     // a store that was just opened has a world

@@ -90,7 +90,7 @@ fn open_existing<R: Folders>(rt: &R, folder: &str) -> Result<R::Disk, HostError>
     }
 }
 
-/// Whether one of both files is an open half.
+/// Whether one of both files is an open half. It reads, and writes nothing, also where it fails.
 pub fn holds_store<D: Disk>(disk: &mut D) -> Result<bool, DeviceFault>
     requires { (D.state disk.old).failures < 2 ^ 64 - 1 }
     ensures { LooksWhether HoldsStore (D.state disk.old) (D.state disk.new) result }
@@ -104,7 +104,8 @@ pub fn holds_store<D: Disk>(disk: &mut D) -> Result<bool, DeviceFault>
 // Whether a file is an open half.
 fn is_open_half<D: Disk>(disk: &mut D, half: Half) -> Result<bool, DeviceFault>
     requires { (D.state disk.old).failures < 2 ^ 64 - 1 }
-    ensures { LooksWhether (λ image. IsOpen (file_of half image)) (D.state disk.old) (D.state disk.new) result }
+    ensures { LooksWhether
+        (λ image. IsOpen (file_of half image)) (D.state disk.old) (D.state disk.new) result }
 {
     let mut head = [0u8; 2];
     match disk.read(half, 0, &mut head) {

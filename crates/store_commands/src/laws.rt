@@ -6,7 +6,7 @@ ghost use Rattle.plist_state.specs.State.{WorldState};
 ghost use Rattle.sessions.specs.Account.{Account, AreUnderWay, first_account};
 ghost use Rattle.prevalence_store.specs.calls.Store.{StoreView};
 ghost use Rattle.sessions.specs.declared.ending.Ended.{Ended};
-ghost use Rattle.session_ledger.specs.Went.{calls_in, disk_at};
+ghost use Rattle.session_ledger.specs.OutgoingLines.{calls_in, disk_at};
 ghost use Rattle.session_words.specs.declared.mode.Mode.{Mode};
 ghost use Rattle.session_words.specs.declared.wanted.Wanted.{Wanted};
 ghost use Rattle.store_commands.specs.Accounts.{AccountGoesOn};

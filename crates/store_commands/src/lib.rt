@@ -1,7 +1,8 @@
 //! The commands of the program, as a library: over a store whose files are in a folder they serve forms, write the text of the
 //! world, or tell the half in use.
 //!
-//! - `program` does what the words of the command line ask for, and answers a `Status`; `program_at_terminal` the same at a terminal,
+//! - `program` does what the words of the command line ask for, and answers a `Status` (module `status`), with what is told on standard
+//!   error as it ends (`told`); `program_at_terminal` the same at a terminal,
 //!   where `run` is sessions in a row (modules `commands` and `on_disk`).
 //! - `serve_on` serves forms over any disk, `snapshot_on` takes a snapshot, `upgrade_on` takes one of files of version 1, `export_on`
 //!   writes the forms that make the world, and `report_on` writes what is told of a store (modules `session`, `snapshot`, `upgrade`,

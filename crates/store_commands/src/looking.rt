@@ -18,7 +18,7 @@ pub struct Looking<'a, R> {
 }
 
 impl<'a, R> Looking<'a, R> {
-    /// The same system.
+    /// Looks into the folders of this system, in place of opening their files.
     pub fn new(rt: &'a R) -> Looking<'a, R> {
         Looking { rt }
     }

@@ -96,7 +96,8 @@ fn write_verified<D: Disk, M: MacroFunctions, O: Write>(
     output: &mut O,
 ) -> Status
     requires known { IsSome store.now.world }
-    ensures { IfSome store.now.world (λ world. TellsText result (O.contents output.old) (O.contents output.new)
+    ensures { IfSome store.now.world
+        (λ world. TellsText result (O.contents output.old) (O.contents output.new)
         (half_line_of store.now ++ position_line (position world))) }
 {
     match messages::position(store) {

@@ -1,6 +1,6 @@
 // What is told on standard error as the program ends.
 ghost use Rattle.std.specs.Prelude.{◌≡◌, ◌⊎◌};
-ghost use Rattle.store_commands.specs.Told.{IsToldOf, TellsFault, TellsRefusal, left_out_of};
+ghost use Rattle.store_commands.specs.EndLines.{IsToldOf, TellsFault, TellsRefusal, left_out_of};
 ghost use Rattle.store_commands.specs.Status.{IsQuiet};
 
 use crate::status::Status;

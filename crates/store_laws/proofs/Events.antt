@@ -1,7 +1,7 @@
 -- What follows from events, one after the other.
 use Rattle.std.proofs.Common.{◌≡◌, ℕ, zero, suc, ◌+◌, ◌≤◌, Bool, List, [], ◌∷◌, ◌++◌, length, take, drop, Option, None, Some, Result, Ok, Err, IsTrue, refl, sym, ap, subst, ◌∙◌, arith, append_assoc, add-zero, length-append}
 use Rattle.std.proofs.lemmas.List.{length-take-le, take-append-drop, take-append-le, take-take}
-use Rattle.disk_trait.specs.Disk.{Image, State, IsHonest, IsSound}
+use Rattle.disk_trait.specs.Disk.{Image, State, IsHonest, IsSoundDisk}
 use Rattle.gate_log.specs.Layout.{LogRecord}
 use Rattle.plist_state.specs.State.{WorldState}
 use Rattle.prevalence_store.specs.meaning.Acceptance.{Acceptance, accepts, after, mode_of}
@@ -69,7 +69,7 @@ module _ (functions : Functions) where
         meant = was.same before.left before.meant;
       }
 
-  module _ {D : Type 0} (state : D → State) (sound : (d : D) → IsHonest (state d) → IsSound (state d)) (first : WorldState)
+  module _ {D : Type 0} (state : D → State) (sound : (d : D) → IsHonest (state d) → IsSoundDisk (state d)) (first : WorldState)
       (opens : (start now : D) (world : WorldState) (line : List LogRecord) (sure : ℕ) → IsHonest (state start) → KeepsSome functions (state start) first line sure
       → Reopens functions (state start) (state now) world → IsAfterSome functions first line sure world)
       (refuses : (start back : D) (whole : Bool) (line : List LogRecord) (sure limit number : ℕ) → IsHonest (state start) → KeepsSome functions (state start) first line sure

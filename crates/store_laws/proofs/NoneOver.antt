@@ -11,7 +11,7 @@ use Rattle.messages.specs.declared.request.Request.{Request}
 use Rattle.messages.specs.declared.request.TheConstants.{OLD_NUMBER}
 use Rattle.prevalence_store.specs.calls.ExecuteAll.{world_left_after, told_of}
 use Rattle.prevalence_store.specs.meaning.Acceptance.{accepts}
-use Rattle.messages.specs.Answers.{Round, answer_in, answered, by_number, cleared, closed, each_request, one_request, refusal_text, with_message, with_old, wrote_by}
+use Rattle.messages.specs.Answers.{Round, answer_in, round_after_requests, by_number, without_its_position, with_its_position, each_request, one_request, refusal_text, with_message, with_old, wrote_by}
 use Rattle.messages.specs.Position.{position_property}
 use Rattle.store_laws.specs.Rounds.{HasWritten, IsUpToPosition, Place, after_rounds, begun_from, with_round}
 use Rattle.store_laws.proofs.RoundsDone.{rounds_append}
@@ -35,10 +35,10 @@ one_of : (b : Bool) (round x y : Round) → IsSame round x → IsSame round y �
 one_of true round x y first second = first
 one_of false round x y first second = second
 
-cleared_same : (round : Round) → IsSame round (cleared round)
+cleared_same : (round : Round) → IsSame round (without_its_position round)
 cleared_same round = one_of (is_some (position_property round.left)) round _ round (record { told = refl; wrote = refl; last = refl }) (record { told = refl; wrote = refl; last = refl })
 
-closed_same : (round : Round) → IsSame round (closed round)
+closed_same : (round : Round) → IsSame round (with_its_position round)
 closed_same round = one_of round.wrote round _ round (record { told = refl; wrote = refl; last = refl }) (record { told = refl; wrote = refl; last = refl })
 
 or_true : (b c : Bool) → c ≡ true → (b || c) ≡ true
@@ -61,7 +61,7 @@ module _ (functions : Functions) where
     by : (b : Bool) → nat_le number round.last ≡ b → Grows round (if b then with_old round else with_message functions number text round)
     by true is = record { wrote = λ before. before; last = omega arith }
     by false is = record {
-      wrote = λ before. ap (λ b. b || wrote_by (accepts functions (cleared round).left Current text)) ((cleared_same round).wrote ∙ before);
+      wrote = λ before. ap (λ b. b || wrote_by (accepts functions (without_its_position round).left Current text)) ((cleared_same round).wrote ∙ before);
       last = omega (arith, leb-false number round.last is);
     }
 
@@ -79,16 +79,16 @@ module _ (functions : Functions) where
   counts_one : (number : ℕ) (text told : List ℕ) (round : Round) → (by_number functions round (Some number) text).told ≡ round.told ++ (told, true) ∷ [] → Counts (by_number functions round (Some number) text) number
   counts_one number text told round said = by (nat_le number round.last) said where
     given_wrote : Bool
-    given_wrote = wrote_by (accepts functions (cleared round).left Current text)
+    given_wrote = wrote_by (accepts functions (without_its_position round).left Current text)
 
     answer : List ℕ
-    answer = answer_in (world_left_after (cleared round).left (accepts functions (cleared round).left Current text)) (told_of (accepts functions (cleared round).left Current text))
+    answer = answer_in (world_left_after (without_its_position round).left (accepts functions (without_its_position round).left Current text)) (told_of (accepts functions (without_its_position round).left Current text))
 
     by : (b : Bool) → (if b then with_old round else with_message functions number text round).told ≡ round.told ++ (told, true) ∷ [] → Counts (if b then with_old round else with_message functions number text round) number
     by true is = absurd (false≢true (last_wrote round.told (refusal_text OLD_NUMBER (codes "OLD-NUMBER")) told false is))
     by false is =
         let wrote = last_wrote round.told answer told given_wrote (ap (λ before. before ++ (answer, given_wrote) ∷ []) (sym (cleared_same round).told) ∙ is) in
-        (or_true (cleared round).wrote given_wrote wrote, omega arith)
+        (or_true (without_its_position round).wrote given_wrote wrote, omega arith)
 
   counts_request : (request : Request) (number : ℕ) → request.number ≡ Some number → (told : List ℕ) (round : Round) → (one_request functions round request).told ≡ round.told ++ (told, true) ∷ []
       → Counts (one_request functions round request) number
@@ -121,22 +121,22 @@ module _ (functions : Functions) where
         let known = else_before is in
         record { position = (known.0, ap (λ b. if b then Some (integer (pos round.last)) else place.position) is ∙ known.1, known.2); last = last }
 
-  covers_round : (place : Place) (requests : List Request) (number : ℕ) → Covers place number → Covers (with_round place (answered functions (begun_from place) requests)) number
+  covers_round : (place : Place) (requests : List Request) (number : ℕ) → Covers place number → Covers (with_round place (round_after_requests functions (begun_from place) requests)) number
   covers_round place requests number known =
-      covers place (answered functions (begun_from place) requests) number
+      covers place (round_after_requests functions (begun_from place) requests) number
       (omega (arith, known.last, (grows_all requests (begun_from place)).last, (closed_same (each_request functions (begun_from place) requests)).last))
       (λ _. known.position)
 
   covers_later : (rounds : List (List Request)) (place : Place) (number : ℕ) → Covers place number → Covers (after_rounds functions place rounds) number
   covers_later [] place number known = known
   covers_later (requests ∷ rounds) place number known =
-      covers_later rounds (with_round place (answered functions (begun_from place) requests)) number (covers_round place requests number known)
+      covers_later rounds (with_round place (round_after_requests functions (begun_from place) requests)) number (covers_round place requests number known)
 
   covers_first : (place : Place) (requests : List Request) (number : ℕ) → Counts (each_request functions (begun_from place) requests) number
-      → Covers (with_round place (answered functions (begun_from place) requests)) number
+      → Covers (with_round place (round_after_requests functions (begun_from place) requests)) number
   covers_first place requests number counts =
       let same = closed_same (each_request functions (begun_from place) requests) in
-      covers place (answered functions (begun_from place) requests) number (omega (arith, counts.1, same.last))
+      covers place (round_after_requests functions (begun_from place) requests) number (omega (arith, counts.1, same.last))
       (λ none. absurd (false≢true (sym none ∙ same.wrote ∙ counts.0)))
 
   pub none_over : (first : Place) (rounds : List (List Request)) (number : ℕ) → HasWritten functions first rounds number → IsUpToPosition (after_rounds functions first rounds).position number
@@ -146,5 +146,5 @@ module _ (functions : Functions) where
       let counts = counts_request written.request number written.number_is written.text written.far written.wrote in
       let here = subst (λ far. Counts (one_request functions far written.request) number) written.far_is counts in
       let all = covers_first place round number (counts_all (begun_from place) written.before written.more written.request number here) in
-      let after_all = covers_later written.later (with_round place (answered functions (begun_from place) round)) number all in
+      let after_all = covers_later written.later (with_round place (round_after_requests functions (begun_from place) round)) number all in
       subst (λ far. IsUpToPosition far.position number) (sym (ap (after_rounds functions first) written.among ∙ rounds_append functions first written.earlier (round ∷ written.later))) after_all.position

@@ -4,7 +4,7 @@
 --     at_one_moment      what a crash leaves at any moment of the step after them
 use Rattle.std.proofs.Common.{◌≡◌, ◌⊎◌, ℕ, Bool, true, false, if◌then◌else◌, List, [], ◌∷◌, ◌++◌, take, Option, None, Some, Ok, Err, IsSome, IsTrue, pos, inl, inr, refl, sym, ap, subst, ◌∙◌, arith}
 use Rattle.std.proofs.lemmas.Bool.{false≢true}
-use Rattle.disk_trait.specs.Disk.{Image, State, IsHonest, IsSound}
+use Rattle.disk_trait.specs.Disk.{Image, State, IsHonest, IsSoundDisk}
 use Rattle.lisp_object.specs.Object.{integer}
 use Rattle.plist_state.specs.State.{WorldState}
 use Rattle.prevalence_store.specs.Theorem.{MeansSome, Survives}
@@ -13,8 +13,8 @@ use Rattle.messages.specs.declared.request.Replies.{Replies}
 use Rattle.messages.specs.declared.request.Request.{Request}
 use Rattle.prevalence_store.specs.meaning.Acceptance.{after}
 use Rattle.prevalence_store.specs.meaning.Files.{MeansWorld}
-use Rattle.messages.specs.Answers.{Round, answered, first_round, each_request}
-use Rattle.messages.specs.Calls.{AnswersRequests, AreAnswered, Fail, left_after}
+use Rattle.messages.specs.Answers.{Round, round_after_requests, first_round, each_request}
+use Rattle.messages.specs.Calls.{AnswersRequests, AreAnsweredAndLogged, FailOnDevice, left_after}
 use Rattle.messages.specs.Position.{position_property}
 use Rattle.messages.proofs.Settling.{unchanged_or_failed}
 use Rattle.prevalence_store.proofs.Surviving.{one_world}
@@ -38,7 +38,7 @@ told_after place round known own = by round.wrote refl where
 
 module _ (functions : Functions) where
   abbrev round_at : Place → List Request → Round
-  round_at place requests = answered functions (begun_from place) requests
+  round_at place requests = round_after_requests functions (begun_from place) requests
 
   position_after : (place : Place) (requests : List Request) → position_property place.world ≡ place.position
       → position_property (with_round place (round_at place requests)).world ≡ (with_round place (round_at place requests)).position
@@ -60,7 +60,7 @@ module _ (functions : Functions) where
 
 module _ (functions : Functions) {D R : Type 0} (state : D → State) where
   answers_all : (old new : StoreView D R) (place : Place) → HasCome functions state old place → (requests : List Request) (replies : Replies)
-      → AreAnswered functions state old new place.world (round_at functions place requests) replies → HasCome functions state new (with_round place (round_at functions place requests))
+      → AreAnsweredAndLogged functions state old new place.world (round_at functions place requests) replies → HasCome functions state new (with_round place (round_at functions place requests))
   answers_all old new place come requests replies is =
       let survives = is.survives come.world come.honest come.keeps in
       record {
@@ -84,7 +84,7 @@ module _ (functions : Functions) {D R : Type 0} (state : D → State) where
   refuses : (old new : StoreView D R) (place : Place) → HasCome functions state old place → (requests : List Request) (number : ℕ)
       → AnswersRequests functions state old new place.world place.last requests (Err number) → IsSome new.world → HasCome functions state new place
   refuses old new place come requests number is still_open = by (unchanged_or_failed functions state old new place.world place.last requests number is) where
-    by : (new ≡ old) ⊎ Fail functions state old new place.world (answered functions (first_round place.last place.world) requests) → HasCome functions state new place
+    by : (new ≡ old) ⊎ FailOnDevice functions state old new place.world (round_after_requests functions (first_round place.last place.world) requests) → HasCome functions state new place
     by (inl same) = subst (λ (s : StoreView D R). HasCome functions state s place) (sym same) come
     by (inr failed) = absurd (false≢true (subst (λ (w : Option WorldState). IsSome w) failed.failed.unknown still_open))
 
@@ -101,7 +101,7 @@ module _ (functions : Functions) {D R : Type 0} (state : D → State) where
       subst (λ far. HasCome functions state (store_after (store_by step) steps) far) (sym (rounds_append functions place (answered_in step) (rounds_of steps)))
       (come_after steps (store_by step) (after_rounds functions place (answered_in step)) (after_step old place come step are.0 are.1) are.2)
 
-  module _ (sound : (d : D) → IsHonest (state d) → IsSound (state d)) (old : StoreView D R) (place : Place) (come : HasCome functions state old place) (image : Image) (now : WorldState) (means : MeansWorld functions image now) where
+  module _ (sound : (d : D) → IsHonest (state d) → IsSoundDisk (state d)) (old : StoreView D R) (place : Place) (come : HasCome functions state old place) (image : Image) (now : WorldState) (means : MeansWorld functions image now) where
     before : now ≡ place.world → IsThere place now
     before same = (same, ap position_property same ∙ come.position)
 
@@ -115,7 +115,7 @@ module _ (functions : Functions) {D R : Type 0} (state : D → State) where
     in_step (quiet new) is left =
         inl (before (one_world functions image now place.world means (means_none functions place.world image ((is come.world come.honest come.keeps).any_moment.each image left))))
 
-  pub at_one_moment : (sound : (d : D) → IsHonest (state d) → IsSound (state d)) (old : StoreView D R) (first : Place) (come : HasCome functions state old first) (steps : List (Step D R))
+  pub at_one_moment : (sound : (d : D) → IsHonest (state d) → IsSoundDisk (state d)) (old : StoreView D R) (first : Place) (come : HasCome functions state old first) (steps : List (Step D R))
       → AreSteps functions state old first steps → (step : Step D R) → IsStep functions state (store_after old steps) (after_rounds functions first (rounds_of steps)) step
       → (image : Image) (now : WorldState) → (state (store_by step).disk).left_since (state (store_after old steps).disk).moment image → MeansWorld functions image now
       → IsThere (after_rounds functions first (rounds_of steps)) now ⊎ IsThere (after_rounds functions first (rounds_of steps ++ begun_in step)) now

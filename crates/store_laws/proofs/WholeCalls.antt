@@ -1,7 +1,7 @@
 -- What a crash leaves of calls each of which logs its forms together.
 --     in_whole_calls      the forms of so many of them
 use Rattle.std.proofs.Common.{◌≡◌, ℕ, suc, List, [], ◌∷◌, ◌++◌, length, take, Option, None, Some, IsTrue, inl, inr, refl, sym, ap, subst, ◌∙◌, append-nil, arith}
-use Rattle.disk_trait.specs.Disk.{Image, State, IsHonest, IsSound, Throughout}
+use Rattle.disk_trait.specs.Disk.{Image, State, IsHonest, IsSoundDisk, Throughout}
 use Rattle.disk_trait.specs.Moments.{joined, weaker}
 use Rattle.plist_state.specs.State.{WorldState}
 use Rattle.prevalence_store.specs.Theorem.{Call, Keeps, Run, Survives, disk_after, forms_of, world_after}
@@ -12,7 +12,7 @@ use Rattle.prevalence_store.proofs.Surviving.{after-append, still}
 use Rattle.store_laws.specs.Batches.{AreTogether, InWholeCalls, MeansCalls}
 use Rattle.user_macros.specs.Functions.{Functions}
 
-module _ (functions : Functions) {D : Type 0} (state : D → State) (sound : (d : D) → IsHonest (state d) → IsSound (state d)) where
+module _ (functions : Functions) {D : Type 0} (state : D → State) (sound : (d : D) → IsHonest (state d) → IsSoundDisk (state d)) where
   -- one call more before them
   one_before : (world now : WorldState) (call : Call D) (calls : List (Call D)) (least : ℕ) (image : Image) → after functions world call.taken ≡ Some now → MeansCalls functions now calls least image
       → MeansCalls functions world (call ∷ calls) (suc least) image

@@ -8,7 +8,7 @@ use Rattle.prevalence_store.specs.calls.Execute.{SurvivesAs}
 use Rattle.prevalence_store.specs.calls.Store.{StoreView}
 use Rattle.messages.specs.declared.request.Replies.{Replies}
 use Rattle.messages.specs.declared.request.Request.{Request}
-use Rattle.messages.specs.Answers.{Round, answered, first_round, each_request, one_request}
+use Rattle.messages.specs.Answers.{Round, round_after_requests, first_round, each_request, one_request}
 use Rattle.messages.specs.Calls.{AnswersRequests, left_after}
 use Rattle.messages.specs.Position.{position_property}
 use Rattle.user_macros.specs.Functions.{Functions}
@@ -37,7 +37,7 @@ with_round place round = record {
 
 -- each round from where the one before it came to
 abbrev pub after_rounds : Functions → Place → List (List Request) → Place
-after_rounds functions place rounds = fold (λ far requests. with_round far (answered functions (begun_from far) requests)) place rounds
+after_rounds functions place rounds = fold (λ far requests. with_round far (round_after_requests functions (begun_from far) requests)) place rounds
 
 -- this world is there, and tells this position
 abbrev pub IsThere : Place → WorldState → Type 0

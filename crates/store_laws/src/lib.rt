@@ -1,6 +1,8 @@
 //! The laws of the store over whole histories and whole inputs, above the clauses of its calls. Each is the contract of a function
 //! that does nothing: who calls it has the law in his own proof.
 //!
+//! The modules are `history`, `outcome`, `batch`, `session`, of messages `once` and `round`, and `version_1`.
+//!
 //! - `histories`: whatever happened to a store in any order (openings, calls, stops within them, refused openings, losses of power),
 //!   what a crash leaves is the world after some of the forms that were accepted, from the first on, and after all that were
 //!   acknowledged (`specs/Histories.antt`)

@@ -7,7 +7,7 @@ ghost use Rattle.prevalence_store.specs.calls.Store.{StoreView};
 ghost use Rattle.messages.specs.declared.request.Replies.{Replies};
 ghost use Rattle.messages.specs.declared.request.Request.{Request};
 ghost use Rattle.prevalence_store.specs.meaning.Files.{MeansWorld};
-ghost use Rattle.messages.specs.Answers.{answered, first_round};
+ghost use Rattle.messages.specs.Answers.{round_after_requests, first_round};
 ghost use Rattle.messages.specs.Calls.{AnswersRequests, left_after};
 ghost use Rattle.store_laws.specs.Messages.{IsBeforeOrAfter};
 ghost use Rattle.user_macros.specs.Functions.{Functions};
@@ -26,13 +26,13 @@ pub fn each_once<D: Disk, R>()
         → IsHonest (D.state old.disk) → Keeps functions (D.state old.disk) world
         → AnswersRequests functions D.state old new world last requests result
         → (D.state new.disk).left_since (D.state old.disk).moment image → MeansWorld functions image now
-        → IsBeforeOrAfter world (answered functions (first_round last world) requests) now }
+        → IsBeforeOrAfter world (round_after_requests functions (first_round last world) requests) now }
     ensures afterwards { (functions : Functions) (old new : StoreView D R) (world now : WorldState) (last : ℕ)
         → (requests : List Request) (replies : Replies) (image : Image)
         → old.world ≡ Some world
         → IsHonest (D.state old.disk) → Keeps functions (D.state old.disk) world
         → AnswersRequests functions D.state old new world last requests (Ok replies)
         → (D.state new.disk).may_leave image → MeansWorld functions image now
-        → now ≡ left_after (answered functions (first_round last world) requests).wrote world
-        (answered functions (first_round last world) requests).left }
+        → now ≡ left_after (round_after_requests functions (first_round last world) requests).wrote world
+        (round_after_requests functions (first_round last world) requests).left }
 {}

@@ -34,7 +34,8 @@ pub fn one_outcome<D: Disk, E: Disk, R, S>()
         → HasForms functions world mode input forms far
         → HasForms functions world mode input others other
         → (forms ≡ others) × (far ≡ other) }
-    ensures completed { (functions : Functions) (wanted : Wanted) (old new : StoreView D R) (world : WorldState)
+    ensures completed { (functions : Functions) (wanted : Wanted) (old new : StoreView D R)
+        (world : WorldState)
         → (input : List ℕ) (has held written : Option (List ℕ)) (ended : Ended)
         → ServesWanted functions D.state wanted old new world (Some input) has held written ended
         → IsByInput ended

@@ -22,11 +22,13 @@ use disk_trait::Disk;
 ///
 /// So an opening, which has that world (`Reopens`), tells up to which message all were carried out, each once, and none after it.
 pub fn rounds<D: Disk, R>()
-    ensures in_between { (functions : Functions) (old : StoreView D R) (world : WorldState) (last : ℕ) (steps : List (Step D R))
+    ensures in_between { (functions : Functions) (old : StoreView D R) (world : WorldState) (last : ℕ)
+        (steps : List (Step D R))
         → old.world ≡ Some world → IsHonest (D.state old.disk) → Keeps functions (D.state old.disk) world
         → AreSteps functions D.state old (place_at last world) steps
         → HasCome functions D.state (store_after old steps) (after_rounds functions (place_at last world) (rounds_of steps)) }
-    ensures any_moment { (functions : Functions) (old : StoreView D R) (world now : WorldState) (last : ℕ) (steps : List (Step D R)) (step : Step D R) (image : Image)
+    ensures any_moment { (functions : Functions) (old : StoreView D R) (world now : WorldState) (last : ℕ)
+        (steps : List (Step D R)) (step : Step D R) (image : Image)
         → old.world ≡ Some world → IsHonest (D.state old.disk) → Keeps functions (D.state old.disk) world
         → AreSteps functions D.state old (place_at last world) steps
         → IsStep functions D.state (store_after old steps) (after_rounds functions (place_at last world) (rounds_of steps)) step

@@ -21,7 +21,8 @@ use sessions::what_is_answered_is_stored;
 /// - `handed`: up to the last line.
 /// - `ended`: up to the end of the session, where some forms more may be in that were not answered.
 pub fn sessions<D: Disk, R>()
-    ensures further { (functions : Functions) (account : Account D) (handings : List (Handing D R)) (last : Handing D R)
+    ensures further { (functions : Functions) (account : Account D) (handings : List (Handing D R))
+        (last : Handing D R)
         → AreHanded functions D.state account handings
         → AreStored functions D.state (account_after account handings) last.store last.lines last.forms
         → AreHanded functions D.state account (handings ++ last ∷ [])
@@ -30,7 +31,8 @@ pub fn sessions<D: Disk, R>()
         → (handed : AreHanded functions D.state account handings)
         → IsHonest (D.state account.disk) → Keeps functions (D.state account.disk) account.now
         → AreCalls functions D.state account (calls_of functions D.state account handings handed) }
-    ensures ended { (functions : Functions) (account : Account D) (handings : List (Handing D R)) (store : StoreView D R)
+    ensures ended { (functions : Functions) (account : Account D) (handings : List (Handing D R))
+        (store : StoreView D R)
         → (handed : AreHanded functions D.state account handings)
         → (since : AreUnderWay functions D.state (account_after account handings) store)
         → IsHonest (D.state account.disk) → Keeps functions (D.state account.disk) account.now

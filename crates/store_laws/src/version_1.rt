@@ -13,11 +13,13 @@ use prevalence_store::version_1_stays;
 /// A store that is opened on files which meant a world to a program of version 1 has this world, which reads in base 10. An opening
 /// of such files is never refused for what they hold.
 pub fn version_1_opens<D: Disk, R>()
-    ensures opened { (functions : Functions) (disk : D) (macros : R) (limit : ℕ) (store : StoreView D R) (world : WorldState)
+    ensures opened { (functions : Functions) (disk : D) (macros : R) (limit : ℕ) (store : StoreView D R)
+        (world : WorldState)
         → IsHonest (D.state disk) → MeansWorld1 functions (D.state disk).reads world
         → (opened : IsOpened functions D.state disk macros limit store)
         → (opened.world ≡ world) × (world.read_base ≡ 10) }
-    ensures refused { (functions : Functions) (disk back : D) (whole : Bool) (limit number : ℕ) (world : WorldState)
+    ensures refused { (functions : Functions) (disk back : D) (whole : Bool) (limit number : ℕ)
+        (world : WorldState)
         → IsHonest (D.state disk) → MeansWorld1 functions (D.state disk).reads world
         → (refused : IsUnopened functions D.state disk whole limit number back)
         → IsNoWord (limit_of limit) (D.state disk).reads refused.fault }

@@ -7,18 +7,18 @@ use Rattle.command_words.specs.CheckLine.{AsksToCheck}
 use Rattle.command_words.specs.LookLine.{text_of}
 use Rattle.command_words.specs.declared.check.Check.{Check}
 use Rattle.form_check.specs.Checking.{Checking}
-use Rattle.log_look.specs.SeenState.{state_of}
+use Rattle.log_look.specs.SeenState.{state_of_sight}
 use Rattle.log_look.specs.declared.sight.Sight.{Sight}
-use Rattle.plist_state.specs.Sound.{IsSound}
+use Rattle.plist_state.specs.Sound.{IsSoundWorldState}
 use Rattle.plist_state.specs.State.{WorldState}
 use Rattle.prevalence_store.specs.calls.Open.{IsOpened}
 use Rattle.prevalence_store.specs.calls.Store.{StoreView}
 use Rattle.store_commands.specs.Session.{half_limit}
 use Rattle.store_commands.specs.Status.{IsOfWords}
 use Rattle.store_commands.specs.declared.status.Status.{Status}
-use Rattle.store_looks.specs.Checked.{Checks, EndsSo, FindsIn, IsCheckText, IsTextOf, IsWorldOfFolder, TellsForms}
-use Rattle.store_looks.specs.Told.{Has, notation_of}
-use Rattle.store_looks.specs.Unlooked.{status_of}
+use Rattle.store_looks.specs.CheckReports.{Checks, EndsSo, FindsIn, IsCheckText, IsTextOf, IsWorldOfFolder, TellsForms}
+use Rattle.store_looks.specs.LookReports.{Has, notation_of}
+use Rattle.store_looks.specs.FailedLooks.{status_of}
 use Rattle.store_looks.proofs.Looking.{at_world}
 use Rattle.store_reports.specs.declared.numbers.Notation.{Notation}
 use Rattle.world_text.specs.Snapshot.{snapshot, snapshot_in}
@@ -59,10 +59,10 @@ module _ (functions registered : Functions) {R : Type 0} (macros : R) (input hel
     check_untold asked asks why status is same = inr (asked, asks, (Err why, is, same))
 
 -- a world that is read again from the text of that of a store that was seen
-pub seen_so : (functions : Functions) {R : Type 0} (macros : R) (sight : Sight) (store : StoreView Sight R) (opened : IsOpened functions state_of sight macros half_limit store) {E : Type 0}
-    (result : Result (Vec ℕ) E) (text : Vec ℕ) (bytes : List ℕ) (read : WorldState) → IfSome store.world (λ world. IsSound world × IfOk result (λ t. t.items ≡ snapshot world)) → result ≡ Ok text
-    → bytes ≡ text.items → ((s : WorldState) → IsSound s → snapshot_in 2 s ≡ Some bytes → s ≡ read) → (seen : Sight) × Has functions macros (λ had. read ≡ had) seen
+pub seen_so : (functions : Functions) {R : Type 0} (macros : R) (sight : Sight) (store : StoreView Sight R) (opened : IsOpened functions state_of_sight sight macros half_limit store) {E : Type 0}
+    (result : Result (Vec ℕ) E) (text : Vec ℕ) (bytes : List ℕ) (read : WorldState) → IfSome store.world (λ world. IsSoundWorldState world × IfOk result (λ t. t.items ≡ snapshot world)) → result ≡ Ok text
+    → bytes ≡ text.items → ((s : WorldState) → IsSoundWorldState s → snapshot_in 2 s ≡ Some bytes → s ≡ read) → (seen : Sight) × Has functions macros (λ had. read ≡ had) seen
 seen_so functions macros sight store opened {E} result text bytes read told is same only =
-    let known = at_world (λ world. IsSound world × IfOk result (λ t. t.items ≡ snapshot world)) store.world opened.world opened.known told in
+    let known = at_world (λ world. IsSoundWorldState world × IfOk result (λ t. t.items ≡ snapshot world)) store.world opened.world opened.known told in
     let text_is : text.items ≡ snapshot opened.world = subst (λ (r : Result (Vec ℕ) E). IfOk r (λ t. t.items ≡ snapshot opened.world)) is known.1 in
     (sight, record { opened = store; is_opened = opened; is = sym (only opened.world known.0 (ap (λ (l : List ℕ). Some l) (sym (same ∙ text_is)))) })

@@ -10,7 +10,7 @@ use Rattle.command_words.specs.declared.looks.Look.TheVariants.{Backup, Dump, In
 use Rattle.disk_trait.specs.declared.half.Half.{Half}
 use Rattle.disk_trait.specs.declared.host.HostError.{HostError}
 use Rattle.log_look.specs.declared.sight.Sight.{Sight}
-use Rattle.log_look.specs.SeenState.{state_of}
+use Rattle.log_look.specs.SeenState.{state_of_sight}
 use Rattle.log_look.specs.declared.host.Figures.{Figures}
 use Rattle.messages.specs.Position.{position}
 use Rattle.plist_state.specs.State.{WorldState}
@@ -22,7 +22,7 @@ use Rattle.command_words.specs.declared.looks.Records.{Records}
 use Rattle.command_words.specs.declared.looks.Shown.{Shown}
 use Rattle.command_words.specs.declared.words.Report.TheVariants as reports
 use Rattle.lisp_object.specs.declared.refusal.TheConstants.{INPUT, NO_MEMORY}
-use Rattle.log_look.specs.Cut.{IsCut, IsNoPlace, LogIsUnopened as IsNoLog}
+use Rattle.log_look.specs.FirstRecords.{IsCut, IsNoPlace, LogIsUnopened as IsNoLog}
 use Rattle.log_look.specs.declared.error.LogError.{LogError}
 use Rattle.store_commands.specs.Report.{IsReport}
 use Rattle.store_commands.specs.Status.{IsOfWords}
@@ -32,8 +32,8 @@ use Rattle.store_commands.specs.Texts.{TellsText}
 use Rattle.store_commands.specs.declared.status.Status.{Status}
 use Rattle.store_commands.specs.declared.status.Status.TheVariants as statuses
 use Rattle.store_looks.specs.Looks.{PrintsText}
-use Rattle.store_looks.specs.Told.{BacksUp, IsSelection, TellsProperties, WithholdsProperties, Looks, LooksAt, System, TellsDump, TellsFigures, TellsFileFigures, TellsInfo, TellsLog, TellsLook, TellsShown, TellsVerified, Unopens, WithholdsBackup, WithholdsDump, WithholdsFigures, WithholdsFileFigures, WithholdsInfo, WithholdsLog, WithholdsLook, WithholdsShown, WithholdsVerified, notation_of, part_of, status_in}
-use Rattle.store_looks.specs.Unlooked.{IsOfBackup, of_log, of_show}
+use Rattle.store_looks.specs.LookReports.{BacksUp, IsSelection, TellsProperties, WithholdsProperties, LooksAsAsked, LooksAt, System, TellsDump, TellsFigures, TellsFileFigures, TellsInfo, TellsLog, TellsLook, TellsShown, TellsVerified, Unopens, WithholdsBackup, WithholdsDump, WithholdsFigures, WithholdsFileFigures, WithholdsInfo, WithholdsLog, WithholdsLook, WithholdsShown, WithholdsVerified, notation_of, part_of, status_in}
+use Rattle.store_looks.specs.FailedLooks.{IsOfBackup, of_log, of_show}
 use Rattle.store_reports.specs.Figures.{AreFiguresOf, file_info_text, info_text, verified_text}
 use Rattle.store_reports.specs.declared.backups.BackupError.{BackupError}
 use Rattle.store_reports.specs.declared.figures.HalfFigures.{HalfFigures}
@@ -175,7 +175,7 @@ module _ {R E : Type 0} (store : StoreView Sight R) (half : Half) (generation re
       go (Some world) same = subst (λ (f : Option ℕ). IfOk result (λ t. t.items ≡ verified_text store.half store.generation store.record_count f)) same whole
 
 module _ (functions : Functions) {R : Type 0} (macros : R) (store : StoreView Sight R) where
-  module _ (sight : Sight) (opened : IsOpened functions state_of sight macros half_limit store) (shown : Shown) (selection : Selection) (asked : IsSelection shown selection) where
+  module _ (sight : Sight) (opened : IsOpened functions state_of_sight sight macros half_limit store) (shown : Shown) (selection : Selection) (asked : IsSelection shown selection) where
     -- what is told of them, and why nothing is
     abbrev Is : WorldState → List ℕ → Type 0
     Is = TellsProperties shown.count (notation_of shown.json) selection
@@ -204,8 +204,8 @@ module _ (functions : Functions) {R : Type 0} (macros : R) (store : StoreView Si
           inr (selection, asked, (error, record { opened = store; is_opened = opened; is = not }, given))
 
   -- figures were told of a sight that is as it was
-  pub info_done : (notation : Notation) (measured : Result Figures HostError → Type 0) (sight same : Sight) (half : HalfFigures) (files : Figures) → measured (Ok files) → AreFiguresOf (state_of sight).reads half → (state_of same).reads ≡ (state_of sight).reads
-      → (opened : IsOpened functions state_of same macros half_limit store) (E : Type 0) (result : Result (Vec ℕ) E) (text : Vec ℕ) (lines : List ℕ) → lines ≡ text.items
+  pub info_done : (notation : Notation) (measured : Result Figures HostError → Type 0) (sight same : Sight) (half : HalfFigures) (files : Figures) → measured (Ok files) → AreFiguresOf (state_of_sight sight).reads half → (state_of_sight same).reads ≡ (state_of_sight sight).reads
+      → (opened : IsOpened functions state_of_sight same macros half_limit store) (E : Type 0) (result : Result (Vec ℕ) E) (text : Vec ℕ) (lines : List ℕ) → lines ≡ text.items
       → IfSome store.world (λ world. IfOk result (λ t. t.items ≡ info_text notation half world files)) → result ≡ Ok text
       → (held written : Option (List ℕ)) (status : Status) → TellsText status held written lines → TellsFigures functions macros held written notation measured sight status
   info_done notation measured sight same half files are_measured figures reads opened E result text lines equal told is held written status tells =
@@ -223,7 +223,7 @@ module _ (functions : Functions) {R : Type 0} (macros : R) (store : StoreView Si
       }
 
   -- the half in use and the position were told
-  pub verify_done : (sight : Sight) (opened : IsOpened functions state_of sight macros half_limit store) (E : Type 0) (result : Result (Vec ℕ) E) (text : Vec ℕ) (lines : List ℕ) → lines ≡ text.items
+  pub verify_done : (sight : Sight) (opened : IsOpened functions state_of_sight sight macros half_limit store) (E : Type 0) (result : Result (Vec ℕ) E) (text : Vec ℕ) (lines : List ℕ) → lines ≡ text.items
       → IfSome store.world (λ world. IfOk result (λ t. t.items ≡ verified_text store.half store.generation store.record_count (position world))) → result ≡ Ok text
       → (held written : Option (List ℕ)) (status : Status) → TellsText status held written lines → TellsVerified functions macros held written sight status
   verify_done sight opened E result text lines equal told is held written status tells =
@@ -236,21 +236,21 @@ module _ (functions : Functions) {R : Type 0} (macros : R) (store : StoreView Si
 -- the lines of records were written, or not
 module _ (sight : Sight) where
   pub log_done : (records : Records) (notation : Notation) (text lines : List ℕ) → notation ≡ notation_of records.json → lines ≡ text
-      → IsLogText (record (part_of records) { notation = notation }) (state_of sight).reads text → (held written : Option (List ℕ)) (status : Status)
+      → IsLogText (record (part_of records) { notation = notation }) (state_of_sight sight).reads text → (held written : Option (List ℕ)) (status : Status)
       → TellsText status held written lines → TellsLog held written records sight status
   unfolding TellsLog
   log_done records notation text lines asked same is held written status tells =
-      let of_lines : IsLogText (record (part_of records) { notation = notation }) (state_of sight).reads lines =
-      subst (IsLogText (record (part_of records) { notation = notation }) (state_of sight).reads) (sym same) is in
-      (lines, subst (λ (n : Notation). IsLogText (record (part_of records) { notation = n }) (state_of sight).reads lines) asked of_lines, tells)
+      let of_lines : IsLogText (record (part_of records) { notation = notation }) (state_of_sight sight).reads lines =
+      subst (IsLogText (record (part_of records) { notation = notation }) (state_of_sight sight).reads) (sym same) is in
+      (lines, subst (λ (n : Notation). IsLogText (record (part_of records) { notation = n }) (state_of_sight sight).reads lines) asked of_lines, tells)
 
-  pub log_failed : (records : Records) (error : LogError) (why : Unlooked) → IsNoPlace (least_records records.from.number) records.from.generation error (state_of sight).reads → why ≡ of_log error
+  pub log_failed : (records : Records) (error : LogError) (why : Unlooked) → IsNoPlace (least_records records.from.number) records.from.generation error (state_of_sight sight).reads → why ≡ of_log error
       → WithholdsLog records sight why
   unfolding WithholdsLog
   log_failed records error why none is = (error, none, is)
 
 -- the store was not opened
-pub unopens : (functions : Functions) (whole : Bool) (sight : Sight) (number : ℕ) (back : Sight) → IsUnopened functions state_of sight whole half_limit number back → Unopens functions whole sight (unlooked.Fault number)
+pub unopens : (functions : Functions) (whole : Bool) (sight : Sight) (number : ℕ) (back : Sight) → IsUnopened functions state_of_sight sight whole half_limit number back → Unopens functions whole sight (unlooked.Fault number)
 unfolding Unopens
 unopens functions whole sight number back refused = (number, back, refused, refl)
 
@@ -266,19 +266,19 @@ module _ (functions : Functions) (whole : Bool) (sight : Sight) where
 
 module _ (functions : Functions) {R : Type 0} (macros : R) (sight : Sight) where
   -- the text of a world after so many records was written
-  pub dump_done : (place : RecordPlace) (cut : Sight) → IsCut place.number place.generation (state_of sight).reads (state_of cut).reads
-      → (held written : Option (List ℕ)) (status : Status) (back : Sight) → IsReport functions state_of reports.Dump cut macros held written status back
+  pub dump_done : (place : RecordPlace) (cut : Sight) → IsCut place.number place.generation (state_of_sight sight).reads (state_of_sight cut).reads
+      → (held written : Option (List ℕ)) (status : Status) (back : Sight) → IsReport functions state_of_sight reports.Dump cut macros held written status back
       → TellsDump functions macros held written place sight status
   unfolding TellsDump
   dump_done place cut is held written status back report = (cut, is, (back, report))
 
-  pub dump_unopened : (whole : Bool) (place : RecordPlace) (cut : Sight) → IsCut place.number place.generation (state_of sight).reads (state_of cut).reads
-      → (number : ℕ) (back : Sight) → IsUnopened functions state_of cut whole half_limit number back
+  pub dump_unopened : (whole : Bool) (place : RecordPlace) (cut : Sight) → IsCut place.number place.generation (state_of_sight sight).reads (state_of_sight cut).reads
+      → (number : ℕ) (back : Sight) → IsUnopened functions state_of_sight cut whole half_limit number back
       → WithholdsDump functions macros whole place sight (unlooked.Fault number)
   unfolding WithholdsDump Unopens
   dump_unopened whole place cut is number back refused = inr (cut, is, (number, back, refused, refl))
 
-  pub dump_failed : (whole : Bool) (place : RecordPlace) (error : LogError) (why : Unlooked) → IsNoPlace place.number place.generation error (state_of sight).reads → why ≡ of_log error
+  pub dump_failed : (whole : Bool) (place : RecordPlace) (error : LogError) (why : Unlooked) → IsNoPlace place.number place.generation error (state_of_sight sight).reads → why ≡ of_log error
       → WithholdsDump functions macros whole place sight why
   unfolding WithholdsDump
   dump_failed whole place error why none is = inl (error, none, is)
@@ -288,7 +288,7 @@ module _ (functions : Functions) {R : Type 0} (macros : R) (sight : Sight) where
   show_unopened whole shown given why is not = inl (subst (Unopens functions whole sight) (sym is) not)
 
   -- a backup was made of the world of the store that was opened, or not
-  module _ (store : StoreView Sight R) (opened : IsOpened functions state_of sight macros half_limit store) (made : WorldState → Type 0) (unmade : WorldState → BackupError → Type 0) where
+  module _ (store : StoreView Sight R) (opened : IsOpened functions state_of_sight sight macros half_limit store) (made : WorldState → Type 0) (unmade : WorldState → BackupError → Type 0) where
     pub backs_up : {U : Type 0} (u : U) (result : Result U BackupError) → IfSome store.world (λ world. MatchResult result (λ _. made world) (unmade world)) → result ≡ Ok u
         → (status : Status) → status ≡ statuses.Done → BacksUp functions macros made sight status
     unfolding BacksUp
@@ -313,11 +313,11 @@ module _ (functions : Functions) {R : Type 0} (macros : R) (sight : Sight) where
     unfolding WithholdsFigures
     info_unread error why not is = inl (error, not, is)
 
-    pub info_failed : (error : LogError) (why : Unlooked) → IsNoLog error (state_of sight).reads → why ≡ of_log error → WithholdsFigures functions macros whole measured sight why
+    pub info_failed : (error : LogError) (why : Unlooked) → IsNoLog error (state_of_sight sight).reads → why ≡ of_log error → WithholdsFigures functions macros whole measured sight why
     unfolding WithholdsFigures
     info_failed error why none is = inr (inl (error, none, is))
 
-    pub info_unopened : (same : Sight) (given why : Unlooked) → why ≡ given → (state_of same).reads ≡ (state_of sight).reads → Unopens functions whole same given
+    pub info_unopened : (same : Sight) (given why : Unlooked) → why ≡ given → (state_of_sight same).reads ≡ (state_of_sight sight).reads → Unopens functions whole same given
         → WithholdsFigures functions macros whole measured sight why
     unfolding WithholdsFigures
     info_unopened same given why is reads not = inr (inr (same, reads, inl (subst (Unopens functions whole same) (sym is) not)))
@@ -328,7 +328,7 @@ module _ (functions : Functions) {R : Type 0} (macros : R) (sight : Sight) where
 
 module _ (sight : Sight) (measured : Result Figures HostError → Type 0) where
   -- figures that need no world
-  pub files_done : (notation : Notation) (half : HalfFigures) (files : Figures) (text lines : List ℕ) → measured (Ok files) → AreFiguresOf (state_of sight).reads half → lines ≡ text
+  pub files_done : (notation : Notation) (half : HalfFigures) (files : Figures) (text lines : List ℕ) → measured (Ok files) → AreFiguresOf (state_of_sight sight).reads half → lines ≡ text
       → text ≡ file_info_text notation half files → (held written : Option (List ℕ)) (status : Status) → TellsText status held written lines
       → TellsFileFigures held written notation measured sight status
   files_done notation half files text lines are_measured figures same is held written status tells =
@@ -339,7 +339,7 @@ module _ (sight : Sight) (measured : Result Figures HostError → Type 0) where
   unfolding WithholdsFileFigures
   files_unread error why not is = inl (error, not, is)
 
-  pub files_failed : (error : LogError) (why : Unlooked) → IsNoLog error (state_of sight).reads → why ≡ of_log error → WithholdsFileFigures measured sight why
+  pub files_failed : (error : LogError) (why : Unlooked) → IsNoLog error (state_of_sight sight).reads → why ≡ of_log error → WithholdsFileFigures measured sight why
   unfolding WithholdsFileFigures
   files_failed error why none is = inr (inl (error, none, is))
 
@@ -365,13 +365,13 @@ module _ (sight : Sight) (measured : Result Figures HostError → Type 0) where
 
 -- the whole look
 module _ (functions : Functions) {R : Type 0} (macros : R) (whole : Bool) (system : System) (lacks_seeds : Type 0) (opens : Text → Result Sight HostError → Type 0) (words : List Text) (held written : Option (List ℕ)) where
-  pub look_of_words : (status : Status) → IsOfWords status → Looks functions macros whole system lacks_seeds opens words held written status
-  unfolding Looks
+  pub look_of_words : (status : Status) → IsOfWords status → LooksAsAsked functions macros whole system lacks_seeds opens words held written status
+  unfolding LooksAsAsked
   look_of_words status of_words = inl of_words
 
   pub look_ended : (folder : Text) (look : Look) → AsksToLook words folder look → (ended : Result Status Unlooked) (status : Status) → status ≡ status_in ended
-      → LooksAt functions macros whole system lacks_seeds opens folder look held written ended → Looks functions macros whole system lacks_seeds opens words held written status
-  unfolding Looks
+      → LooksAt functions macros whole system lacks_seeds opens folder look held written ended → LooksAsAsked functions macros whole system lacks_seeds opens words held written status
+  unfolding LooksAsAsked
   look_ended folder look asks ended status is looks = inr (folder, look, asks, (ended, is, looks))
 
 -- no seed was had

@@ -4,7 +4,7 @@ use Rattle.std.specs.List.{flat_map}
 use Rattle.std.proofs.lemmas.List.{flat_map_more, take_more}
 use Rattle.diagnostics.specs.declared.refusal.Refusal.{Refusal}
 use Rattle.form_check.specs.declared.checking.Unreadable.{Unreadable}
-use Rattle.store_looks.specs.Checked.{AreRefusalsOf, IsCheckText, IsRefusalOfUnreadable, counts_text, unreadable_text}
+use Rattle.store_looks.specs.CheckReports.{AreRefusalsOf, IsCheckText, IsRefusalOfUnreadable, counts_text, unreadable_text}
 use Rattle.store_reports.specs.declared.numbers.Notation.{Notation}
 
 -- none so far

@@ -1,4 +1,4 @@
-pub mod Checked
+pub mod CheckReports
 pub mod Looks
-pub mod Told
-pub mod Unlooked
+pub mod LookReports
+pub mod FailedLooks

@@ -4,13 +4,13 @@ ghost use Rattle.std.specs.List.{flat_map};
 ghost use Rattle.command_words.specs.LookLine.{text_of as borrowed_text};
 ghost use Rattle.diagnostics.specs.declared.refusal.Refusal.{Refusal as Refused};
 ghost use Rattle.log_look.specs.declared.sight.Sight.{Sight as Seen};
-ghost use Rattle.plist_state.specs.Sound.{IsSound as IsSoundState};
+ghost use Rattle.plist_state.specs.Sound.{IsSoundWorldState as IsSoundState};
 ghost use Rattle.world_text.specs.Snapshot.{snapshot};
 ghost use Rattle.store_commands.specs.Status.{IsQuiet};
-ghost use Rattle.store_commands.specs.Told.{TellsFault};
+ghost use Rattle.store_commands.specs.EndLines.{TellsFault};
 ghost use Rattle.store_commands.specs.declared.told.Told.{Told};
-ghost use Rattle.store_looks.specs.Checked.{AreRefusalsOf, Checks, EndsSo, FindsIn, IsCheckText, IsRefusalOfUnreadable, IsTextOf, IsWorldOfFolder, TellsForms, unreadable_text};
-ghost use Rattle.store_looks.specs.Told.{Has};
+ghost use Rattle.store_looks.specs.CheckReports.{AreRefusalsOf, Checks, EndsSo, FindsIn, IsCheckText, IsRefusalOfUnreadable, IsTextOf, IsWorldOfFolder, TellsForms, unreadable_text};
+ghost use Rattle.store_looks.specs.LookReports.{Has};
 
 use crate::looks::{end_unlooked, notation_for, opened, sight_of};
 use crate::seeds::Seeds;
@@ -91,7 +91,8 @@ where
     I: Read,
     O: Write,
     requires answers { M.answers macros }
-    ensures tells { IfOk result (TellsForms M.Meaning.functions (M.functions macros) macros (I.remaining input.old)
+    ensures tells { IfOk result
+        (TellsForms M.Meaning.functions (M.functions macros) macros (I.remaining input.old)
         (O.contents output.old) (O.contents output.new) asked.entry) }
     ensures refused { IfErr result (λ _. output.new ≡ output.old) }
 {
@@ -106,7 +107,7 @@ where
 }
 
 // Writes what is told, and flushes it.
-#[tactic(auto, unfolding(crate::specs::Checked::EndsSo))]
+#[tactic(auto, unfolding(crate::specs::CheckReports::EndsSo))]
 fn write_lines<O: Write>(output: &mut O, lines: &[u8], all_are_readable: bool) -> Status
     ensures { EndsSo all_are_readable (O.contents output.old) (O.contents output.new) lines.now result }
 {
@@ -118,7 +119,7 @@ fn write_lines<O: Write>(output: &mut O, lines: &[u8], all_are_readable: bool) -
 }
 
 // The bytes of the file, or of the input.
-#[tactic(auto, unfolding(crate::specs::Checked::IsTextOf))]
+#[tactic(auto, unfolding(crate::specs::CheckReports::IsTextOf))]
 fn text_of<R, I>(rt: &R, file: Option<&str>, input: &mut I) -> Result<Vec<u8>, Unlooked>
 where
     R: Files<File = File> + AllocGlobal,
@@ -153,14 +154,15 @@ fn read_input<I: Read>(alloc: Global, input: &mut I) -> Result<Vec<u8>, Unlooked
 }
 
 // The world under which a text is read: that of the store in this folder, or of a new one. The macro functions are given back.
-#[tactic(auto, unfolding(crate::specs::Checked::IsWorldOfFolder))]
+#[tactic(auto, unfolding(crate::specs::CheckReports::IsWorldOfFolder))]
 fn world_of<R, M>(rt: &R, macros: M, store: Option<&str>) -> Result<(World, M), Unlooked>
 where
     R: Files<File = File> + Seeds + AllocGlobal,
     M: MacroFunctions + Drop,
     requires answers { M.answers macros }
     ensures macros { IfOk result (λ p. p.1 ≡ macros) }
-    ensures world { IfOk result (λ p. IsWorldOfFolder M.Meaning.functions macros (borrowed_text store.entry) p.0.0) }
+    ensures world { IfOk result
+        (λ p. IsWorldOfFolder M.Meaning.functions macros (borrowed_text store.entry) p.0.0) }
 {
     let Ok(seed) = rt.seed() else {
         return Err(Unlooked::Fault(INPUT));
@@ -178,7 +180,8 @@ where
     M: MacroFunctions + Drop,
     requires answers { M.answers macros }
     ensures macros { IfOk result (λ p. p.1 ≡ macros) }
-    ensures world { IfOk result (λ p. (sight : Seen) × Has M.Meaning.functions macros (λ had. p.0.0 ≡ had) sight) }
+    ensures world { IfOk result (λ p. (sight : Seen)
+        × Has M.Meaning.functions macros (λ had. p.0.0 ≡ had) sight) }
 {
     let alloc = rt.alloc();
     let sight = sight_of(&Looking::new(rt), folder)?;
@@ -211,7 +214,7 @@ fn world_text<M: MacroFunctions>(
 }
 
 // The forms of a text that cannot be read in a world.
-#[tactic(auto, unfolding(crate::specs::Checked::FindsIn))]
+#[tactic(auto, unfolding(crate::specs::CheckReports::FindsIn))]
 fn check_in<M: MacroFunctions>(
     alloc: Global,
     world: &World,

@@ -1,6 +1,6 @@
 // The figures of a store that was seen, and of its files.
 ghost use Rattle.std.specs.Prelude.{◌≡◌, ◌<◌, ◌-◌, ◌^◌, IfErr, IfOk, IfSome, MatchResult};
-ghost use Rattle.store_looks.specs.Told.{TellsFigures, TellsFileFigures, TellsInfo, WithholdsFigures, WithholdsFileFigures, WithholdsInfo, notation_of};
+ghost use Rattle.store_looks.specs.LookReports.{TellsFigures, TellsFileFigures, TellsInfo, WithholdsFigures, WithholdsFileFigures, WithholdsInfo, notation_of};
 ghost use Rattle.store_reports.specs.Figures.{info_text};
 ghost use Rattle.user_macros.specs.Functions.{are_registered};
 

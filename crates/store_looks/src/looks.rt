@@ -4,16 +4,16 @@ ghost use Rattle.std.specs.Prelude.{◌≡◌, ◌<◌, ◌-◌, ◌^◌, true, 
 ghost use Rattle.clap.specs.Words.{Text};
 ghost use Rattle.command_words.specs.declared.looks.Look.TheVariants as looking;
 ghost use Rattle.store_commands.specs.Status.{IsQuiet};
-ghost use Rattle.store_commands.specs.Told.{TellsFault};
+ghost use Rattle.store_commands.specs.EndLines.{TellsFault};
 ghost use Rattle.store_commands.specs.declared.told.Told.{Told};
 ghost use Rattle.prevalence_store.specs.calls.Open.{IsOpened};
 ghost use Rattle.store_commands.specs.Session.{half_limit};
 ghost use Rattle.command_words.specs.LookLine.{AsksToLook};
-ghost use Rattle.store_reports.specs.Backup.{IsMade, IsUnmade};
+ghost use Rattle.store_reports.specs.Backup.{IsBackupMade, IsUnmade};
 ghost use Rattle.store_commands.specs.Texts.{TellsText};
 ghost use Rattle.store_looks.specs.Looks.{EndsUnlooked, Prints};
-ghost use Rattle.store_looks.specs.Told.{BacksUp, Looks, LooksAt, Sees, TellsDump, TellsLog, TellsLook, Unopens, WithholdsBackup, WithholdsDump, WithholdsLog, WithholdsLook, notation_of, system_of};
-ghost use Rattle.store_looks.specs.Unlooked.{status_of};
+ghost use Rattle.store_looks.specs.LookReports.{BacksUp, LooksAsAsked, LooksAt, Sees, TellsDump, TellsLog, TellsLook, Unopens, WithholdsBackup, WithholdsDump, WithholdsLog, WithholdsLook, notation_of, system_of};
+ghost use Rattle.store_looks.specs.FailedLooks.{status_of};
 ghost use Rattle.user_macros.specs.Functions.{are_registered};
 
 use crate::figures::info_on;
@@ -43,7 +43,7 @@ use user_macros::MacroFunctions;
 /// Looks into the store in a folder, as the words ask (`Way::Look` of `command_words`), and answers how that ended. The first word is the
 /// program's name. The folder is opened by `folders`, of which nothing is locked, made or written.
 ///
-/// What is told is the text of what was asked for, of the sight that this opening gave (`Looks`). What was asked for and is not there, as a
+/// What is told is the text of what was asked for, of the sight that this opening gave (`LooksAsAsked`). What was asked for and is not there, as a
 /// package, a record or a free place for a backup, is status 2, with a sentence on `faults`, and nothing is written to `output` then, nor
 /// after a fault but one of the output.
 #[tactic(auto, using(crate::proofs::Printing::text_told, crate::proofs::Printing::nothing_told, crate::proofs::Printing::words_told))]
@@ -63,10 +63,11 @@ where
     O: Write,
     F: Write,
     requires answers { M.answers macros }
-    requires may { (folder : Text) (to : Bor Text) → AsksToLook (map S.text words.now) folder (looking.Backup to)
+    requires may { (folder : Text) (to : Bor Text)
+        → AsksToLook (map S.text words.now) folder (looking.Backup to)
         → R.may rt.now to.now }
     ensures prints { Prints O.contents output.old output.new result }
-    ensures looks { Looks M.Meaning.functions macros
+    ensures looks { LooksAsAsked M.Meaning.functions macros
         (are_registered M.Meaning.functions (M.functions macros))
         (system_of (R.measures rt.now) R.Disk.state (R.does rt.now)) (R.lacks rt.now)
         (Sees ⟦<Sight as TellsCause>⟧.tells (L.opens folders.now))
@@ -126,7 +127,7 @@ fn tell_error<F: Write, E: Display>(faults: &mut F, error: &E) {
 }
 
 // What the files of a folder hold at one moment, of which one is a half in use.
-#[tactic(auto, unfolding(crate::specs::Told::Sees))]
+#[tactic(auto, unfolding(crate::specs::LookReports::Sees))]
 pub(crate) fn sight_of<L: Folders<Disk = Sight>>(
     folders: &L,
     folder: &str,
@@ -292,7 +293,8 @@ pub(crate) fn opened<M: MacroFunctions + Drop>(
 ) -> Result<Store<Sight, M>, Unlooked>
     requires answers { M.answers macros }
     requires room { (⟦<Sight as Disk>⟧.state sight).failures < 2 ^ 64 - 1 }
-    ensures opened { IfOk result (λ store. IsOpened M.Meaning.functions ⟦<Sight as Disk>⟧.state sight macros half_limit store) }
+    ensures opened { IfOk result
+        (λ store. IsOpened M.Meaning.functions ⟦<Sight as Disk>⟧.state sight macros half_limit store) }
     ensures refused { IfErr result (Unopens M.Meaning.functions
         (are_registered M.Meaning.functions (M.functions macros)) sight) }
 {
@@ -318,7 +320,7 @@ where
     requires may { P.may places.now to.now }
     requires room { (⟦<Sight as Disk>⟧.state sight).failures < 2 ^ 64 - 1 }
     ensures { MatchResult result
-        (BacksUp M.Meaning.functions macros (λ world. IsMade P.Disk.state (P.does places.now) half_limit world to.now) sight)
+        (BacksUp M.Meaning.functions macros (λ world. IsBackupMade P.Disk.state (P.does places.now) half_limit world to.now) sight)
         (WithholdsBackup M.Meaning.functions macros (are_registered M.Meaning.functions (M.functions macros))
         (λ world error. IsUnmade P.Disk.state (P.does places.now) half_limit world to.now error) sight) }
 {
@@ -338,7 +340,7 @@ fn backed_up<P: StorePlaces, M: MacroFunctions>(
 ) -> Result<(), BackupError>
     requires may { P.may places.now to.now }
     ensures { IfSome store.now.world (λ world. MatchResult result
-        (λ _. IsMade P.Disk.state (P.does places.now) half_limit world to.now)
+        (λ _. IsBackupMade P.Disk.state (P.does places.now) half_limit world to.now)
         (IsUnmade P.Disk.state (P.does places.now) half_limit world to.now)) }
 {
     match store.world() {

@@ -1,7 +1,7 @@
 // The properties of a store that was seen.
 ghost use Rattle.std.specs.Prelude.{◌≡◌, ◌<◌, ◌-◌, ◌^◌, IfErr, IfSome, MatchResult};
 ghost use Rattle.command_words.specs.LookLine.{text_of};
-ghost use Rattle.store_looks.specs.Told.{IsSelection, TellsProperties, WithholdsProperties, TellsShown, WithholdsShown, notation_of};
+ghost use Rattle.store_looks.specs.LookReports.{IsSelection, TellsProperties, WithholdsProperties, TellsShown, WithholdsShown, notation_of};
 ghost use Rattle.user_macros.specs.Functions.{are_registered};
 
 use crate::looks::{notation_for, opened, write_told};

@@ -1,7 +1,7 @@
 // Why nothing is told of a store.
 ghost use Rattle.std.specs.Prelude.{◌≡◌};
 ghost use Rattle.lisp_object.specs.declared.refusal.TheConstants.{NO_MEMORY as memory};
-ghost use Rattle.store_looks.specs.Unlooked.{IsOfBackup, of_log, of_show};
+ghost use Rattle.store_looks.specs.FailedLooks.{IsOfBackup, of_log, of_show};
 ghost use Rattle.store_looks.specs.declared.unlooked.Unlooked.TheVariants as unlooked;
 
 use disk_trait::HostError;

@@ -1,7 +1,7 @@
 // How forms that cannot be read are told: by lines, or by objects of JSON.
 ghost use Rattle.std.specs.Prelude.{◌≡◌, ◌++◌, codes, decimal, OnOk};
 ghost use Rattle.diagnostics.specs.Refusals.{form_of, line_of};
-ghost use Rattle.store_looks.specs.Checked.{checked_counts_line, counts_object, counts_text, later_member, refusal_object, place_members, unreadable_text};
+ghost use Rattle.store_looks.specs.CheckReports.{checked_counts_line, counts_object, counts_text, later_member, refusal_object, place_members, unreadable_text};
 
 use diagnostics::{Refusal, Spots, write_refusal};
 use lisp_object::refusal::name_of;
@@ -54,7 +54,7 @@ fn form_of(refusal: &Refusal) -> u64
 }
 
 // Adds a number that is not the first member of an object.
-#[tactic(auto, unfolding(crate::specs::Checked::later_member))]
+#[tactic(auto, unfolding(crate::specs::CheckReports::later_member))]
 fn push_later(alloc: Global, text: &mut Vec<u8>, name: &[u8], value: u64) -> Result<(), AllocError>
     ensures { OnOk result (text.new.items ≡ text.old.items ++ later_member name.now value) }
 {

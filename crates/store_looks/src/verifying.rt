@@ -1,7 +1,7 @@
 // The half in use of a store that was seen, and its position.
 ghost use Rattle.std.specs.Prelude.{◌≡◌, ◌<◌, ◌-◌, ◌^◌, IfErr, IfOk, IfSome, MatchResult};
 ghost use Rattle.messages.specs.Position.{position};
-ghost use Rattle.store_looks.specs.Told.{TellsVerified, WithholdsVerified};
+ghost use Rattle.store_looks.specs.LookReports.{TellsVerified, WithholdsVerified};
 ghost use Rattle.store_reports.specs.Figures.{verified_text};
 ghost use Rattle.user_macros.specs.Functions.{are_registered};
 

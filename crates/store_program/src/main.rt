@@ -1,5 +1,8 @@
 //! The program: it registers the macro functions, hands them to `store_commands::program` with the words, the standard streams and
 //! the files of the system, and ends with its status.
+//!
+//! - `opening`: at a terminal, how much there is to open; `pages`: where prompts go, and what the pages say
+//! - `counted`: the refusals among answers, and how many answers there were; `reasons`: which refused forms standard error tells of
 #![tactic(auto)]
 
 mod counted;

@@ -7,7 +7,7 @@ use Rattle.gate_log.specs.Failures.{is_open_fault, is_read_fault, is_start_fault
 use Rattle.gate_log.specs.Layout.{Contents, written_version}
 use Rattle.gate_log.specs.Log.{FilesMean, started}
 use Rattle.gate_log.specs.Opening.{Refuses}
-use Rattle.gate_log.specs.Step.{Rests}
+use Rattle.gate_log.specs.Step.{WritesNothing}
 use Rattle.gate_log.specs.declared.error.OpenRefusal.{OpenRefusal}
 use Rattle.gate_log.specs.declared.error.ReadError.{ReadError}
 use Rattle.gate_log.specs.declared.error.ReadError.TheVariants as reading
@@ -33,7 +33,7 @@ abbrev pub IsAlone : Option Contents → Type 0
 IsAlone None = ⊥
 IsAlone (Some k) = (k.version ≡ written_version) × (k.entries ≡ [])
 
--- and its snapshot is this text
+-- a half is open with this snapshot, in the version that is written, and has no record
 abbrev pub IsBare : List ℕ → Option Contents → Type 0
 IsBare text None = ⊥
 IsBare text (Some k) = IsAlone (Some k) × (k.snapshot ≡ text)
@@ -42,19 +42,19 @@ IsBare text (Some k) = IsAlone (Some k) × (k.snapshot ≡ text)
 pub record IsLeft (old new : State) : Type 0 where
   pub contents : Contents
   pub held : FilesMean (Some contents) old.reads
-  pub rests : Rests old new
+  pub rests : WritesNothing old new
 
 -- ---- why a log is refused, with this number
 
 -- it was not opened
-pub record IsUnopened (number : ℕ) (old new : State) : Type 0 where
+pub record IsStoreUnopened (number : ℕ) (old new : State) : Type 0 where
   pub refusal : OpenRefusal
   pub number_is : number ≡ open_number refusal
   pub told : Told (is_open_fault refusal) old new
   pub why : IsHonest old → Refuses refusal old.reads
 
 -- its half was not read; of an honest disk it is not damaged
-pub record IsUnread (number : ℕ) (old new : State) : Type 0 where
+pub record IsHalfUnread (number : ℕ) (old new : State) : Type 0 where
   pub error : ReadError
   pub number_is : number ≡ read_number error
   pub told : Told (is_read_fault error) old new
@@ -73,7 +73,7 @@ IsNotBegun limit world old new errors.Exists = IsHonest old → IsLeft old new
 IsNotBegun limit world old new errors.OutOfMemory = Unit {0}
 IsNotBegun limit world old new (errors.Unfinished name) = ⊥
 IsNotBegun limit world old new (errors.Host error) = ⊥
-IsNotBegun limit world old new (errors.Refused number) = IsUnopened number old new ⊎ IsUnstarted limit (snapshot world) number old new
+IsNotBegun limit world old new (errors.Refused number) = IsStoreUnopened number old new ⊎ IsUnstarted limit (snapshot world) number old new
 IsNotBegun limit world old new errors.Differs = ⊥
 
 -- ---- a backup at a place, by what was done
@@ -92,8 +92,8 @@ module _ {D : Type 0} (state : D → State) (does : Deed D → Type 0) (limit : 
     pub holds : IsHonest (state first) → HoldsWorld world (state last)
 
   -- the files were not opened, or the world was not written to them
-  abbrev pub IsUnwritten : BackupError → Type 0
-  IsUnwritten error =
+  abbrev pub IsCopyUnwritten : BackupError → Type 0
+  IsCopyUnwritten error =
       ((cause : HostError) × does (opened dir Make (Err cause)) × (error ≡ errors.Host cause))
       ⊎ ((first : D) × (last : D) × does (opened dir Make (Ok first))
       × ((why : BackupError) × IsNotBegun limit world (state first) (state last) why × IsToldAs does last why error))
@@ -116,22 +116,22 @@ module _ {D : Type 0} (state : D → State) (does : Deed D → Type 0) (limit : 
       ⊎ ((again : D) × does (opened dir Refuse (Ok again))
       × (((error ≡ errors.Differs) × HoldsOther again)
       ⊎ ((number : ℕ) × (last : D) × (error ≡ errors.Refused number)
-      × (IsUnopened number (state again) (state last) ⊎ IsUnread number (state again) (state last))))))
+      × (IsStoreUnopened number (state again) (state last) ⊎ IsHalfUnread number (state again) (state last))))))
 
   -- the new store was written, opened again and compared, and then got its name
-  pub record IsPlaced : Type 0 where
+  pub record HasItsName : Type 0 where
     pub written : IsWritten
     pub compared : IsCompared
     pub named : does (placed dir)
 
   -- one of these was not had
   abbrev pub IsUnplaced : BackupError → Type 0
-  IsUnplaced error = IsUnwritten error ⊎ (IsUncompared error ⊎ does (not_placed dir error))
+  IsUnplaced error = IsCopyUnwritten error ⊎ (IsUncompared error ⊎ does (not_placed dir error))
 
   -- The new store is at the place.
-  pub record IsMade : Type 0 where
+  pub record IsBackupMade : Type 0 where
     pub begins : does (begun dir)
-    pub ends : IsPlaced
+    pub ends : HasItsName
 
   -- There is none, and this is why. What was begun was taken away.
   abbrev pub IsUnmade : BackupError → Type 0

@@ -11,7 +11,7 @@ use Rattle.plist_state.specs.Readers.{symbols_with_properties}
 use Rattle.plist_state.specs.State.{WorldState}
 use Rattle.store_reports.specs.Figures.{told_number}
 use Rattle.store_reports.specs.Json.{number_member}
-use Rattle.store_reports.specs.Shown.{has_wanted, is_asked, is_wanted_name, shown_symbol, takes_symbol}
+use Rattle.store_reports.specs.ShownProperties.{has_wanted, is_asked, is_wanted_name, shown_symbol, takes_symbol}
 use Rattle.store_reports.specs.declared.numbers.Notation.{Notation}
 use Rattle.store_reports.specs.declared.numbers.Notation.TheVariants.{Json, Lines}
 use Rattle.store_reports.specs.declared.selection.Selection.{Selection}

@@ -1,7 +1,7 @@
 -- Text of JSON (RFC 8259).
 use Rattle.std.specs.Prelude.{ℕ, ◌/◌, ◌%◌, ◌^◌, ◌||◌, if◌then◌else◌, List, [], ◌∷◌, ◌++◌, decimal, nat_eq, nat_lt}
 use Rattle.std.specs.List.{flat_map}
-use Rattle.store_reports.specs.Escaped.{hexadecimal}
+use Rattle.store_reports.specs.EscapedText.{hexadecimal}
 
 -- A character of a string: a quotation mark and a backslash behind a backslash; a control character, and a byte over 126, as its number in four
 -- digits of base 16; any other as it is.

@@ -1,9 +1,9 @@
 pub mod Backup
 pub mod Counted
-pub mod Escaped
+pub mod EscapedText
 pub mod Figures
 pub mod Json
 pub mod Log
 pub mod Numbers
 pub mod Places
-pub mod Shown
+pub mod ShownProperties

@@ -3,8 +3,8 @@ use Rattle.std.specs.Prelude.{◌≡◌, ℕ, ◌+◌, Bool, if◌then◌else◌
 use Rattle.disk_trait.specs.Disk.{Image}
 use Rattle.gate_log.specs.Layout.{Contents, LogRecord}
 use Rattle.gate_log.specs.Log.{FilesMean}
-use Rattle.log_look.specs.Cut.{IsRecordPlace}
-use Rattle.store_reports.specs.Escaped.{escaped}
+use Rattle.log_look.specs.FirstRecords.{IsRecordPlace}
+use Rattle.store_reports.specs.EscapedText.{shown_for_terminal}
 use Rattle.store_reports.specs.Json.{number_member, string_member}
 use Rattle.store_reports.specs.declared.log.LogPart.{LogPart}
 use Rattle.store_reports.specs.declared.numbers.Notation.{Notation}
@@ -25,7 +25,7 @@ mode_text kind = if nat_eq kind 0 then codes " current " else codes " rescue "
 -- a record: its place, its mode and its text, and the end of the line
 abbrev pub record_line : Bool → ℕ → ℕ → LogRecord → List ℕ
 record_line with_generation generation number entry =
-    place_text with_generation generation number ++ mode_text entry.kind ++ escaped entry.text ++ 10 ∷ []
+    place_text with_generation generation number ++ mode_text entry.kind ++ shown_for_terminal entry.text ++ 10 ∷ []
 
 -- the same as an object, which begins with the generation and the number
 unfoldable pub numbers_text : ℕ → ℕ → List ℕ

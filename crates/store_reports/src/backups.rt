@@ -5,7 +5,7 @@ ghost use Rattle.gate_log.specs.Failures.{is_read_fault};
 ghost use Rattle.gate_log.specs.HalfInUse.{IsAt, Shows};
 ghost use Rattle.gate_log.specs.Layout.{Contents};
 ghost use Rattle.gate_log.specs.Log.{FilesMean};
-ghost use Rattle.store_reports.specs.Backup.{HoldsWorld, IsAlone, IsBare, IsCompared, IsMade, IsNotBegun, IsPlaced, IsToldAs, IsUncompared, IsUnmade, IsUnopened, IsUnplaced, IsUnread, IsUnwritten, IsWritten};
+ghost use Rattle.store_reports.specs.Backup.{HoldsWorld, IsAlone, IsBare, IsCompared, IsBackupMade, IsNotBegun, HasItsName, IsToldAs, IsUncompared, IsUnmade, IsStoreUnopened, IsUnplaced, IsHalfUnread, IsCopyUnwritten, IsWritten};
 ghost use Rattle.store_reports.specs.Numbers.{open_number, read_number, start_number};
 ghost use Rattle.store_reports.specs.declared.backups.BackupError.TheVariants as errors;
 
@@ -178,7 +178,8 @@ pub fn backup<P: StorePlaces>(
     limit: u64,
 ) -> Result<(), BackupError>
     requires may { P.may places.now dir.now }
-    ensures made { IfOk result (λ _. IsMade P.Disk.state (P.does places.now) limit world.now.0 dir.now) }
+    ensures made { IfOk result
+        (λ _. IsBackupMade P.Disk.state (P.does places.now) limit world.now.0 dir.now) }
     ensures refused { IfErr result (IsUnmade P.Disk.state (P.does places.now) limit world.now.0 dir.now) }
 {
     places.begin(dir)?;
@@ -200,7 +201,7 @@ fn make_and_place<P: StorePlaces>(
     limit: u64,
 ) -> Result<(), BackupError>
     requires may { P.may places.now dir.now }
-    ensures { MatchResult result (λ _. IsPlaced P.Disk.state (P.does places.now) limit world.now.0 dir.now)
+    ensures { MatchResult result (λ _. HasItsName P.Disk.state (P.does places.now) limit world.now.0 dir.now)
         (IsUnplaced P.Disk.state (P.does places.now) limit world.now.0 dir.now) }
 {
     write_at(alloc, places, world, dir, limit)?;
@@ -217,8 +218,10 @@ fn write_at<P: StorePlaces>(
     limit: u64,
 ) -> Result<(), BackupError>
     requires may { P.may places.now dir.now }
-    ensures written { IfOk result (λ _. IsWritten P.Disk.state (P.does places.now) limit world.now.0 dir.now) }
-    ensures refused { IfErr result (IsUnwritten P.Disk.state (P.does places.now) limit world.now.0 dir.now) }
+    ensures written { IfOk result
+        (λ _. IsWritten P.Disk.state (P.does places.now) limit world.now.0 dir.now) }
+    ensures refused { IfErr result
+        (IsCopyUnwritten P.Disk.state (P.does places.now) limit world.now.0 dir.now) }
 {
     let disk = places.open(dir, IfMissing::Make)?;
     match backup_onto(alloc, world, disk, limit) {
@@ -246,7 +249,8 @@ fn compare_at<P: StorePlaces>(
     limit: u64,
 ) -> Result<(), BackupError>
     requires may { P.may places.now dir.now }
-    ensures compared { IfOk result (λ _. IsCompared P.Disk.state (P.does places.now) limit world.now.0 dir.now) }
+    ensures compared { IfOk result
+        (λ _. IsCompared P.Disk.state (P.does places.now) limit world.now.0 dir.now) }
     ensures refused { IfErr result (IsUncompared P.Disk.state (P.does places.now) limit world.now.0 dir.now) }
 {
     let text = write(alloc, world)?;
@@ -275,8 +279,9 @@ fn holds_text<D: Disk + Drop>(
     requires { (D.state disk).failures < 2 ^ 64 - 1 }
     ensures answer { IfOk result (λ same. IsHonest (D.state disk)
         → (k : Option Contents) × FilesMean k (D.state disk).reads × Decides same (IsBare text.now k)) }
-    ensures refused { IfErr result (λ refused. IsUnopened refused.number (D.state disk) (D.state refused.disk)
-        ⊎ IsUnread refused.number (D.state disk) (D.state refused.disk)) }
+    ensures refused { IfErr result
+        (λ refused. IsStoreUnopened refused.number (D.state disk) (D.state refused.disk)
+        ⊎ IsHalfUnread refused.number (D.state disk) (D.state refused.disk)) }
 {
     shown_is_meant();
     let mut log = match Halves::open(alloc, disk, limit) {

@@ -5,7 +5,7 @@ ghost use Rattle.package_table.specs.Readers.{names_of, own_names};
 ghost use Rattle.plist_state.specs.Readers.{borrowed_symbols};
 ghost use Rattle.store_reports.specs.Counted.{count_text, shown_properties, shown_symbols, taken_properties, IsCountText, IsNoCount, printed_properties, printed_symbols, sum_at_home};
 ghost use Rattle.store_reports.specs.Figures.{told_number};
-ghost use Rattle.store_reports.specs.Shown.{is_wanted_name};
+ghost use Rattle.store_reports.specs.ShownProperties.{is_wanted_name};
 ghost use Rattle.store_reports.specs.declared.showing.ShowError.TheVariants as showing;
 
 use crate::homes::AskedSymbol;

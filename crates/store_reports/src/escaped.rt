@@ -1,13 +1,13 @@
 //! Text for a line of a terminal.
 ghost use Rattle.std.specs.Prelude.{◌≡◌, ◌<◌, ◌++◌, OnOk};
-ghost use Rattle.store_reports.specs.Escaped.{escaped, escaped_byte, hexadecimal};
+ghost use Rattle.store_reports.specs.EscapedText.{shown_for_terminal, escaped_byte, hexadecimal};
 
 use std::alloc::AllocError;
 
 /// Adds a text to a line, each byte as a line can have it: a backslash as two, and a control character and a byte over 126 as `\x` and its
 /// code in base 16. So the text is one line, no terminal obeys it, and it can be told from the line.
 pub(crate) fn push_escaped(line: &mut Vec<u8>, text: &[u8]) -> Result<(), AllocError>
-    ensures { OnOk result (line.new.items ≡ line.old.items ++ escaped text.now) }
+    ensures { OnOk result (line.new.items ≡ line.old.items ++ shown_for_terminal text.now) }
 {
     for byte in text {
         push_byte(line, *byte)?;

@@ -1,6 +1,6 @@
 //! Figures of a store.
 ghost use Rattle.std.specs.Prelude.{◌≡◌, ◌+◌, ◌-◌, ◌^◌, ◌<◌, ◌++◌, length, IfErr, IfOk, OnOk};
-ghost use Rattle.log_look.specs.Cut.{LogIsUnopened};
+ghost use Rattle.log_look.specs.FirstRecords.{LogIsUnopened};
 ghost use Rattle.package_table.specs.Readers.{package_names};
 ghost use Rattle.plist_state.specs.Readers.{borrowed_symbols, symbols_with_properties};
 ghost use Rattle.store_reports.specs.Figures.{AreFiguresOf, counts_in, end_of_figures, file_info_text, files_text, half_figures_line, half_text, info_text, sizes_text, known_figure, property_count, symbol_count, told_number, verified_text, world_text};
@@ -33,8 +33,10 @@ pub struct HalfFigures {
 pub fn half_figures(alloc: Global, sight: Sight) -> Result<(HalfFigures, Sight), LogError>
     requires { (⟦<Sight as Disk>⟧.state sight).failures < 2 ^ 64 - 1 }
     ensures figures { IfOk result (λ told. AreFiguresOf (⟦<Sight as Disk>⟧.state sight).reads told.0) }
-    ensures reads { IfOk result (λ told. (⟦<Sight as Disk>⟧.state told.1).reads ≡ (⟦<Sight as Disk>⟧.state sight).reads) }
-    ensures room { IfOk result (λ told. (⟦<Sight as Disk>⟧.state told.1).failures ≡ (⟦<Sight as Disk>⟧.state sight).failures) }
+    ensures reads { IfOk result
+        (λ told. (⟦<Sight as Disk>⟧.state told.1).reads ≡ (⟦<Sight as Disk>⟧.state sight).reads) }
+    ensures room { IfOk result
+        (λ told. (⟦<Sight as Disk>⟧.state told.1).failures ≡ (⟦<Sight as Disk>⟧.state sight).failures) }
     ensures refused { IfErr result (λ e. LogIsUnopened e (⟦<Sight as Disk>⟧.state sight).reads) }
 {
     let log = open_sight(alloc, sight)?;

@@ -2,8 +2,8 @@
 ghost use Rattle.std.specs.List.{flat_map};
 ghost use Rattle.std.specs.Prelude.{◌≡◌, ◌++◌, [], ◌∷◌, IfOk, OnOk};
 ghost use Rattle.package_table.specs.Readers.{names_of};
-ghost use Rattle.store_reports.specs.Escaped.{escaped};
-ghost use Rattle.store_reports.specs.Shown.{home_text, is_asked, shown_by_home, shown_home, shown_homes};
+ghost use Rattle.store_reports.specs.EscapedText.{shown_for_terminal};
+ghost use Rattle.store_reports.specs.ShownProperties.{home_text, is_asked, shown_by_home, shown_home, shown_homes};
 
 use crate::escaped::push_escaped;
 use crate::json::push_string_member;
@@ -29,7 +29,7 @@ impl AskedSymbol<'_> {
 }
 
 /// The symbol that is asked for: its home, and its properties.
-#[tactic(auto, unfolding(crate::specs::Shown::shown_by_home))]
+#[tactic(auto, unfolding(crate::specs::ShownProperties::shown_by_home))]
 pub(crate) fn shown_by_home(
     alloc: Global,
     world: &World,
@@ -62,7 +62,7 @@ fn push_homes(
 }
 
 // Adds it, if it is at home in this package.
-#[tactic(auto, unfolding(crate::specs::Shown::shown_homes))]
+#[tactic(auto, unfolding(crate::specs::ShownProperties::shown_homes))]
 fn push_names(
     alloc: Global,
     text: &mut Vec<u8>,
@@ -99,7 +99,7 @@ fn push_named(
 }
 
 // Adds the symbol of this home and this name, if it is the one that is asked for.
-#[tactic(auto, unfolding(crate::specs::Shown::shown_home))]
+#[tactic(auto, unfolding(crate::specs::ShownProperties::shown_home))]
 fn push_symbol(
     alloc: Global,
     text: &mut Vec<u8>,
@@ -123,7 +123,7 @@ fn push_symbol(
 }
 
 // Adds the home of the symbol of this text.
-#[tactic(auto, unfolding(crate::specs::Shown::home_text))]
+#[tactic(auto, unfolding(crate::specs::ShownProperties::home_text))]
 fn push_home(
     text: &mut Vec<u8>,
     layout: Layout,
@@ -140,7 +140,8 @@ fn push_home(
 }
 
 fn push_line(text: &mut Vec<u8>, front: &[u8], home: &[u8]) -> Result<(), AllocError>
-    ensures { OnOk result (text.new.items ≡ text.old.items ++ (front.now ++ escaped home.now ++ 10 ∷ [])) }
+    ensures { OnOk result (text.new.items
+        ≡ text.old.items ++ (front.now ++ shown_for_terminal home.now ++ 10 ∷ [])) }
 {
     text.extend_from_slice(front)?;
     push_escaped(text, home)?;
@@ -148,7 +149,7 @@ fn push_line(text: &mut Vec<u8>, front: &[u8], home: &[u8]) -> Result<(), AllocE
     Ok(())
 }
 
-#[tactic(auto, unfolding(crate::specs::Shown::home_text))]
+#[tactic(auto, unfolding(crate::specs::ShownProperties::home_text))]
 fn push_object(text: &mut Vec<u8>, symbol: &[u8], home: &[u8]) -> Result<(), AllocError>
     ensures { OnOk result (text.new.items ≡ text.old.items ++ home_text Layout.Json symbol.now home.now) }
 {

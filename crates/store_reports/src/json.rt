@@ -62,7 +62,7 @@ pub(crate) fn push_json_number(
     Ok(())
 }
 
-/// Adds a member of an object, a string.
+/// Adds a member of an object, a string. Where memory runs out, a part of it stands there.
 #[tactic(auto, unfolding(crate::specs::Json::string_member))]
 pub fn push_string_member(text: &mut Vec<u8>, name: &[u8], value: &[u8]) -> Result<(), AllocError>
     ensures { OnOk result (text.new.items ≡ text.old.items ++ string_member name.now value.now) }
@@ -72,7 +72,7 @@ pub fn push_string_member(text: &mut Vec<u8>, name: &[u8], value: &[u8]) -> Resu
     push_json_string(text, value)
 }
 
-/// Adds a member of an object, a number.
+/// Adds a member of an object, a number. Where memory runs out, a part of it stands there.
 #[tactic(auto, unfolding(crate::specs::Json::number_member))]
 pub fn push_number_member(
     alloc: Global,

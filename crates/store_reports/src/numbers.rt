@@ -24,7 +24,8 @@ pub(crate) fn push_number(alloc: Global, text: &mut Vec<u8>, number: u64) -> Res
     text.extend_from_slice(digits.as_bytes())
 }
 
-/// Adds a name and a number: a line, or a member of an object that is not its first one.
+/// Adds a name and a number: a line, or a member of an object that is not its first one. Where memory runs out, a part of it stands
+/// there.
 pub fn push_figure(
     alloc: Global,
     text: &mut Vec<u8>,

@@ -1,6 +1,6 @@
 //! Which properties are asked for, and how they are written.
 ghost use Rattle.std.specs.Prelude.{◌≡◌};
-ghost use Rattle.store_reports.specs.Shown.{is_wanted_name, takes_symbol};
+ghost use Rattle.store_reports.specs.ShownProperties.{is_wanted_name, takes_symbol};
 
 use name_patterns::is_like;
 
@@ -42,7 +42,7 @@ fn is_named(wanted: Option<&[u8]>, name: &[u8]) -> bool
 
 impl Selection<'_> {
     /// Whether properties of this symbol are asked for.
-    #[tactic(auto, unfolding(crate::specs::Shown::takes_symbol))]
+    #[tactic(auto, unfolding(crate::specs::ShownProperties::takes_symbol))]
     pub(crate) fn takes_symbol(&self, home: &[u8], name: &[u8]) -> bool
         ensures { result ≡ takes_symbol self.now (home.now, name.now) }
     {

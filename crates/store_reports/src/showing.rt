@@ -3,8 +3,8 @@ ghost use Rattle.std.specs.Prelude.{◌≡◌, ◌++◌, true, IfErr, IfOk, OnOk
 ghost use Rattle.std.specs.List.{flat_map};
 ghost use Rattle.lisp_object.specs.Datum.{is_proper};
 ghost use Rattle.plist_state.specs.Readers.{borrowed_symbols};
-ghost use Rattle.plist_state.specs.Shown.{property_of};
-ghost use Rattle.store_reports.specs.Shown.{asked_text, has_wanted, property_text, shown_list, shown_property, shown_symbol, IsShown, GivesSome, IsUnshown};
+ghost use Rattle.plist_state.specs.Views.{property_of};
+ghost use Rattle.store_reports.specs.ShownProperties.{asked_text, has_wanted, property_text, shown_list, shown_property, shown_symbol, IsShown, GivesSome, IsUnshown};
 ghost use Rattle.store_reports.specs.declared.showing.ShowError.TheVariants as showing;
 
 use crate::escaped::push_escaped;
@@ -79,7 +79,7 @@ fn some_text(text: Vec<u8>, none: ShowError) -> Result<Vec<u8>, ShowError>
 }
 
 // The symbol that is asked for, or the properties.
-#[tactic(auto, unfolding(crate::specs::Shown::shown_text))]
+#[tactic(auto, unfolding(crate::specs::ShownProperties::shown_text))]
 fn asked_text(
     alloc: Global,
     world: &World,
@@ -127,7 +127,7 @@ fn push_lists(
 }
 
 /// Adds those properties of a symbol that are asked for.
-#[tactic(auto, unfolding(crate::specs::Shown::shown_list))]
+#[tactic(auto, unfolding(crate::specs::ShownProperties::shown_list))]
 pub(crate) fn push_list(
     alloc: Global,
     text: &mut Vec<u8>,
@@ -174,7 +174,7 @@ fn push_properties(
 }
 
 // Adds a property of the symbol of this text, if it is asked for.
-#[tactic(auto, unfolding(crate::specs::Shown::shown_property))]
+#[tactic(auto, unfolding(crate::specs::ShownProperties::shown_property))]
 fn push_wanted(
     alloc: Global,
     text: &mut Vec<u8>,
@@ -220,7 +220,7 @@ fn push_property(
     }
 }
 
-#[tactic(auto, unfolding(crate::specs::Shown::property_text))]
+#[tactic(auto, unfolding(crate::specs::ShownProperties::property_text))]
 fn push_object(
     text: &mut Vec<u8>,
     symbol: &[u8],
@@ -240,7 +240,7 @@ fn push_object(
     Ok(())
 }
 
-#[tactic(auto, unfolding(crate::specs::Shown::property_text))]
+#[tactic(auto, unfolding(crate::specs::ShownProperties::property_text))]
 fn push_line(
     text: &mut Vec<u8>,
     symbol: &[u8],
@@ -259,7 +259,7 @@ fn push_line(
     Ok(())
 }
 
-#[tactic(auto, unfolding(crate::specs::Shown::property_text))]
+#[tactic(auto, unfolding(crate::specs::ShownProperties::property_text))]
 fn push_form(
     text: &mut Vec<u8>,
     symbol: &[u8],
@@ -280,7 +280,7 @@ fn push_form(
 }
 
 /// The text of a symbol in COMMON-LISP-USER. The names of a world are bytes below 128; of others nothing is written.
-#[tactic(auto, unfolding(crate::specs::Shown::shown_symbol))]
+#[tactic(auto, unfolding(crate::specs::ShownProperties::shown_symbol))]
 pub(crate) fn symbol_text(
     alloc: Global,
     packages: &Packages,

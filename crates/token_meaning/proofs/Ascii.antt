@@ -9,7 +9,7 @@ use Rattle.token_scan.specs.declared.mark.Mark.TheVariants.{Plain, Quoted, Bar}
 use Rattle.token_scan.specs.Marks.{characters, is_ascii_mark, are_ascii}
 use Rattle.token_meaning.specs.declared.refusal.MeaningRefusal.{MeaningRefusal}
 use Rattle.token_meaning.specs.declared.token.TokenName.{TokenName}
-use Rattle.token_meaning.specs.Meanings.{Meaning, number, dot, name, is_package_marker, pattern, name_of}
+use Rattle.token_meaning.specs.Meanings.{Meaning, number, dot, name, is_package_marker, pattern, name_of_marks}
 use Rattle.token_meaning.specs.Results.{is_ascii_name}
 
 -- what is said of a meaning: a name is ASCII
@@ -61,5 +61,5 @@ pattern_ascii ((p ∷ ps) ∷ [] ∷ (m ∷ ms) ∷ []) e =
 pattern_ascii ((p ∷ ps) ∷ [] ∷ [] ∷ y ∷ ys) e = tt
 pattern_ascii ((p ∷ ps) ∷ [] ∷ (m ∷ ms) ∷ y ∷ ys) e = tt
 
-pub ascii_name : (marks : List Mark) (own : TokenName) → name_of marks ≡ Ok (name own) → are_ascii marks ≡ true → is_ascii_name own ≡ true
+pub ascii_name : (marks : List Mark) (own : TokenName) → name_of_marks marks ≡ Ok (name own) → are_ascii marks ≡ true → is_ascii_name own ≡ true
 ascii_name marks own given e = subst AsciiName given (pattern_ascii (slice_split is_package_marker marks) (parts_ascii marks e))

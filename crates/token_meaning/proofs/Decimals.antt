@@ -8,7 +8,7 @@ use Rattle.std.proofs.lemmas.List.Folds.{list_all-append}
 use Rattle.lisp_object.specs.Object.{Object}
 use Rattle.token_meaning.specs.declared.refusal.MeaningRefusal.{MeaningRefusal}
 use Rattle.token_meaning.specs.declared.refusal.MeaningRefusal.TheVariants.{FloatToken}
-use Rattle.token_meaning.specs.Numerals.{is_digit_in, is_empty, are_digits, is_numeral, value, without_sign, cut_at_first}
+use Rattle.token_meaning.specs.Numerals.{is_digit_in, is_empty, are_digits, is_numeral, numeral_value, without_sign, cut_at_first}
 use Rattle.token_meaning.specs.Numbers.{is_point, is_exponent_marker, integer_of, decimal_form, is_pointed, is_mantissa, is_scaled, is_float, decimal_or_float_form}
 use Rattle.token_meaning.specs.Leading.{begins_with_digit, IsLeading, after_code, is_exponent}
 use Rattle.token_meaning.proofs.Parts.{cut_with, cut_without, cut_past, onto_front}
@@ -128,12 +128,12 @@ pub pointed_float : (ds fs rest : List ℕ) → are_digits 10 ds ≡ true → ar
 pointed_float ds fs rest are fraction ends = λ i. pointed_at ds fs rest are fraction ends i || scaled_behind ds fs rest are fraction ends i
 
 pub pointed_decimal : (negative : Bool) (ds after : List ℕ) → are_digits 10 ds ≡ true
-    → decimal_form negative (cut_at_first is_point (ds ++ 46 ∷ after)) ≡ (if not (is_empty ds) && is_empty after then Some (integer_of negative (value 10 ds)) else None)
+    → decimal_form negative (cut_at_first is_point (ds ++ 46 ∷ after)) ≡ (if not (is_empty ds) && is_empty after then Some (integer_of negative (numeral_value 10 ds)) else None)
 pointed_decimal negative ds after are =
     ap (decimal_form negative) (cut_with is_point ds 46 after (no_point ds are) refl) ∙ (rw are (some ds))
   where
-    some : (xs : List ℕ) → (if (not (is_empty xs) && true) && is_empty after then Some (integer_of negative (value 10 ds)) else None)
-        ≡ (if not (is_empty xs) && is_empty after then Some (integer_of negative (value 10 ds)) else None)
+    some : (xs : List ℕ) → (if (not (is_empty xs) && true) && is_empty after then Some (integer_of negative (numeral_value 10 ds)) else None)
+        ≡ (if not (is_empty xs) && is_empty after then Some (integer_of negative (numeral_value 10 ds)) else None)
     some [] = refl
     some (x ∷ xs) = refl
 
@@ -189,15 +189,15 @@ empty_of [] rest = refl
 empty_of (x ∷ fs) rest = refl
 
 point : (negative : Bool) (text after rest : List ℕ) (whole fraction : Bool) (size part : Option ℕ) → (h : IsLeading 10 text whole size (46 ∷ after))
-    → IsLeading 10 after fraction part rest → Point negative text rest whole fraction (value 10 h.leads.digits)
+    → IsLeading 10 after fraction part rest → Point negative text rest whole fraction (numeral_value 10 h.leads.digits)
 point negative text after rest whole fraction size part h g =
     let ds = h.leads.digits in
     let fs = g.leads.digits in
     record {
       decimal = ap (λ (xs : List ℕ). decimal_form negative (cut_at_first is_point xs)) h.leads.split ∙ pointed_decimal negative ds after h.leads.are
-          ∙ (λ i. if sym h.leads.there i && is_empty (g.leads.split i) then Some (integer_of negative (value 10 ds)) else None)
-          ∙ (λ i. if whole && empty_of fs rest i then Some (integer_of negative (value 10 ds)) else None)
-          ∙ (λ i. if whole && (not (sym g.leads.there i) && is_empty rest) then Some (integer_of negative (value 10 ds)) else None);
+          ∙ (λ i. if sym h.leads.there i && is_empty (g.leads.split i) then Some (integer_of negative (numeral_value 10 ds)) else None)
+          ∙ (λ i. if whole && empty_of fs rest i then Some (integer_of negative (numeral_value 10 ds)) else None)
+          ∙ (λ i. if whole && (not (sym g.leads.there i) && is_empty rest) then Some (integer_of negative (numeral_value 10 ds)) else None);
       float = ap is_float h.leads.split ∙ ap (λ (xs : List ℕ). is_float (ds ++ 46 ∷ xs)) g.leads.split
           ∙ pointed_float ds fs rest h.leads.are g.leads.are g.ends
           ∙ (λ i. (not (is_empty fs) && is_empty rest) || (or_of ds fs i && is_exponent rest))
@@ -211,7 +211,7 @@ point_float negative text after whole size part h g =
     by_float negative text (p.decimal ∙ (rw (and_right whole false refl) refl)) p.float
 
 pub point_integer : (negative : Bool) (text after : List ℕ) (size part : Option ℕ) → (h : IsLeading 10 text true size (46 ∷ after))
-    → IsLeading 10 after false part [] → decimal_or_float_form negative text ≡ Some (integer_of negative (value 10 h.leads.digits))
+    → IsLeading 10 after false part [] → decimal_or_float_form negative text ≡ Some (integer_of negative (numeral_value 10 h.leads.digits))
 point_integer negative text after size part h g = by_decimal negative text _ (point negative text after [] true false size part h g).decimal
 
 pub point_alone : (negative : Bool) (text after : List ℕ) (size part : Option ℕ) → IsLeading 10 text false size (46 ∷ after)

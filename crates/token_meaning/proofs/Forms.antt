@@ -6,7 +6,7 @@ use Rattle.std.proofs.lemmas.Bool.{eqb-true, and_parts, or_cases}
 use Rattle.lisp_object.specs.Object.{Object}
 use Rattle.token_meaning.specs.declared.refusal.MeaningRefusal.{MeaningRefusal}
 use Rattle.token_meaning.specs.declared.refusal.MeaningRefusal.TheVariants.{FloatToken}
-use Rattle.token_meaning.specs.Numerals.{is_empty, is_numeral, are_digits, value, without_sign, is_negative, cut_at_first}
+use Rattle.token_meaning.specs.Numerals.{is_empty, is_numeral, are_digits, numeral_value, without_sign, is_negative, cut_at_first}
 use Rattle.token_meaning.specs.Numbers.{is_point, is_slash, is_exponent_marker, integer_of, ratio_of, decimal_form, ratio_form, is_pointed, is_mantissa, is_scaled, is_float, number_in_base, rational_number}
 use Rattle.token_meaning.specs.Grammar.{spelled, IsDigits, IsDecimal, IsRatio, IsExponent, IsFloat, IsRational, GivesNumber}
 use Rattle.token_meaning.proofs.Parts.{IsCut, CutAt, cut_parts}
@@ -18,12 +18,12 @@ empty (x ∷ xs) e = absurd cc
 
 -- ---- integers
 
-pub digits_form : (base : ℕ) (text : List ℕ) → is_numeral base (without_sign text) ≡ true → IsDigits base text (is_negative text) (value base (without_sign text))
+pub digits_form : (base : ℕ) (text : List ℕ) → is_numeral base (without_sign text) ≡ true → IsDigits base text (is_negative text) (numeral_value base (without_sign text))
 digits_form base text e =
     let sign = has_sign text in
     record { sign = sign.sign; digits = without_sign text; numeral = e; parts = sign.joined; below_zero = sign.below_zero; worth = refl }
 
-pub decimal_is : (text : List ℕ) (parts : List ℕ × List ℕ) → IsCut is_point (without_sign text) parts → (is_numeral 10 parts.0 && is_empty parts.1) ≡ true → IsDecimal text (is_negative text) (value 10 parts.0)
+pub decimal_is : (text : List ℕ) (parts : List ℕ × List ℕ) → IsCut is_point (without_sign text) parts → (is_numeral 10 parts.0 && is_empty parts.1) ≡ true → IsDecimal text (is_negative text) (numeral_value 10 parts.0)
 decimal_is text parts at e =
     let sign = has_sign text in
     let both = and_parts (is_numeral 10 parts.0) (is_empty parts.1) e in
@@ -41,7 +41,7 @@ decimal_is text parts at e =
 -- ---- ratios
 
 pub ratio_is : (base : ℕ) (text : List ℕ) (parts : List ℕ × List ℕ) → IsCut is_slash (without_sign text) parts → (is_numeral base parts.0 && is_numeral base parts.1) ≡ true
-    → IsRatio base text (is_negative text) (value base parts.0) (value base parts.1)
+    → IsRatio base text (is_negative text) (numeral_value base parts.0) (numeral_value base parts.1)
 ratio_is base text parts at e =
     let sign = has_sign text in
     let both = and_parts (is_numeral base parts.0) (is_numeral base parts.1) e in
@@ -159,13 +159,13 @@ first_found base text None p f g = g
 first_found base text (Some given) p f g = f
 
 integer_found : (base : ℕ) (text : List ℕ) (b : Bool) → is_numeral base (without_sign text) ≡ b
-    → IfSome (if b then Some (integer_of (is_negative text) (value base (without_sign text))) else None) (GivesNumber base text)
-integer_found base text true e = inl (is_negative text, value base (without_sign text), inl (digits_form base text e), refl)
+    → IfSome (if b then Some (integer_of (is_negative text) (numeral_value base (without_sign text))) else None) (GivesNumber base text)
+integer_found base text true e = inl (is_negative text, numeral_value base (without_sign text), inl (digits_form base text e), refl)
 integer_found base text false e = tt
 
 decimal_cases : (base : ℕ) (text : List ℕ) (parts : List ℕ × List ℕ) → IsCut is_point (without_sign text) parts → (b : Bool) → (is_numeral 10 parts.0 && is_empty parts.1) ≡ b
-    → IfSome (if b then Some (integer_of (is_negative text) (value 10 parts.0)) else None) (GivesNumber base text)
-decimal_cases base text parts at true e = inl (is_negative text, value 10 parts.0, inr (decimal_is text parts at e), refl)
+    → IfSome (if b then Some (integer_of (is_negative text) (numeral_value 10 parts.0)) else None) (GivesNumber base text)
+decimal_cases base text parts at true e = inl (is_negative text, numeral_value 10 parts.0, inr (decimal_is text parts at e), refl)
 decimal_cases base text parts at false e = tt
 
 decimal_found : (base : ℕ) (text : List ℕ) (o : Option (List ℕ × List ℕ)) → CutAt is_point (without_sign text) o → IfSome (decimal_form (is_negative text) o) (GivesNumber base text)
@@ -173,8 +173,8 @@ decimal_found base text None at = tt
 decimal_found base text (Some parts) at = decimal_cases base text parts at (is_numeral 10 parts.0 && is_empty parts.1) refl
 
 ratio_cases : (base : ℕ) (text : List ℕ) (parts : List ℕ × List ℕ) → IsCut is_slash (without_sign text) parts → (b : Bool) → (is_numeral base parts.0 && is_numeral base parts.1) ≡ b
-    → IfSome (if b then Some (ratio_of (is_negative text) (value base parts.0) (value base parts.1)) else None) (GivesNumber base text)
-ratio_cases base text parts at true e = inr (inl (is_negative text, value base parts.0, value base parts.1, ratio_is base text parts at e, refl))
+    → IfSome (if b then Some (ratio_of (is_negative text) (numeral_value base parts.0) (numeral_value base parts.1)) else None) (GivesNumber base text)
+ratio_cases base text parts at true e = inr (inl (is_negative text, numeral_value base parts.0, numeral_value base parts.1, ratio_is base text parts at e, refl))
 ratio_cases base text parts at false e = tt
 
 ratio_found : (base : ℕ) (text : List ℕ) (o : Option (List ℕ × List ℕ)) → CutAt is_slash (without_sign text) o → IfSome (ratio_form base (is_negative text) o) (GivesNumber base text)
@@ -199,13 +199,13 @@ first_rational base text None p f g = g
 first_rational base text (Some given) p f g = f
 
 digits_rational : (base : ℕ) (text : List ℕ) (b : Bool) → is_numeral base (without_sign text) ≡ b
-    → IfSome (if b then Some (integer_of (is_negative text) (value base (without_sign text))) else None) (IsRational base text)
-digits_rational base text true e = inl (is_negative text, value base (without_sign text), digits_form base text e, refl)
+    → IfSome (if b then Some (integer_of (is_negative text) (numeral_value base (without_sign text))) else None) (IsRational base text)
+digits_rational base text true e = inl (is_negative text, numeral_value base (without_sign text), digits_form base text e, refl)
 digits_rational base text false e = tt
 
 ratio_choice : (base : ℕ) (text : List ℕ) (parts : List ℕ × List ℕ) → IsCut is_slash (without_sign text) parts → (b : Bool) → (is_numeral base parts.0 && is_numeral base parts.1) ≡ b
-    → IfSome (if b then Some (ratio_of (is_negative text) (value base parts.0) (value base parts.1)) else None) (IsRational base text)
-ratio_choice base text parts at true e = inr (is_negative text, value base parts.0, value base parts.1, ratio_is base text parts at e, refl)
+    → IfSome (if b then Some (ratio_of (is_negative text) (numeral_value base parts.0) (numeral_value base parts.1)) else None) (IsRational base text)
+ratio_choice base text parts at true e = inr (is_negative text, numeral_value base parts.0, numeral_value base parts.1, ratio_is base text parts at e, refl)
 ratio_choice base text parts at false e = tt
 
 ratio_rational : (base : ℕ) (text : List ℕ) (o : Option (List ℕ × List ℕ)) → CutAt is_slash (without_sign text) o → IfSome (ratio_form base (is_negative text) o) (IsRational base text)

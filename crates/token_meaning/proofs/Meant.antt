@@ -6,11 +6,11 @@ use Rattle.token_scan.specs.declared.mark.Mark.{Mark}
 use Rattle.token_scan.specs.Marks.{characters}
 use Rattle.token_meaning.specs.declared.refusal.MeaningRefusal.{MeaningRefusal}
 use Rattle.token_meaning.specs.Numbers.{is_point, number_in_base, rational_number}
-use Rattle.token_meaning.specs.Meanings.{is_unescaped, name_of, dots_of, number_meaning, number_or_name, meaning_of, rational_of}
+use Rattle.token_meaning.specs.Meanings.{is_unescaped, name_of_marks, dots_of, number_meaning, number_or_name, meaning_of, rational_of}
 use Rattle.token_meaning.specs.Leading.{codes_of, is_dot}
 use Rattle.token_meaning.proofs.Codes.{plain_characters, dot_characters}
 
-pub meant_escaped : (base : ℕ) (marks : List Mark) → list_all is_unescaped marks ≡ false → meaning_of base marks ≡ name_of marks
+pub meant_escaped : (base : ℕ) (marks : List Mark) → list_all is_unescaped marks ≡ false → meaning_of base marks ≡ name_of_marks marks
 meant_escaped base marks plain = rw plain refl
 
 pub meant_dots : (base : ℕ) (marks : List Mark) → list_all is_unescaped marks ≡ true → list_all is_dot marks ≡ true

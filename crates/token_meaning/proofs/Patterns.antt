@@ -7,7 +7,7 @@ use Rattle.token_meaning.specs.declared.refusal.MeaningRefusal.TheVariants.{Pack
 use Rattle.token_meaning.specs.declared.token.TokenName.TheVariants.{Unqualified, Keyword, External, Internal}
 use Rattle.token_meaning.specs.Numerals.{is_empty, cut_at_first, with_first}
 use Rattle.token_scan.specs.Marks.{characters}
-use Rattle.token_meaning.specs.Meanings.{name, is_package_marker, pattern, name_of}
+use Rattle.token_meaning.specs.Meanings.{name, is_package_marker, pattern, name_of_marks}
 use Rattle.token_meaning.specs.Results.{begins_with_marker, is_one_part}
 
 -- ---- the parts between package markers
@@ -133,7 +133,7 @@ none_marked (m ∷ ms) e =
     as (λ b. (if b then Some ([], ms) else option_map (with_first m) (cut_at_first is_package_marker ms)) ≡ None → (b || list_any is_package_marker ms) ≡ false)
     [ true ↦ λ f. absurd cc | false ↦ λ f. none_marked ms (behind_none m _ f) ] e
 
-pub unmarked : (marks : List Mark) → cut_at_first is_package_marker marks ≡ None → name_of marks ≡ Ok (name (Unqualified (characters marks)))
+pub unmarked : (marks : List Mark) → cut_at_first is_package_marker marks ≡ None → name_of_marks marks ≡ Ok (name (Unqualified (characters marks)))
 unmarked marks e = rw (whole_part marks (none_marked marks e)) refl
 
 -- the parts of a token are what is before the first package marker and the parts after it

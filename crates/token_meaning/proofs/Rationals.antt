@@ -6,7 +6,7 @@ use Rattle.std.specs.Option.{option_map, option_or}
 use Rattle.std.proofs.lemmas.Bool.{and_from, and_left, and_right, eqb-true}
 use Rattle.lisp_object.specs.Object.{Object}
 use Rattle.token_meaning.specs.declared.refusal.MeaningRefusal.{MeaningRefusal}
-use Rattle.token_meaning.specs.Numerals.{is_digit_in, is_empty, are_digits, is_numeral, value, cut_at_first}
+use Rattle.token_meaning.specs.Numerals.{is_digit_in, is_empty, are_digits, is_numeral, numeral_value, cut_at_first}
 use Rattle.token_meaning.specs.Numbers.{is_slash, integer_of, ratio_of, integer_form, ratio_form, rational_form}
 use Rattle.token_meaning.specs.Leading.{IsLeading, after_code}
 use Rattle.token_meaning.proofs.Parts.{cut_with, cut_without, cut_past, onto_front}
@@ -36,7 +36,7 @@ far_slash : (base : ℕ) (negative : Bool) (ds : List ℕ) (c : ℕ) (o : Option
     → ratio_form base negative (option_map (onto_front ds c) o) ≡ None
 far_slash base negative ds c None e = refl
 far_slash base negative ds c (Some parts) e =
-    passed_over (is_numeral base (ds ++ c ∷ parts.0) && is_numeral base parts.1) (ratio_of negative (value base (ds ++ c ∷ parts.0)) (value base parts.1))
+    passed_over (is_numeral base (ds ++ c ∷ parts.0) && is_numeral base parts.1) (ratio_of negative (numeral_value base (ds ++ c ∷ parts.0)) (numeral_value base parts.1))
     (and_left _ _ (mixed base ds c parts.0 e))
 
 no_ratio : (base : ℕ) (negative : Bool) (ds : List ℕ) (c : ℕ) (cs : List ℕ) → base ≤ 36 → are_digits base ds ≡ true → is_digit_in base c ≡ false
@@ -45,12 +45,12 @@ no_ratio base negative ds c cs top are e false slash none =
     ap (ratio_form base negative) (cut_past is_slash ds c cs (no_slash base ds top are) slash) ∙ far_slash base negative ds c (cut_at_first is_slash cs) e
 no_ratio base negative ds c cs top are e true slash none =
     ap (ratio_form base negative) (cut_with is_slash ds c cs (no_slash base ds top are) slash)
-    ∙ passed_over (is_numeral base ds && is_numeral base cs) (ratio_of negative (value base ds) (value base cs)) (and_left _ _ (and_left _ _ none))
+    ∙ passed_over (is_numeral base ds && is_numeral base cs) (ratio_of negative (numeral_value base ds) (numeral_value base cs)) (and_left _ _ (and_left _ _ none))
 
 no_rational : (base : ℕ) (negative : Bool) (ds : List ℕ) (c : ℕ) (cs : List ℕ) → base ≤ 36 → are_digits base ds ≡ true → is_digit_in base c ≡ false
     → (is_slash c && not (is_empty ds)) ≡ false → rational_form base negative (ds ++ c ∷ cs) ≡ None
 no_rational base negative ds c cs top are e none =
-    neither _ _ (passed_over (is_numeral base (ds ++ c ∷ cs)) (integer_of negative (value base (ds ++ c ∷ cs))) (mixed base ds c cs e))
+    neither _ _ (passed_over (is_numeral base (ds ++ c ∷ cs)) (integer_of negative (numeral_value base (ds ++ c ∷ cs))) (mixed base ds c cs e))
     (no_ratio base negative ds c cs top are e (is_slash c) refl none)
 
 -- ---- the cases of a text that begins with digits
@@ -67,17 +67,17 @@ rational_without base negative text (c ∷ rest) size top h =
     ∙ no_rational base negative h.leads.digits c rest top h.leads.are h.ends (and_right _ _ (sym h.leads.there))
 
 pub rational_whole : (base : ℕ) (negative : Bool) (text : List ℕ) (size : Option ℕ) → (h : IsLeading base text true size [])
-    → rational_form base negative text ≡ Some (integer_of negative (value base h.leads.digits))
+    → rational_form base negative text ≡ Some (integer_of negative (numeral_value base h.leads.digits))
 rational_whole base negative text size h =
     ap (rational_form base negative) (h.leads.split ∙ append-nil h.leads.digits)
-    ∙ (rw (taken (is_numeral base h.leads.digits) (integer_of negative (value base h.leads.digits)) (and_from _ _ (sym h.leads.there) h.leads.are)) refl)
+    ∙ (rw (taken (is_numeral base h.leads.digits) (integer_of negative (numeral_value base h.leads.digits)) (and_from _ _ (sym h.leads.there) h.leads.are)) refl)
 
 pub rational_over : (base : ℕ) (negative : Bool) (text below : List ℕ) (size : Option ℕ) → base ≤ 36 → (h : IsLeading base text true size (47 ∷ below))
-    → is_numeral base below ≡ true → rational_form base negative text ≡ Some (ratio_of negative (value base h.leads.digits) (value base below))
+    → is_numeral base below ≡ true → rational_form base negative text ≡ Some (ratio_of negative (numeral_value base h.leads.digits) (numeral_value base below))
 rational_over base negative text below size top h e =
     let ds = h.leads.digits in
     ap (rational_form base negative) h.leads.split
-    ∙ by_second _ _ _ (passed_over (is_numeral base (ds ++ 47 ∷ below)) (integer_of negative (value base (ds ++ 47 ∷ below))) (mixed base ds 47 below h.ends))
+    ∙ by_second _ _ _ (passed_over (is_numeral base (ds ++ 47 ∷ below)) (integer_of negative (numeral_value base (ds ++ 47 ∷ below))) (mixed base ds 47 below h.ends))
     (ap (ratio_form base negative) (cut_with is_slash ds 47 below (no_slash base ds top h.leads.are) refl)
     ∙ taken (is_numeral base ds && is_numeral base below) _ (and_from _ _ (and_from _ _ (sym h.leads.there) h.leads.are) e))
 
@@ -86,9 +86,9 @@ pub rational_under : (base : ℕ) (negative : Bool) (text below : List ℕ) (som
 rational_under base negative text below some size top h e =
     let ds = h.leads.digits in
     ap (rational_form base negative) h.leads.split
-    ∙ neither _ _ (passed_over (is_numeral base (ds ++ 47 ∷ below)) (integer_of negative (value base (ds ++ 47 ∷ below))) (mixed base ds 47 below h.ends))
+    ∙ neither _ _ (passed_over (is_numeral base (ds ++ 47 ∷ below)) (integer_of negative (numeral_value base (ds ++ 47 ∷ below))) (mixed base ds 47 below h.ends))
     (ap (ratio_form base negative) (cut_with is_slash ds 47 below (no_slash base ds top h.leads.are) refl)
-    ∙ passed_over (is_numeral base ds && is_numeral base below) (ratio_of negative (value base ds) (value base below)) (and_right _ _ e))
+    ∙ passed_over (is_numeral base ds && is_numeral base below) (ratio_of negative (numeral_value base ds) (numeral_value base below)) (and_right _ _ e))
 
 no_slash_here : (c : ℕ) (cs : List ℕ) (b : Bool) → (c == 47) ≡ b → (if b then Some cs else None) ≡ None → is_slash c ≡ false
 no_slash_here c cs true e none = absurd cc

@@ -11,7 +11,7 @@ use Rattle.token_meaning.specs.declared.refusal.MeaningRefusal.{MeaningRefusal}
 use Rattle.token_meaning.specs.declared.refusal.MeaningRefusal.TheVariants.{DotsOnly, FloatToken, NumberRange, ZeroDenominator, PackageMarkers}
 use Rattle.token_meaning.specs.declared.token.TokenName.TheVariants.{Unqualified, Keyword, External, Internal}
 use Rattle.token_meaning.specs.Folding.{folded}
-use Rattle.token_meaning.specs.Numerals.{value}
+use Rattle.token_meaning.specs.Numerals.{numeral_value}
 use Rattle.token_meaning.specs.Meanings.{Meaning, number, dot, name, meaning_of, rational_of}
 
 -- base, marks of a token, and what it means
@@ -87,7 +87,7 @@ tokens =
     (10, (Plain 65 ∷ Bar ∷ Quoted 32 ∷ [], Ok (name (Unqualified (codes "A "))))) ∷ []
 
 tokens_mean : map (λ r. meaning_of r.0 r.1.0) tokens ≡ map (λ r. r.1.1) tokens
-unfolding tokens value greatest_divisor
+unfolding tokens numeral_value greatest_divisor
 tokens_mean = refl
 
 -- base, marks of a token, and the rational that it is
@@ -101,7 +101,7 @@ rationals =
     (10, (Plain 49 ∷ Bar ∷ [], None)) ∷ []
 
 rationals_mean : map (λ r. rational_of r.0 r.1.0) rationals ≡ map (λ r. r.1.1) rationals
-unfolding rationals value greatest_divisor
+unfolding rationals numeral_value greatest_divisor
 rationals_mean = refl
 
 -- case, marks of a token, and these marks folded

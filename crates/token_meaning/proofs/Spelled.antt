@@ -8,7 +8,7 @@ use Rattle.std.proofs.lemmas.List.Folds.{list_any-append}
 use Rattle.lisp_object.specs.Object.{Object}
 use Rattle.token_meaning.specs.declared.refusal.MeaningRefusal.{MeaningRefusal}
 use Rattle.token_meaning.specs.declared.refusal.MeaningRefusal.TheVariants.{FloatToken}
-use Rattle.token_meaning.specs.Numerals.{is_empty, is_numeral, are_digits, value, without_sign, is_negative, cut_at_first}
+use Rattle.token_meaning.specs.Numerals.{is_empty, is_numeral, are_digits, numeral_value, without_sign, is_negative, cut_at_first}
 use Rattle.token_meaning.specs.Numbers.{is_point, is_slash, is_exponent_marker, integer_of, ratio_of, decimal_form, ratio_form, is_pointed, is_mantissa, is_scaled, is_float, rational_form, unsigned_number, number_in_base, rational_number}
 use Rattle.token_meaning.specs.Grammar.{Sign, absent, plus, minus, spelled, is_minus, IsDigits, IsDecimal, IsInteger, IsRatio, IsExponent, IsPointed, IsScaled, IsFloat}
 use Rattle.token_meaning.proofs.Parts.{cut_with, cut_without, CutAt, cut_parts}
@@ -93,7 +93,7 @@ ratio_given base text negative numerator denominator top h =
     at_body base text h.sign (h.above ++ 47 ∷ h.below) negative h.parts (numeral_unsigned base h.above (47 ∷ h.below) top h.numeral_above) h.below_zero
     ∙ by_first _ _ _ (by_second _ _ _ (passed_over (is_numeral base (h.above ++ 47 ∷ h.below)) _ (mixed base h.above 47 h.below (slash_no_digit base 47 top refl)))
     (ap (ratio_form base negative) there ∙ taken (is_numeral base h.above && is_numeral base h.below) _ (and_from _ _ h.numeral_above h.numeral_below)))
-    ∙ ap (λ (p : ℕ × ℕ). Some (ratio_of negative p.0 p.1)) (let both : (value base h.above, value base h.below) ≡ (numerator, denominator) = rw (h.worth_above, h.worth_below) refl in both)
+    ∙ ap (λ (p : ℕ × ℕ). Some (ratio_of negative p.0 p.1)) (let both : (numeral_value base h.above, numeral_value base h.below) ≡ (numerator, denominator) = rw (h.worth_above, h.worth_below) refl in both)
 
 -- ---- the rationals of digits alone
 
@@ -112,7 +112,7 @@ rational_of_ratio base text negative numerator denominator top h =
     rational_body base text h.sign (h.above ++ 47 ∷ h.below) negative h.parts (numeral_unsigned base h.above (47 ∷ h.below) top h.numeral_above) h.below_zero
     ∙ by_second _ _ _ (passed_over (is_numeral base (h.above ++ 47 ∷ h.below)) _ (mixed base h.above 47 h.below (slash_no_digit base 47 top refl)))
     (ap (ratio_form base negative) there ∙ taken (is_numeral base h.above && is_numeral base h.below) _ (and_from _ _ h.numeral_above h.numeral_below))
-    ∙ ap (λ (p : ℕ × ℕ). Some (ratio_of negative p.0 p.1)) (let both : (value base h.above, value base h.below) ≡ (numerator, denominator) = rw (h.worth_above, h.worth_below) refl in both)
+    ∙ ap (λ (p : ℕ × ℕ). Some (ratio_of negative p.0 p.1)) (let both : (numeral_value base h.above, numeral_value base h.below) ≡ (numerator, denominator) = rw (h.worth_above, h.worth_below) refl in both)
 
 -- ---- floats
 
@@ -124,7 +124,7 @@ no_decimal base text None none at = refl
 no_decimal base text (Some parts) none at =
     elim (cases_Bool (is_numeral 10 parts.0 && is_empty parts.1)) [
       | inl e ↦ absurd (none _ _ (inr (decimal_is text parts at e)))
-      | inr e ↦ passed_over (is_numeral 10 parts.0 && is_empty parts.1) (integer_of (is_negative text) (value 10 parts.0)) e
+      | inr e ↦ passed_over (is_numeral 10 parts.0 && is_empty parts.1) (integer_of (is_negative text) (numeral_value 10 parts.0)) e
     ]
 
 no_digits : (base : ℕ) (text : List ℕ) → NoInteger base text → is_numeral base (without_sign text) ≡ false

@@ -17,9 +17,11 @@ on_plain change (Plain c) = Plain (change c)
 on_plain change (Quoted c) = Quoted c
 on_plain change Bar = Bar
 
+-- each letter that is not escaped in upper case
 abbrev pub in_upper_case : List Mark → List Mark
 in_upper_case marks = map (on_plain upper_case) marks
 
+-- each letter that is not escaped in lower case
 abbrev pub in_lower_case : List Mark → List Mark
 in_lower_case marks = map (on_plain lower_case) marks
 
@@ -29,9 +31,11 @@ is_plain_and test (Plain c) = test c
 is_plain_and test (Quoted c) = false
 is_plain_and test Bar = false
 
+-- whether a letter that is not escaped is in upper case
 abbrev pub has_upper_case : List Mark → Bool
 has_upper_case marks = list_any (is_plain_and is_upper_case) marks
 
+-- whether a letter that is not escaped is in lower case
 abbrev pub has_lower_case : List Mark → Bool
 has_lower_case marks = list_any (is_plain_and is_lower_case) marks
 

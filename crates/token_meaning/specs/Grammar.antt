@@ -4,7 +4,7 @@ use Rattle.std.specs.Prelude.{◌≡◌, ℕ, Bool, true, false, List, [], ◌�
 use Rattle.lisp_object.specs.Object.{Object}
 use Rattle.token_meaning.specs.declared.refusal.MeaningRefusal.{MeaningRefusal}
 use Rattle.token_meaning.specs.declared.refusal.MeaningRefusal.TheVariants.{FloatToken}
-use Rattle.token_meaning.specs.Numerals.{is_numeral, are_digits, value}
+use Rattle.token_meaning.specs.Numerals.{is_numeral, are_digits, numeral_value}
 use Rattle.token_meaning.specs.Numbers.{is_exponent_marker, integer_of, ratio_of}
 
 -- a sign, or none
@@ -31,7 +31,7 @@ pub record IsDigits (base : ℕ) (text : List ℕ) (negative : Bool) (size : ℕ
   pub numeral : is_numeral base digits ≡ true
   pub parts : text ≡ spelled sign ++ digits
   pub below_zero : negative ≡ is_minus sign
-  pub worth : size ≡ value base digits
+  pub worth : size ≡ numeral_value base digits
 
 -- [sign] decimal-digit+ decimal-point
 pub record IsDecimal (text : List ℕ) (negative : Bool) (size : ℕ) : Type 0 where
@@ -40,8 +40,9 @@ pub record IsDecimal (text : List ℕ) (negative : Bool) (size : ℕ) : Type 0 w
   pub numeral : is_numeral 10 digits ≡ true
   pub parts : text ≡ spelled sign ++ (digits ++ 46 ∷ [])
   pub below_zero : negative ≡ is_minus sign
-  pub worth : size ≡ value 10 digits
+  pub worth : size ≡ numeral_value 10 digits
 
+-- an integer, in the base or with a decimal point
 abbrev pub IsInteger : ℕ → List ℕ → Bool → ℕ → Type 0
 IsInteger base text negative size = IsDigits base text negative size ⊎ IsDecimal text negative size
 
@@ -54,8 +55,8 @@ pub record IsRatio (base : ℕ) (text : List ℕ) (negative : Bool) (numerator d
   pub numeral_below : is_numeral base below ≡ true
   pub parts : text ≡ spelled sign ++ (above ++ 47 ∷ below)
   pub below_zero : negative ≡ is_minus sign
-  pub worth_above : numerator ≡ value base above
-  pub worth_below : denominator ≡ value base below
+  pub worth_above : numerator ≡ numeral_value base above
+  pub worth_below : denominator ≡ numeral_value base below
 
 -- exponent-marker [sign] decimal-digit+
 pub record IsExponent (text : List ℕ) : Type 0 where
@@ -94,6 +95,7 @@ pub record IsScaled (text : List ℕ) : Type 0 where
   pub scale : IsExponent exponent
   pub parts : text ≡ spelled sign ++ (whole ++ (fraction ++ exponent))
 
+-- a float of either form (standard 2.3.2.2)
 abbrev pub IsFloat : List ℕ → Type 0
 IsFloat text = IsPointed text ⊎ IsScaled text
 

@@ -3,7 +3,7 @@ use Rattle.std.specs.Prelude.{◌≡◌, ◌<◌, ℕ, Bool, true, false, not, �
 use Rattle.std.specs.Char.{digit_value}
 use Rattle.token_scan.specs.declared.mark.Mark.{Mark}
 use Rattle.token_scan.specs.declared.mark.Mark.TheVariants.{Plain, Quoted, Bar}
-use Rattle.token_meaning.specs.Numerals.{is_digit_in, is_empty, are_digits, is_numeral, value, without_sign}
+use Rattle.token_meaning.specs.Numerals.{is_digit_in, is_empty, are_digits, is_numeral, numeral_value, without_sign}
 use Rattle.token_meaning.specs.Numbers.{is_point, is_exponent_marker}
 use Rattle.token_meaning.specs.Results.{IsWorth}
 
@@ -27,7 +27,7 @@ pub record Leads (base : ℕ) (text : List ℕ) (some : Bool) (size : Option ℕ
   pub split : text ≡ digits ++ rest
   pub are : are_digits base digits ≡ true
   pub there : some ≡ not (is_empty digits)
-  pub worth : IsWorth size (value base digits)
+  pub worth : IsWorth size (numeral_value base digits)
 
 abbrev pub begins_with_digit : ℕ → List ℕ → Bool
 begins_with_digit base [] = false
@@ -46,7 +46,7 @@ pub record IsLeading (base : ℕ) (text : List ℕ) (some : Bool) (size : Option
 -- the size of the text, where it is digits in the base alone
 abbrev pub IsNumeralSize : ℕ → List ℕ → Option (Option ℕ) → Type 0
 IsNumeralSize base text None = is_numeral base text ≡ false
-IsNumeralSize base text (Some size) = (is_numeral base text ≡ true) × IsWorth size (value base text)
+IsNumeralSize base text (Some size) = (is_numeral base text ≡ true) × IsWorth size (numeral_value base text)
 
 -- an exponent marker and decimal digits, perhaps with a sign between them (standard 2.3.2.2)
 abbrev pub is_exponent : List ℕ → Bool

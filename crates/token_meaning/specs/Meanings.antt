@@ -12,6 +12,7 @@ use Rattle.token_meaning.specs.declared.token.TokenName.{TokenName}
 use Rattle.token_meaning.specs.declared.token.TokenName.TheVariants.{Unqualified, Keyword, External, Internal}
 use Rattle.token_meaning.specs.Numbers.{is_point, number_in_base, rational_number}
 
+-- what a token means
 pub data Meaning : Type 0 where
   number : Object → Meaning
   dot : Meaning
@@ -19,6 +20,7 @@ pub data Meaning : Type 0 where
 
 -- ---- marks
 
+-- whether the mark is a character that is not escaped
 abbrev pub is_unescaped : Mark → Bool
 is_unescaped (Plain c) = true
 is_unescaped (Quoted c) = false
@@ -41,8 +43,9 @@ pattern ((p ∷ ps) ∷ (m ∷ ms) ∷ []) = Ok (name (External (characters (p �
 pattern ((p ∷ ps) ∷ [] ∷ (m ∷ ms) ∷ []) = Ok (name (Internal (characters (p ∷ ps)) (characters (m ∷ ms))))
 pattern _ = Err PackageMarkers
 
-abbrev pub name_of : List Mark → Result Meaning MeaningRefusal
-name_of marks = pattern (slice_split is_package_marker marks)
+-- a name, by the package markers in it (standard 2.3.5)
+abbrev pub name_of_marks : List Mark → Result Meaning MeaningRefusal
+name_of_marks marks = pattern (slice_split is_package_marker marks)
 
 -- ---- tokens
 
@@ -50,6 +53,7 @@ name_of marks = pattern (slice_split is_package_marker marks)
 abbrev pub dots_of : List ℕ → Result Meaning MeaningRefusal
 dots_of text = if length text == 1 then Ok dot else Err DotsOnly
 
+-- a number as what a token means, or why it is refused
 abbrev pub number_meaning : Result Object MeaningRefusal → Result Meaning MeaningRefusal
 number_meaning (Ok x) = Ok (number x)
 number_meaning (Err refusal) = Err refusal
@@ -57,7 +61,7 @@ number_meaning (Err refusal) = Err refusal
 -- what is no number is a name
 abbrev pub number_or_name : Option (Result Object MeaningRefusal) → List Mark → Result Meaning MeaningRefusal
 number_or_name (Some given) marks = number_meaning given
-number_or_name None marks = name_of marks
+number_or_name None marks = name_of_marks marks
 
 -- The meaning of a token with these marks, their case folded, in a base from 2 to 36.
 abbrev pub meaning_of : ℕ → List Mark → Result Meaning MeaningRefusal
@@ -65,7 +69,7 @@ meaning_of base marks =
     if list_all is_unescaped marks
     then (if list_all is_point (characters marks) then dots_of (characters marks)
     else number_or_name (number_in_base base (characters marks)) marks)
-    else name_of marks
+    else name_of_marks marks
 
 -- The marks of a token as an integer or a ratio of digits in the base, with no decimal point; None where they are none.
 abbrev pub rational_of : ℕ → List Mark → Option (Result Object MeaningRefusal)

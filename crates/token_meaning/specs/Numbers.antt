@@ -7,7 +7,7 @@ use Rattle.lisp_object.specs.Object.{Object, integer}
 use Rattle.lisp_object.specs.Quotient.{quotient}
 use Rattle.token_meaning.specs.declared.refusal.MeaningRefusal.{MeaningRefusal}
 use Rattle.token_meaning.specs.declared.refusal.MeaningRefusal.TheVariants.{FloatToken, NumberRange, ZeroDenominator}
-use Rattle.token_meaning.specs.Numerals.{is_empty, is_numeral, are_digits, value, without_sign, is_negative, signed, is_magnitude_in_range, cut_at_first}
+use Rattle.token_meaning.specs.Numerals.{is_empty, is_numeral, are_digits, numeral_value, without_sign, is_negative, signed, is_magnitude_in_range, cut_at_first}
 
 abbrev pub is_point : ℕ → Bool
 is_point c = c == 46
@@ -39,20 +39,20 @@ ratio_of negative numerator denominator =
 -- an integer: digits in the base
 abbrev pub integer_form : ℕ → Bool → List ℕ → Option (Result Object MeaningRefusal)
 integer_form base negative text =
-    if is_numeral base text then Some (integer_of negative (value base text)) else None
+    if is_numeral base text then Some (integer_of negative (numeral_value base text)) else None
 
 -- an integer: decimal digits, and the point at the end
 abbrev pub decimal_form : Bool → Option (List ℕ × List ℕ) → Option (Result Object MeaningRefusal)
 decimal_form negative None = None
 decimal_form negative (Some (whole, fraction)) =
-    if is_numeral 10 whole && is_empty fraction then Some (integer_of negative (value 10 whole)) else None
+    if is_numeral 10 whole && is_empty fraction then Some (integer_of negative (numeral_value 10 whole)) else None
 
 -- a ratio: digits in the base on both sides of the slash
 abbrev pub ratio_form : ℕ → Bool → Option (List ℕ × List ℕ) → Option (Result Object MeaningRefusal)
 ratio_form base negative None = None
 ratio_form base negative (Some (numerator, denominator)) =
     if is_numeral base numerator && is_numeral base denominator
-    then Some (ratio_of negative (value base numerator) (value base denominator)) else None
+    then Some (ratio_of negative (numeral_value base numerator) (numeral_value base denominator)) else None
 
 -- a float without an exponent: decimal digits after the point, and perhaps before it
 abbrev pub is_pointed : Option (List ℕ × List ℕ) → Bool
@@ -70,9 +70,11 @@ abbrev pub is_scaled : Option (List ℕ × List ℕ) → Bool
 is_scaled None = false
 is_scaled (Some (mantissa, exponent)) = is_mantissa mantissa (cut_at_first is_point mantissa) && is_numeral 10 (without_sign exponent)
 
+-- a text without its sign is a float (standard 2.3.2.2)
 abbrev pub is_float : List ℕ → Bool
 is_float text = is_pointed (cut_at_first is_point text) || is_scaled (cut_at_first is_exponent_marker text)
 
+-- a float is refused, as there are no floats
 abbrev pub float_form : List ℕ → Option (Result Object MeaningRefusal)
 float_form text = if is_float text then Some (Err FloatToken) else None
 
@@ -86,6 +88,7 @@ rational_form base negative text = option_or (integer_form base negative text) (
 abbrev pub decimal_or_float_form : Bool → List ℕ → Option (Result Object MeaningRefusal)
 decimal_or_float_form negative text = option_or (decimal_form negative (cut_at_first is_point text)) (float_form text)
 
+-- a text without its sign: an integer or a ratio in the base, and else a decimal integer or a float
 abbrev pub unsigned_number : ℕ → Bool → List ℕ → Option (Result Object MeaningRefusal)
 unsigned_number base negative text = option_or (rational_form base negative text) (decimal_or_float_form negative text)
 

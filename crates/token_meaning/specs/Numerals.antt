@@ -12,6 +12,7 @@ abbrev pub is_empty : {X : Type 0} → List X → Bool
 is_empty [] = true
 is_empty (x ∷ xs) = false
 
+-- each of these is a digit in the base
 abbrev pub are_digits : ℕ → List ℕ → Bool
 are_digits base text = list_all (is_digit_in base) text
 
@@ -20,18 +21,20 @@ abbrev pub is_numeral : ℕ → List ℕ → Bool
 is_numeral base text = not (is_empty text) && are_digits base text
 
 -- the sum of each digit times the power of the base that belongs to its place
-unfoldable pub value : ℕ → List ℕ → ℕ
-value base [] = 0
-value base (d ∷ ds) = digit_value d * base ^ length ds + value base ds
+unfoldable pub numeral_value : ℕ → List ℕ → ℕ
+numeral_value base [] = 0
+numeral_value base (d ∷ ds) = digit_value d * base ^ length ds + numeral_value base ds
 
 -- 43 is plus, 45 minus
 abbrev pub is_sign : ℕ → Bool
 is_sign c = c == 43 || c == 45
 
+-- what comes after the sign; all of it, if there is none
 abbrev pub without_sign : List ℕ → List ℕ
 without_sign [] = []
 without_sign (c ∷ cs) = if is_sign c then cs else c ∷ cs
 
+-- whether it begins with a minus
 abbrev pub is_negative : List ℕ → Bool
 is_negative [] = false
 is_negative (c ∷ cs) = c == 45

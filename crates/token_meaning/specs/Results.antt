@@ -27,12 +27,14 @@ use Rattle.token_meaning.specs.Meanings.{Meaning, number, dot, name, is_package_
 
 -- ---- numbers of refusals
 
+-- the numbers under which a token is refused while it is read
 abbrev pub scan_refusal_number : ScanRefusal → ℕ
 scan_refusal_number EndOfFile = END_OF_FILE
 scan_refusal_number InvalidCharacter = INVALID_CHARACTER
 scan_refusal_number InvalidTrait = INVALID_TRAIT
 scan_refusal_number TokenTooLong = TOKEN_TOO_LONG
 
+-- the numbers under which a token is refused that was read
 abbrev pub meaning_refusal_number : MeaningRefusal → ℕ
 meaning_refusal_number DotsOnly = DOTS_ONLY
 meaning_refusal_number FloatToken = FLOAT_TOKEN
@@ -58,9 +60,9 @@ Fails OutOfMemory meaning = (own : TokenName) × (meaning ≡ Ok (name own))
 Fails (Refused refusal) meaning = meaning ≡ Err refusal
 
 -- what was answered is what the definition gives, unless memory for a name ran out
-abbrev pub Gives : Result TokenMeaning MeaningError → Result Meaning MeaningRefusal → Type 0
-Gives (Ok answer) meaning = meaning ≡ Ok (view_meaning answer)
-Gives (Err error) meaning = Fails error meaning
+abbrev pub AnswersMeaning : Result TokenMeaning MeaningError → Result Meaning MeaningRefusal → Type 0
+AnswersMeaning (Ok answer) meaning = meaning ≡ Ok (view_meaning answer)
+AnswersMeaning (Err error) meaning = Fails error meaning
 
 -- a number is a proper datum
 abbrev pub IsProperNumber : TokenMeaning → Type 0

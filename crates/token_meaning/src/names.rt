@@ -3,7 +3,7 @@ ghost use Rattle.std.specs.Prelude.{◌≡◌, ◌<◌, ◌∷◌, [], false, le
 ghost use Rattle.std.specs.List.{list_any, slice_split};
 ghost use Rattle.token_scan.specs.Marks.{characters, are_ascii};
 ghost use Rattle.token_meaning.specs.Numerals.{is_empty, cut_at_first};
-ghost use Rattle.token_meaning.specs.Meanings.{name as named, is_package_marker, pattern, name_of};
+ghost use Rattle.token_meaning.specs.Meanings.{name as named, is_package_marker, pattern, name_of_marks};
 ghost use Rattle.token_meaning.specs.Results.{Fails, begins_with_marker, is_one_part, parts_of, is_ascii_name, name_of_parts, view_parts};
 
 use crate::{MeaningError, MeaningRefusal, TokenName};
@@ -22,8 +22,8 @@ enum NameParts<'a> {
 
 /// The name of a token with these marks.
 pub(crate) fn name(alloc: Global, marks: &[Mark]) -> Result<TokenName, MeaningError>
-    ensures gives { MatchResult result (λ own. name_of marks.now ≡ Ok (named own))
-        (λ error. Fails error (name_of marks.now)) }
+    ensures gives { MatchResult result (λ own. name_of_marks marks.now ≡ Ok (named own))
+        (λ error. Fails error (name_of_marks marks.now)) }
     ensures ascii { IsTrue (are_ascii marks.now) → IfOk result (λ own. is_ascii_name own ≡ true) }
 {
     let parts = name_parts(marks)?;
@@ -60,7 +60,7 @@ fn bytes(alloc: Global, marks: &[Mark]) -> Result<Bytes, AllocError>
 
 /// The parts of a token with these marks. Takes no memory.
 fn name_parts(marks: &[Mark]) -> Result<NameParts<'_>, MeaningRefusal>
-    ensures { name_of marks.now ≡ view_parts result }
+    ensures { name_of_marks marks.now ≡ view_parts result }
 {
     match cut_at_marker(marks) {
         None => Ok(NameParts::Unqualified(marks)),

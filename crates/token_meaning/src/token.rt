@@ -3,9 +3,9 @@ ghost use Rattle.std.specs.Prelude.{◌≡◌, ◌<◌, ◌≤◌, length, true,
 ghost use Rattle.std.specs.List.{list_all};
 ghost use Rattle.lisp_object.specs.Datum.{is_proper};
 ghost use Rattle.token_scan.specs.Marks.{are_ascii};
-ghost use Rattle.token_meaning.specs.Meanings.{is_unescaped, name_of, dots_of, number_meaning, meaning_of, rational_of};
+ghost use Rattle.token_meaning.specs.Meanings.{is_unescaped, name_of_marks, dots_of, number_meaning, meaning_of, rational_of};
 ghost use Rattle.token_meaning.specs.Leading.{codes_of, is_dot};
-ghost use Rattle.token_meaning.specs.Results.{Gives, view_number, IsProperNumber, IsAsciiName};
+ghost use Rattle.token_meaning.specs.Results.{AnswersMeaning, view_number, IsProperNumber, IsAsciiName};
 
 use crate::names::name;
 use crate::numbers::{number, rational_number};
@@ -49,7 +49,7 @@ pub fn meaning(alloc: Global, marks: &[Mark], base: u8) -> Result<TokenMeaning, 
     requires marks { 0 < length marks.now }
     requires lowest_base { 2 ≤ base }
     requires highest_base { base ≤ 36 }
-    ensures gives { Gives result (meaning_of base marks.now) }
+    ensures gives { AnswersMeaning result (meaning_of base marks.now) }
     ensures proper { IfOk result IsProperNumber }
     ensures ascii { IsTrue (are_ascii marks.now) → IfOk result IsAsciiName }
 {
@@ -99,7 +99,7 @@ fn are_dots(marks: &[Mark]) -> bool
 
 fn numbered(given: Result<Datum, MeaningRefusal>) -> Result<TokenMeaning, MeaningError>
     requires { IfOk given (λ datum. is_proper datum ≡ true) }
-    ensures gives { Gives result (number_meaning (view_number given)) }
+    ensures gives { AnswersMeaning result (number_meaning (view_number given)) }
     ensures proper { IfOk result IsProperNumber }
     ensures ascii { IfOk result IsAsciiName }
 {
@@ -110,7 +110,7 @@ fn numbered(given: Result<Datum, MeaningRefusal>) -> Result<TokenMeaning, Meanin
 }
 
 fn named(alloc: Global, marks: &[Mark]) -> Result<TokenMeaning, MeaningError>
-    ensures gives { Gives result (name_of marks.now) }
+    ensures gives { AnswersMeaning result (name_of_marks marks.now) }
     ensures proper { IfOk result IsProperNumber }
     ensures ascii { IsTrue (are_ascii marks.now) → IfOk result IsAsciiName }
 {
@@ -122,7 +122,7 @@ fn named(alloc: Global, marks: &[Mark]) -> Result<TokenMeaning, MeaningError>
 
 /// What dots alone mean (standard 2.3.3).
 fn dots(marks: &[Mark]) -> Result<TokenMeaning, MeaningError>
-    ensures gives { Gives result (dots_of (codes_of marks.now)) }
+    ensures gives { AnswersMeaning result (dots_of (codes_of marks.now)) }
     ensures proper { IfOk result IsProperNumber }
     ensures ascii { IfOk result IsAsciiName }
 {

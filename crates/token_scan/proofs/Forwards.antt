@@ -7,9 +7,9 @@ use Rattle.token_scan.specs.declared.mark.Mark.{Mark}
 use Rattle.token_scan.specs.declared.mark.Mark.TheVariants.{Plain, Quoted, Bar}
 use Rattle.token_scan.specs.declared.stage.Stage.{Stage}
 use Rattle.token_scan.specs.declared.stage.Stage.TheVariants.{Outside, Inside, EscapedOutside, EscapedInside, Refused}
-use Rattle.token_scan.specs.Tokens.{TypedByte, kind, is_character, Scanned, with_front, escaped, outside, inside}
+use Rattle.token_scan.specs.Tokens.{TypedByte, kind, is_character, Scanned, with_front, after_single_escape, outside, inside}
 use Rattle.token_scan.specs.Spelling.{is_plain_syntax, ends_tokens}
-use Rattle.token_scan.specs.Scans.{Scan, from_stage, is_empty_token, has_begun, token_from}
+use Rattle.token_scan.specs.ByteByByte.{Scan, from_stage, is_empty_token, has_begun, token_from}
 use Rattle.token_scan.proofs.Steps.{outside_ends, outside_plain, outside_escape, outside_bar, outside_invalid, inside_between, inside_escape, inside_bar, inside_invalid}
 
 abbrev pub Forwards : ℕ → Scanned → Type 0
@@ -67,7 +67,7 @@ inside_forwards x xs left at after = by_kind (kind x) refl
     by_kind MultipleEscape e = rw (inside_bar x xs left at e) (put_after (Bar ∷ []) at _ (from_next at _ (after Outside left (at + 1))))
     by_kind Invalid e = rw (inside_invalid x xs left at e) (omega arith)
 
-escaped_forwards : (x : TypedByte) (left at : ℕ) (more : ℕ → Scanned) → Forwards (at + 1) (more (left - 1)) → Forwards at (escaped x left at more)
+escaped_forwards : (x : TypedByte) (left at : ℕ) (more : ℕ → Scanned) → Forwards (at + 1) (more (left - 1)) → Forwards at (after_single_escape x left at more)
 escaped_forwards x left at more h =
     chosen (is_character x) at _ _
     (chosen (left == 0) at _ _ (omega arith) (put_after (Quoted x.byte ∷ []) at _ (from_next at _ h)))

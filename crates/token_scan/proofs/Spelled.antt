@@ -5,7 +5,7 @@ use Rattle.readtable_core.specs.declared.characters.Syntax.{Syntax}
 use Rattle.readtable_core.specs.declared.characters.Syntax.TheVariants.{SingleEscape, MultipleEscape, Invalid}
 use Rattle.token_scan.specs.declared.mark.Mark.{Mark}
 use Rattle.token_scan.specs.declared.mark.Mark.TheVariants.{Plain, Quoted, Bar}
-use Rattle.token_scan.specs.Tokens.{TypedByte, is_character, kind, Scanned, with_front, plain, quoted, escaped, outside, inside, escaped_token}
+use Rattle.token_scan.specs.Tokens.{TypedByte, is_character, kind, Scanned, with_front, plain, escaped_character, after_single_escape, outside, inside, escaped_token}
 use Rattle.token_scan.specs.Marks.{character_count, is_ascii_mark, are_ascii}
 use Rattle.token_scan.specs.Spelling.{Spells, nothing, plain as spells_plain, between, escaped as spells_escaped, bar, SpellsEscaped, first as spells_first, may_end, is_plain_syntax, ends_tokens}
 use Rattle.token_scan.proofs.Steps.{outside_ends, outside_plain, outside_escape, outside_bar, inside_between, inside_escape, inside_bar, room, plain_taken, escaped_taken}
@@ -35,7 +35,7 @@ more : (mark : Mark) (marks : List Mark) (rest : List TypedByte) (there offset :
 more mark marks rest there offset r e p = ap (with_front (mark ∷ [])) e ∙ (λ i. Ok (mark ∷ marks, p i, rest))
 
 pub escape_at : (bars : Bool) (escape x : TypedByte) (xs : List TypedByte) (left at : ℕ) → kind escape ≡ SingleEscape
-    → from_bars bars left at (escape ∷ x ∷ xs) ≡ escaped x left (at + 1) (λ left. from_bars bars left (at + 1 + 1) xs)
+    → from_bars bars left at (escape ∷ x ∷ xs) ≡ after_single_escape x left (at + 1) (λ left. from_bars bars left (at + 1 + 1) xs)
 unfolding outside
 escape_at false escape x xs left at e = outside_escape escape (x ∷ xs) left at e
 escape_at true escape x xs left at e = inside_escape escape (x ∷ xs) left at e
@@ -56,7 +56,7 @@ spelled_gives (spells_plain x xs marks is trait s) left at rest fits ends =
     ∙ more (Plain x.byte) marks rest _ _ _ (spelled_gives s (left - 1) (at + 1) rest (omega (arith, fits, plain_counts x.byte marks)) ends) (omega arith)
 spelled_gives (between x xs marks is s) left at rest fits ends =
     inside_between x (xs ++ rest) left at is
-    ∙ room left at (λ left. quoted x.byte (inside left (at + 1) (xs ++ rest))) (omega (arith, fits, quoted_counts x.byte marks))
+    ∙ room left at (λ left. escaped_character x.byte (inside left (at + 1) (xs ++ rest))) (omega (arith, fits, quoted_counts x.byte marks))
     ∙ more (Quoted x.byte) marks rest _ _ _ (spelled_gives s (left - 1) (at + 1) rest (omega (arith, fits, quoted_counts x.byte marks)) ends) (omega arith)
 spelled_gives (spells_escaped bars escape x xs marks is character s) left at rest fits ends =
     escape_at bars escape x (xs ++ rest) left at is

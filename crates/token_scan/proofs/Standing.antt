@@ -5,7 +5,7 @@ use Rattle.readtable_core.specs.Tables.{Table}
 use Rattle.token_scan.specs.declared.mark.Mark.{Mark}
 use Rattle.token_scan.specs.Tokens.{TypedByte, Scanned, typed, typed_text, in_bytes, token, token_in, escaped_token, escaped_token_in}
 use Rattle.token_scan.specs.Marks.{character_count}
-use Rattle.token_scan.specs.Spelling.{Spells, SpellsEscaped, Stands, may_end}
+use Rattle.token_scan.specs.Spelling.{Spells, SpellsEscaped, IsSpelledAt, may_end}
 use Rattle.token_scan.proofs.Spelled.{spelled_gives, escaped_gives}
 use Rattle.token_scan.proofs.Split.{SplitsBy, splits, escaped_token_splits}
 
@@ -57,7 +57,7 @@ given_again spells scanned table limit at taken marks other gives again spelled 
 
 stands : (spells : List TypedByte → List Mark → Type 0) (scanned : List TypedByte → Scanned) (table : Table) (limit at : ℕ) (text : List ℕ) (r : Scanned)
     → GivesBy spells scanned limit at → SplitsBy spells limit at (typed_text table text) r
-    → IfOk (in_bytes r) (λ t. Stands table (λ other. in_bytes (scanned (typed_text table other))) at text t.0 t.1 t.2)
+    → IfOk (in_bytes r) (λ t. IsSpelledAt table (λ other. in_bytes (scanned (typed_text table other))) at text t.0 t.1 t.2)
 stands spells scanned table limit at text (Ok (marks, «end», rest)) gives s =
     let both = typed_again table text s.taken rest s.split in
     record {
@@ -72,14 +72,14 @@ stands spells scanned table limit at text (Err e) gives s = tt
 
 -- what a token takes of a text
 pub token_stands : (table : Table) (limit at : ℕ) (text : List ℕ)
-    → IfOk (token_in table limit at text) (λ t. Stands table (token_in table limit at) at text t.0 t.1 t.2)
+    → IfOk (token_in table limit at text) (λ t. IsSpelledAt table (token_in table limit at) at text t.0 t.1 t.2)
 token_stands table limit at text =
     stands (Spells false) (token limit at) table limit at text _ (λ taken marks rest s fits ends. spelled_gives s limit at rest fits ends)
     (splits limit at (typed_text table text))
 
 -- the same where the first character is taken as an escaped one
 pub escaped_token_stands : (table : Table) (limit at : ℕ) (text : List ℕ)
-    → IfOk (escaped_token_in table limit at text) (λ t. Stands table (escaped_token_in table limit at) at text t.0 t.1 t.2)
+    → IfOk (escaped_token_in table limit at text) (λ t. IsSpelledAt table (escaped_token_in table limit at) at text t.0 t.1 t.2)
 escaped_token_stands table limit at text =
     stands SpellsEscaped (escaped_token limit at) table limit at text _ (λ taken marks rest s fits ends. escaped_gives s limit at rest fits ends)
     (escaped_token_splits limit at (typed_text table text))

@@ -5,7 +5,7 @@ use Rattle.readtable_core.specs.declared.characters.Syntax.TheVariants.{Whitespa
 use Rattle.readtable_core.specs.Characters.{has_invalid_trait}
 use Rattle.token_scan.specs.declared.mark.Mark.TheVariants.{Plain, Bar}
 use Rattle.token_scan.specs.declared.refusal.ScanRefusal.TheVariants.{InvalidCharacter}
-use Rattle.token_scan.specs.Tokens.{TypedByte, kind, is_character, Scanned, fault_of_scan, with_front, one_more, plain, quoted, escaped, outside, inside, escaped_outside, escaped_inside}
+use Rattle.token_scan.specs.Tokens.{TypedByte, kind, is_character, Scanned, fault_of_scan, with_front, one_more, plain, escaped_character, after_single_escape, outside, inside, escaped_outside, escaped_inside}
 use Rattle.token_scan.specs.Spelling.{is_plain_syntax, ends_tokens}
 
 -- ---- outside multiple escapes
@@ -49,12 +49,12 @@ outside_invalid x xs left at e = rw (e, outside) refl
 -- ---- between multiple escapes
 
 pub inside_between : (x : TypedByte) (xs : List TypedByte) (left at : ℕ) → IsTrue (is_plain_syntax (kind x) || ends_tokens (kind x))
-    → inside left at (x ∷ xs) ≡ one_more left at (λ left. quoted x.byte (inside left (at + 1) xs))
+    → inside left at (x ∷ xs) ≡ one_more left at (λ left. escaped_character x.byte (inside left (at + 1) xs))
 unfolding outside
 inside_between x xs left at is = by_kind (kind x) refl is
   where
     by_kind : (k : Syntax) → kind x ≡ k → IsTrue (is_plain_syntax k || ends_tokens k)
-        → inside left at (x ∷ xs) ≡ one_more left at (λ left. quoted x.byte (inside left (at + 1) xs))
+        → inside left at (x ∷ xs) ≡ one_more left at (λ left. escaped_character x.byte (inside left (at + 1) xs))
     by_kind Whitespace e t = rw (e, inside) refl
     by_kind TerminatingMacro e t = rw (e, inside) refl
     by_kind Constituent e t = rw (e, inside) refl
@@ -85,5 +85,5 @@ pub plain_taken : (c left at : ℕ) (more : Scanned) → has_invalid_trait c ≡
 plain_taken c left at more e = rw e refl
 
 pub escaped_taken : (x : TypedByte) (left at : ℕ) (more : ℕ → Scanned) → IsTrue (is_character x) → 0 < left
-    → escaped x left at more ≡ quoted x.byte (more (left - 1))
-escaped_taken x left at more e h = rw e (room left at (λ left. quoted x.byte (more left)) h)
+    → after_single_escape x left at more ≡ escaped_character x.byte (more (left - 1))
+escaped_taken x left at more e h = rw e (room left at (λ left. escaped_character x.byte (more left)) h)

@@ -1,4 +1,4 @@
 pub mod Marks
 pub mod Tokens
 pub mod Spelling
-pub mod Scans
+pub mod ByteByByte

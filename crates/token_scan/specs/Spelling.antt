@@ -64,7 +64,7 @@ pub record Splits (spells : List TypedByte → List Mark → Type 0) (limit at :
 
 -- A text of bytes under a readtable splits, and the bytes taken give the same token before each text where one may end.
 -- `scanned` is what a text gives as a token.
-pub record Stands (table : Table) (scanned : List ℕ → ScannedBytes) (at : ℕ) (text : List ℕ)
+pub record IsSpelledAt (table : Table) (scanned : List ℕ → ScannedBytes) (at : ℕ) (text : List ℕ)
     (marks : List Mark) («end» : ℕ) (rest : List ℕ) : Type 0 where
   pub taken : List ℕ
   pub split : text ≡ taken ++ rest

@@ -52,13 +52,13 @@ abbrev pub plain : ℕ → ℕ → Scanned → Scanned
 plain c at more = if has_invalid_trait c then fault_of_scan InvalidTrait at else with_front (Plain c ∷ []) more
 
 -- a character after a single escape or between multiple escapes
-abbrev pub quoted : ℕ → Scanned → Scanned
-quoted c more = with_front (Quoted c ∷ []) more
+abbrev pub escaped_character : ℕ → Scanned → Scanned
+escaped_character c more = with_front (Quoted c ∷ []) more
 
 -- what comes after a single escape: any character, whatever its syntax type
-abbrev pub escaped : TypedByte → ℕ → ℕ → (ℕ → Scanned) → Scanned
-escaped x left at more =
-    if is_character x then one_more left at (λ left. quoted x.byte (more left)) else fault_of_scan InvalidCharacter at
+abbrev pub after_single_escape : TypedByte → ℕ → ℕ → (ℕ → Scanned) → Scanned
+after_single_escape x left at more =
+    if is_character x then one_more left at (λ left. escaped_character x.byte (more left)) else fault_of_scan InvalidCharacter at
 
 -- What a token gives from this offset of a text on, where so many characters may still come. A byte that ends the token is
 -- not taken.
@@ -82,10 +82,10 @@ unfoldable mutual
   inside left at [] = fault_of_scan EndOfFile at
   inside left at (x ∷ xs) =
       elim (kind x) [
-        | Whitespace ↦ one_more left at (λ left. quoted x.byte (inside left (at + 1) xs))
-        | TerminatingMacro ↦ one_more left at (λ left. quoted x.byte (inside left (at + 1) xs))
-        | Constituent ↦ one_more left at (λ left. quoted x.byte (inside left (at + 1) xs))
-        | NonTerminatingMacro ↦ one_more left at (λ left. quoted x.byte (inside left (at + 1) xs))
+        | Whitespace ↦ one_more left at (λ left. escaped_character x.byte (inside left (at + 1) xs))
+        | TerminatingMacro ↦ one_more left at (λ left. escaped_character x.byte (inside left (at + 1) xs))
+        | Constituent ↦ one_more left at (λ left. escaped_character x.byte (inside left (at + 1) xs))
+        | NonTerminatingMacro ↦ one_more left at (λ left. escaped_character x.byte (inside left (at + 1) xs))
         | SingleEscape ↦ escaped_inside left (at + 1) xs
         | MultipleEscape ↦ with_front (Bar ∷ []) (outside left (at + 1) xs)
         | Invalid ↦ fault_of_scan InvalidCharacter at
@@ -94,11 +94,11 @@ unfoldable mutual
   -- after a single escape, outside and between
   pub escaped_outside : ℕ → ℕ → List TypedByte → Scanned
   escaped_outside left at [] = fault_of_scan EndOfFile at
-  escaped_outside left at (x ∷ xs) = escaped x left at (λ left. outside left (at + 1) xs)
+  escaped_outside left at (x ∷ xs) = after_single_escape x left at (λ left. outside left (at + 1) xs)
 
   pub escaped_inside : ℕ → ℕ → List TypedByte → Scanned
   escaped_inside left at [] = fault_of_scan EndOfFile at
-  escaped_inside left at (x ∷ xs) = escaped x left at (λ left. inside left (at + 1) xs)
+  escaped_inside left at (x ∷ xs) = after_single_escape x left at (λ left. inside left (at + 1) xs)
 
 -- the token that begins at this offset, of at most so many characters: bars and escapes are not counted
 abbrev pub token : ℕ → ℕ → List TypedByte → Scanned

@@ -5,8 +5,8 @@ ghost use Rattle.token_scan.specs.declared.mark.Mark.{Mark};
 ghost use Rattle.token_scan.specs.declared.stage.Stage.TheVariants.{Outside};
 ghost use Rattle.token_scan.specs.Tokens.{TypedByte, token, token_in, escaped_token, escaped_token_in};
 ghost use Rattle.token_scan.specs.Marks.{character_count, are_ascii};
-ghost use Rattle.token_scan.specs.Spelling.{Spells, SpellsEscaped, Splits, Stands, may_end};
-ghost use Rattle.token_scan.specs.Scans.{Scan, has_begun, token_from};
+ghost use Rattle.token_scan.specs.Spelling.{Spells, SpellsEscaped, Splits, IsSpelledAt, may_end};
+ghost use Rattle.token_scan.specs.ByteByByte.{Scan, has_begun, token_from};
 
 /// What holds of every token (standard 2.2). A text that gives a token splits into the bytes that spell its marks, in
 /// whole, and the rest, which is empty or begins with a byte that ends a token; and each such text gives that token. Under
@@ -20,7 +20,7 @@ pub fn token_laws()
         Spells false taken marks → character_count marks ≤ limit → IsTrue (may_end rest)
         → token limit at (taken ++ rest) ≡ Ok (marks, at + length taken, rest) }
     ensures stands { (table : Table) (limit at : ℕ) (text : List ℕ) →
-        IfOk (token_in table limit at text) (λ t. Stands table (token_in table limit at) at text t.0 t.1 t.2) }
+        IfOk (token_in table limit at text) (λ t. IsSpelledAt table (token_in table limit at) at text t.0 t.1 t.2) }
     ensures ascii { (limit at : ℕ) (text : List TypedByte) →
         IfOk (token limit at text) (λ t. IsTrue (are_ascii t.0)) }
     ensures forwards { (scan : Scan) (at : ℕ) (text : List TypedByte) →
@@ -39,7 +39,7 @@ pub fn escaped_token_laws()
         → escaped_token limit at (taken ++ rest) ≡ Ok (marks, at + length taken, rest) }
     ensures stands { (table : Table) (limit at : ℕ) (text : List ℕ) →
         IfOk (escaped_token_in table limit at text)
-        (λ t. Stands table (escaped_token_in table limit at) at text t.0 t.1 t.2) }
+        (λ t. IsSpelledAt table (escaped_token_in table limit at) at text t.0 t.1 t.2) }
     ensures ascii { (limit at : ℕ) (text : List TypedByte) →
         IfOk (escaped_token limit at text) (λ t. IsTrue (are_ascii t.0)) }
 {}

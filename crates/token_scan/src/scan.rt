@@ -3,7 +3,7 @@ ghost use Rattle.std.specs.Prelude.{◌≡◌, ◌+◌, ◌-◌, ◌<◌, ℕ, i
 ghost use Rattle.token_scan.specs.declared.mark.Mark.TheVariants.{Plain, Quoted, Bar};
 ghost use Rattle.token_scan.specs.declared.refusal.ScanRefusal.TheVariants.{EndOfFile};
 ghost use Rattle.token_scan.specs.Marks.{is_ascii_mark, are_ascii};
-ghost use Rattle.token_scan.specs.Tokens.{TypedByte, met, kind, with_front, one_more, plain, quoted, escaped, outside, token, escaped_token, fault_of_scan};
+ghost use Rattle.token_scan.specs.Tokens.{TypedByte, met, kind, with_front, one_more, plain, escaped_character, after_single_escape, outside, token, escaped_token, fault_of_scan};
 ghost use Rattle.token_scan.specs.declared.stage.Stage.TheVariants.{Outside, Inside, EscapedOutside, EscapedInside, Refused};
 
 use crate::stage::Stage;
@@ -33,7 +33,7 @@ pub struct TokenScan {
 }
 
 impl Model for TokenScan {
-    ghost use Rattle.token_scan.specs.Scans.{Scan};
+    ghost use Rattle.token_scan.specs.ByteByByte.{Scan};
 
     ghost Value = { Scan };
 
@@ -47,7 +47,7 @@ impl Model for TokenScan {
 
 impl TokenScan {
     ghost use Rattle.token_scan.specs.declared.scan.FedByte.TheVariants.{More, Refused as FedRefused};
-    ghost use Rattle.token_scan.specs.Scans.{first_scan, begun_escaped, refused, from_stage, token_from, fed_gives, LeavesBy, ScanLeaves};
+    ghost use Rattle.token_scan.specs.ByteByByte.{first_scan, begun_escaped, refused, from_stage, token_from, fed_gives, LeavesBy, ScanLeaves};
 
     /// An empty token of at most `limit` characters, which bars and escapes are not. It keeps `alloc` for its marks.
     pub fn begin(alloc: Global, limit: usize) -> TokenScan
@@ -199,7 +199,7 @@ impl TokenScan {
     fn feed_escaped(&mut self, byte: u8, back: Stage) -> Result<FedByte, AllocError>
         ensures gives { (syntax : Syntax) (at : ℕ) (more : List TypedByte) → IfOk result (λ fed.
             with_front self.old.marks
-            (escaped (met syntax byte) self.old.left at (λ left. from_stage back left (at + 1) more))
+            (after_single_escape (met syntax byte) self.old.left at (λ left. from_stage back left (at + 1) more))
             ≡ fed_gives fed self.new at (met syntax byte) more) }
         ensures leaves { IfOk result (λ fed.
             LeavesBy (Quoted byte ∷ []) false fed self.old self.new) }
@@ -216,7 +216,7 @@ impl TokenScan {
     fn feed_quoted(&mut self, byte: u8, back: Stage) -> Result<FedByte, AllocError>
         requires { byte < 128 }
         ensures gives { (x : TypedByte) (at : ℕ) (more : List TypedByte) → IfOk result (λ fed.
-            with_front self.old.marks (one_more self.old.left at (λ left. quoted byte (from_stage back left (at + 1) more)))
+            with_front self.old.marks (one_more self.old.left at (λ left. escaped_character byte (from_stage back left (at + 1) more)))
             ≡ fed_gives fed self.new at x more) }
         ensures leaves { IfOk result (λ fed.
             LeavesBy (Quoted byte ∷ []) false fed self.old self.new) }

@@ -5,7 +5,7 @@ use Rattle.std.specs.Cmp.Lexicographic.{same_text}
 use Rattle.std.proofs.lemmas.Bool.{and_parts, and_from, or_cases, or_left, or_right}
 use Rattle.readtable_core.specs.Names.{is_among, is_standard, is_dispatch_name, same_name}
 use Rattle.readtable_core.specs.Tables.{standard}
-use Rattle.readtable_core.specs.Named.{functions_of}
+use Rattle.readtable_core.specs.NamedFunctions.{functions_of}
 use Rattle.readtable_core.proofs.Named.{standard_named}
 use Rattle.user_macros.specs.Registry.{is_covered}
 

@@ -27,6 +27,6 @@ named_answer functions name call = if is_among functions.names name then functio
 abbrev pub are_registered : (meant registered : Functions) → Bool
 are_registered meant registered = list_all (is_among registered.names) meant.names
 
--- none
+-- a program without macro functions
 abbrev pub no_functions : Functions
 no_functions = record { names = []; way = λ _. None; answer = λ _ _. refused 0 }

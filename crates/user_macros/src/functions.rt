@@ -2,7 +2,7 @@
 ghost use Rattle.std.specs.Prelude.{ℕ, ◌≡◌, List, is_some, IfOk, IsTrue};
 ghost use Rattle.std.specs.List.{list_all};
 ghost use Rattle.readtable_core.specs.Names.{is_among};
-ghost use Rattle.readtable_core.specs.Named.{functions_of};
+ghost use Rattle.readtable_core.specs.NamedFunctions.{functions_of};
 ghost use Rattle.user_macros.specs.Calls.{call_of, answer_of};
 ghost use Rattle.user_macros.specs.Functions.{Functions, named_way, are_registered, named_among};
 ghost use Rattle.user_macros.specs.Sound.{IsSoundCall};

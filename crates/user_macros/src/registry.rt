@@ -3,7 +3,7 @@ ghost use Rattle.std.specs.Prelude.{ℕ, ◌≡◌, ◌++◌, [], ◌∷◌, Lis
 ghost use Rattle.std.specs.List.{list_all};
 ghost use Rattle.std.specs.Option.{option_map_or};
 ghost use Rattle.readtable_core.specs.Names.{is_among, is_reserved};
-ghost use Rattle.readtable_core.specs.Named.{functions_at};
+ghost use Rattle.readtable_core.specs.NamedFunctions.{functions_at};
 ghost use Rattle.user_macros.specs.Calls.{call_of, answer_of};
 ghost use Rattle.user_macros.specs.Sound.{IsSoundCall};
 ghost use Rattle.user_macros.specs.Registry.{refusal, is_covered};
@@ -63,12 +63,16 @@ impl<M: Meaning> Macros<M> {
         requires callable { (call : _) → IsSoundCall call → MacroFn.pre function call }
         requires as_meant { (call : _) (a : _) → IsSoundCall call
             → MacroFn.post function call (Ok a) → answer_of a ≡ M.functions.answer name (call_of call) }
+
+        // What was registered answers as before, and the new name stands last if it was accepted.
         ensures answers { ⟦<Macros<M> as MacroFunctions>⟧.answers self.new }
         ensures meant { ⟦<Macros<M> as MacroFunctions>⟧.meant self.new
             ≡ ⟦<Macros<M> as MacroFunctions>⟧.meant self.old }
         ensures registered { (⟦<Macros<M> as MacroFunctions>⟧.functions self.new).names
             ≡ (if is_ok result then (⟦<Macros<M> as MacroFunctions>⟧.functions self.old).names ++ name ∷ []
             else (⟦<Macros<M> as MacroFunctions>⟧.functions self.old).names) }
+
+        // It is refused with its cause, and the function comes back.
         ensures accepted { OnOk result
             (refusal M.functions.names (⟦<Macros<M> as MacroFunctions>⟧.functions self.old).names name ≡ None) }
         ensures cause { IfErr result (λ r. r.cause

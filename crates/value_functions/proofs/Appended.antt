@@ -8,7 +8,7 @@ use Rattle.lisp_object.specs.declared.datum.Datum.{Datum}
 use Rattle.lisp_object.specs.Datum.{object_of}
 use Rattle.lisp_object.proofs.ProperLists.{nil_symbol}
 use Rattle.lisp_operators.specs.Evaluated.{objects}
-use Rattle.value_functions.specs.Answered.{then_value}
+use Rattle.value_functions.specs.FunctionAnswers.{then_value}
 use Rattle.value_functions.specs.Sequences.{items_of}
 use Rattle.value_functions.specs.Building.{appended}
 use Rattle.value_functions.proofs.Joins.{joined_more, not_joined}

@@ -5,7 +5,7 @@ use Rattle.lisp_operators.specs.declared.error.EvaluationError.{EvaluationError}
 use Rattle.lisp_operators.specs.Evaluated.{objects}
 use Rattle.value_functions.specs.declared.functions.Arithmetic.TheVariants.{Minus}
 use Rattle.value_functions.specs.Arithmetic.{integer_in, from_left, result_of}
-use Rattle.value_functions.specs.Answered.{AnswersValue}
+use Rattle.value_functions.specs.FunctionAnswers.{AnswersValue}
 
 pub of_one : (answer : Result Datum EvaluationError) (values : List Datum) → 1 ≤ length values → length values < 2
     → AnswersValue answer (from_left Minus (pos 0) (map integer_in (objects values)))

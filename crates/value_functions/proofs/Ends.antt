@@ -20,7 +20,7 @@ use Rattle.lisp_object.specs.declared.refusal.TheConstants.{ARGUMENT_KIND, INTEG
 use Rattle.lisp_object.proofs.ProperLists.{no_list_object, nil_symbol}
 use Rattle.lisp_operators.specs.Kinds.{is_pair, an_integer}
 use Rattle.lisp_operators.specs.Evaluated.{objects}
-use Rattle.value_functions.specs.Answered.{FunctionValue, if_of_kind, then_value, if_within}
+use Rattle.value_functions.specs.FunctionAnswers.{FunctionValue, if_of_kind, then_value, if_within}
 use Rattle.value_functions.specs.Equality.{is_eql}
 use Rattle.value_functions.specs.Lists.{past_end, car, cdr, nth_in, nth_at, nth_value, member, assoc, adjoin}
 use Rattle.value_functions.specs.Parts.{end_of, IsListEnd, from_place}

@@ -6,7 +6,7 @@ use Rattle.std.proofs.lemmas.Bool.Decides.{Decides-int_eq}
 use Rattle.lisp_object.specs.Object.{integer}
 use Rattle.lisp_operators.specs.Properties.{is_in_range}
 use Rattle.value_functions.specs.declared.functions.Division.TheVariants.{Floor}
-use Rattle.value_functions.specs.Answered.{if_in_range}
+use Rattle.value_functions.specs.FunctionAnswers.{if_in_range}
 use Rattle.value_functions.specs.Arithmetic.{is_cut_up, division_value}
 
 fits_range : (n : ℤ) → FitsSigned w128 n → is_in_range n ≡ true

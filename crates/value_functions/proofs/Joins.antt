@@ -19,7 +19,7 @@ use Rattle.std.specs.List.{list_all}
 use Rattle.std.proofs.lemmas.List.Sums.{AllPass-from_list_all, list_all-from_AllPass}
 use Rattle.lisp_operators.specs.Evaluated.{objects, AreProper}
 use Rattle.lisp_operators.proofs.Shapes.{pair_at, dotted_pair}
-use Rattle.value_functions.specs.Answered.{FunctionValue, then_value}
+use Rattle.value_functions.specs.FunctionAnswers.{FunctionValue, then_value}
 use Rattle.value_functions.specs.Predicates.{is_vector}
 use Rattle.value_functions.specs.Sequences.{list, items, items_of, a_sequence, a_vector}
 use Rattle.value_functions.specs.Building.{followed_by, appended}

@@ -13,7 +13,7 @@ use Rattle.package_table.proofs.Names.{same_some, none_some}
 use Rattle.plist_state.specs.Sound.{IsKnown, IsValue}
 use Rattle.lisp_operators.specs.Kinds.{a_character}
 use Rattle.lisp_operators.proofs.Storable.{AreValues, nil_value, text_value}
-use Rattle.value_functions.specs.Answered.{FunctionValue, then_value}
+use Rattle.value_functions.specs.FunctionAnswers.{FunctionValue, then_value}
 use Rattle.value_functions.specs.Equality.{is_eql}
 use Rattle.value_functions.specs.Sequences.{Sequence, list, items, characters, items_of, a_sequence, a_vector, object_of_sequence, reversed, other_characters, without}
 use Rattle.value_functions.specs.Building.{followed_by, appended}
@@ -142,7 +142,7 @@ module _ (u : packages.Table) where
   then_built x (Ok end) first second = followed_built x end first second.built
   then_built x (Err code) first second = record { built = tt }
 
-  module _ (sound : packages.IsSound u) where
+  module _ (sound : packages.AreSoundPackages u) where
     made_list : (xs : List Object) → AreValues u xs → IsMadeOf (list_of xs)
     made_list [] are = made_of nil (nil_value u sound)
     made_list (x ∷ xs) are = made_pair x (list_of xs) (made_of x (All-head (IsValue u) x xs are)) (made_list xs (All-tail (IsValue u) x xs are))

@@ -22,7 +22,7 @@ use Rattle.value_functions.specs.declared.functions.OnLists.TheVariants.{Cons, C
 use Rattle.value_functions.specs.declared.functions.OnSequences.{OnSequences}
 use Rattle.value_functions.specs.declared.functions.OnSequences.TheVariants.{Length, Reverse, Remove, Svref}
 use Rattle.value_functions.specs.declared.functions.Building.TheVariants.{Append, Vector}
-use Rattle.value_functions.specs.Answered.{FunctionValue, truth_value, if_of_kind, if_in_range, then_value, if_within}
+use Rattle.value_functions.specs.FunctionAnswers.{FunctionValue, truth_value, if_of_kind, if_in_range, then_value, if_within}
 use Rattle.value_functions.specs.Equality.{is_eql, is_same}
 use Rattle.value_functions.specs.Predicates.{has_predicate}
 use Rattle.value_functions.specs.Comparisons.{is_number, is_chain, furthest}

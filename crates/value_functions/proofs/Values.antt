@@ -29,7 +29,7 @@ use Rattle.value_functions.specs.declared.functions.OnLists.TheVariants.{Cons, C
 use Rattle.value_functions.specs.declared.functions.OnSequences.{OnSequences}
 use Rattle.value_functions.specs.declared.functions.OnSequences.TheVariants.{Length, Reverse, Remove, Svref}
 use Rattle.value_functions.specs.declared.functions.Building.TheVariants.{Append, Vector}
-use Rattle.value_functions.specs.Answered.{FunctionValue, truth_value, if_of_kind, if_in_range, then_value, if_within}
+use Rattle.value_functions.specs.FunctionAnswers.{FunctionValue, truth_value, if_of_kind, if_in_range, then_value, if_within}
 use Rattle.value_functions.specs.Equality.{is_eql, is_same}
 use Rattle.value_functions.specs.Predicates.{has_predicate}
 use Rattle.value_functions.specs.Comparisons.{is_number, is_chain, furthest, is_further}
@@ -140,7 +140,7 @@ module _ (u : packages.Table) where
   second_value : (x y : Object) → AreValues u (x ∷ y ∷ []) → IsValue u y
   second_value x y are = All-head (IsValue u) y [] (All-tail (IsValue u) x (y ∷ []) are)
 
-  module _ (sound : packages.IsSound u) where
+  module _ (sound : packages.AreSoundPackages u) where
     truth_storable : (b : Bool) → IsStorable u (Ok (truth_value b))
     truth_storable true = held t (t_value u sound)
     truth_storable false = held nil (nil_value u sound)

@@ -11,7 +11,7 @@ use Rattle.value_functions.specs.declared.functions.Arithmetic.{Arithmetic}
 use Rattle.value_functions.specs.declared.functions.Arithmetic.TheVariants.{Plus, Minus, Times}
 use Rattle.value_functions.specs.declared.functions.Division.{Division}
 use Rattle.value_functions.specs.declared.functions.Division.TheVariants.{Floor, Mod}
-use Rattle.value_functions.specs.Answered.{FunctionValue, if_of_kind, if_in_range}
+use Rattle.value_functions.specs.FunctionAnswers.{FunctionValue, if_of_kind, if_in_range}
 
 -- the integer that an object is
 abbrev pub integer_in : Object → ℤ

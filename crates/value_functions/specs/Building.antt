@@ -4,7 +4,7 @@ use Rattle.lisp_object.specs.Object.{Object, symbol, pair, vector, nil, is_nil, 
 use Rattle.lisp_object.specs.declared.refusal.TheConstants.{ARGUMENT_KIND}
 use Rattle.value_functions.specs.declared.functions.Building.{Building}
 use Rattle.value_functions.specs.declared.functions.Building.TheVariants.{Append, Vector}
-use Rattle.value_functions.specs.Answered.{FunctionValue, if_within, then_value}
+use Rattle.value_functions.specs.FunctionAnswers.{FunctionValue, if_within, then_value}
 
 -- the items of a list that ends in NIL, and this after them
 abbrev pub followed_by : Object → Object → FunctionValue

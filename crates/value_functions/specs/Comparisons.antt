@@ -7,7 +7,7 @@ use Rattle.value_functions.specs.declared.functions.Comparison.{Comparison}
 use Rattle.value_functions.specs.declared.functions.Comparison.TheVariants.{Same, Different, Less, AtMost, Greater, AtLeast}
 use Rattle.value_functions.specs.declared.functions.Extreme.{Extreme}
 use Rattle.value_functions.specs.declared.functions.Extreme.TheVariants.{Min, Max}
-use Rattle.value_functions.specs.Answered.{FunctionValue, truth_value}
+use Rattle.value_functions.specs.FunctionAnswers.{FunctionValue, truth_value}
 
 abbrev pub is_number : Object → Bool
 is_number (integer n) = true

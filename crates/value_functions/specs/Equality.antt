@@ -6,7 +6,7 @@ use Rattle.lisp_object.specs.Object.{Object, integer, rational, character, text,
 use Rattle.lisp_object.specs.declared.refusal.TheConstants.{ARGUMENT_KIND}
 use Rattle.value_functions.specs.declared.functions.Equality.{Equality}
 use Rattle.value_functions.specs.declared.functions.Equality.TheVariants.{Eql, Equal}
-use Rattle.value_functions.specs.Answered.{FunctionValue, truth_value}
+use Rattle.value_functions.specs.FunctionAnswers.{FunctionValue, truth_value}
 
 -- EQL: one number of one type, one character, or one interned symbol. Values have no identity: a text, a pair, a vector or an
 -- uninterned symbol is EQL to nothing, as two that were made apart are not.

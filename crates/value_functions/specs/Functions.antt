@@ -16,7 +16,7 @@ use Rattle.value_functions.specs.declared.functions.OnTexts.TheVariants.{SameTex
 use Rattle.value_functions.specs.declared.functions.OnLists.TheVariants.{Cons, Car, Cdr, Nth, Member, Assoc, Adjoin}
 use Rattle.value_functions.specs.declared.functions.OnSequences.TheVariants.{Length, Reverse, Remove, Svref}
 use Rattle.value_functions.specs.declared.functions.Building.TheVariants.{Append, Vector}
-use Rattle.value_functions.specs.Answered.{FunctionValue}
+use Rattle.value_functions.specs.FunctionAnswers.{FunctionValue}
 use Rattle.value_functions.specs.Equality.{equality}
 use Rattle.value_functions.specs.Predicates.{predicate}
 use Rattle.value_functions.specs.Comparisons.{comparison}

@@ -1,4 +1,4 @@
-pub mod Answered
+pub mod FunctionAnswers
 pub mod Kinds
 pub mod Equality
 pub mod Texts

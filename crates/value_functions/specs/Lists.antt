@@ -5,7 +5,7 @@ use Rattle.lisp_object.specs.declared.refusal.TheConstants.{ARGUMENT_KIND, INTEG
 use Rattle.lisp_operators.specs.Kinds.{is_pair, an_integer}
 use Rattle.value_functions.specs.declared.functions.OnLists.{OnLists}
 use Rattle.value_functions.specs.declared.functions.OnLists.TheVariants.{Cons, Car, Cdr, Nth, Member, Assoc, Adjoin}
-use Rattle.value_functions.specs.Answered.{FunctionValue, if_of_kind, if_within, then_value}
+use Rattle.value_functions.specs.FunctionAnswers.{FunctionValue, if_of_kind, if_within, then_value}
 use Rattle.value_functions.specs.Equality.{is_eql}
 
 -- NIL at the end of a list; a list that ends in another object is refused where its end is come to

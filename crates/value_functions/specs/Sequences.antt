@@ -6,7 +6,7 @@ use Rattle.lisp_object.specs.declared.refusal.TheConstants.{ARGUMENT_KIND, INTEG
 use Rattle.lisp_operators.specs.Kinds.{a_character, an_integer}
 use Rattle.value_functions.specs.declared.functions.OnSequences.{OnSequences}
 use Rattle.value_functions.specs.declared.functions.OnSequences.TheVariants.{Length, Reverse, Remove, Svref}
-use Rattle.value_functions.specs.Answered.{FunctionValue, if_of_kind, if_in_range}
+use Rattle.value_functions.specs.FunctionAnswers.{FunctionValue, if_of_kind, if_in_range}
 use Rattle.value_functions.specs.Equality.{is_eql}
 
 -- a list that ends in NIL, a vector, or a text

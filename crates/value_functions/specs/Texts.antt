@@ -5,7 +5,7 @@ use Rattle.lisp_object.specs.Object.{Object, character, text, symbol, uninterned
 use Rattle.lisp_object.specs.declared.refusal.TheConstants.{ARGUMENT_KIND}
 use Rattle.value_functions.specs.declared.functions.OnTexts.{OnTexts}
 use Rattle.value_functions.specs.declared.functions.OnTexts.TheVariants.{SameText, TextLess, SymbolName}
-use Rattle.value_functions.specs.Answered.{FunctionValue, truth_value, if_of_kind, if_in_range}
+use Rattle.value_functions.specs.FunctionAnswers.{FunctionValue, truth_value, if_of_kind, if_in_range}
 
 -- the characters of a symbol's name
 abbrev pub a_symbol_name : Object → Option (List ℕ)

@@ -2,7 +2,7 @@
 ghost use Rattle.std.specs.Prelude.{◌≡◌, IfOk};
 ghost use Rattle.lisp_operators.specs.Evaluated.{IsProper, AreProper, objects};
 ghost use Rattle.value_functions.specs.Building.{building};
-ghost use Rattle.value_functions.specs.Answered.{AnswersValue};
+ghost use Rattle.value_functions.specs.FunctionAnswers.{AnswersValue};
 
 use crate::functions::Building;
 use crate::items::{copied, proper_items};

@@ -3,7 +3,7 @@ ghost use Rattle.std.specs.Prelude.{◌≡◌, ◌≢◌, pos, [], ◌∷◌, If
 ghost use Rattle.lisp_object.specs.Datum.{object_of};
 ghost use Rattle.lisp_operators.specs.Evaluated.{IsProper, AreProper, objects};
 ghost use Rattle.value_functions.specs.Arithmetic.{is_cut_up, left_over, division_value, division};
-ghost use Rattle.value_functions.specs.Answered.{AnswersValue};
+ghost use Rattle.value_functions.specs.FunctionAnswers.{AnswersValue};
 
 use crate::functions::Division;
 use crate::kinds::integer;

@@ -5,7 +5,7 @@ ghost use Rattle.lisp_object.specs.Datum.{object_of, is_proper, is_list};
 ghost use Rattle.lisp_operators.specs.Kinds.{is_pair};
 ghost use Rattle.lisp_operators.specs.Evaluated.{or_nil, IsProper, AreProper, objects};
 ghost use Rattle.value_functions.specs.Equality.{is_eql, is_equal, equality};
-ghost use Rattle.value_functions.specs.Answered.{AnswersValue};
+ghost use Rattle.value_functions.specs.FunctionAnswers.{AnswersValue};
 
 use crate::functions::Equality;
 use crate::kinds::{character, integer, ratio, text};

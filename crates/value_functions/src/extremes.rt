@@ -3,7 +3,7 @@ ghost use Rattle.std.specs.Prelude.{◌≡◌, IfOk};
 ghost use Rattle.lisp_object.specs.Datum.{object_of};
 ghost use Rattle.lisp_operators.specs.Evaluated.{IsProper, AreProper, objects};
 ghost use Rattle.value_functions.specs.Comparisons.{is_further, furthest, extreme};
-ghost use Rattle.value_functions.specs.Answered.{AnswersValue};
+ghost use Rattle.value_functions.specs.FunctionAnswers.{AnswersValue};
 
 use crate::comparisons::{are_numbers, is_less};
 use crate::functions::Extreme;

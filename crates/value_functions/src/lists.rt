@@ -6,7 +6,7 @@ ghost use Rattle.lisp_operators.specs.Kinds.{is_pair};
 ghost use Rattle.lisp_operators.specs.Evaluated.{IsProper, AreProper, objects};
 ghost use Rattle.value_functions.specs.Lists.{car, cdr, nth_value, member, assoc, adjoin, of_list, function_of_list, on_lists};
 ghost use Rattle.value_functions.specs.Parts.{end_of, IsListEnd, from_place};
-ghost use Rattle.value_functions.specs.Answered.{AnswersValue, if_within};
+ghost use Rattle.value_functions.specs.FunctionAnswers.{AnswersValue, if_within};
 
 use crate::equals::is_eql;
 use crate::functions::OnLists;

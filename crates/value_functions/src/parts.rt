@@ -5,7 +5,7 @@ ghost use Rattle.lisp_object.specs.Datum.{object_of};
 ghost use Rattle.lisp_operators.specs.Evaluated.{IsProper, AreProper, objects};
 ghost use Rattle.value_functions.specs.Lists.{past_end};
 ghost use Rattle.value_functions.specs.Parts.{end_of, IsListEnd, HasParts};
-ghost use Rattle.value_functions.specs.Answered.{AnswersValue, if_within};
+ghost use Rattle.value_functions.specs.FunctionAnswers.{AnswersValue, if_within};
 
 use lisp_object::Datum;
 use lisp_object::refusal::{ARGUMENT_KIND, LIMIT, VALUE_TOO_DEEP};

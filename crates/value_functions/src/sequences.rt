@@ -8,7 +8,7 @@ ghost use Rattle.lisp_operators.specs.declared.error.EvaluationError.TheVariants
 ghost use Rattle.value_functions.specs.Equality.{is_eql};
 ghost use Rattle.value_functions.specs.Sequences.{a_sequence, a_vector, item_in, item_at, items_of, list, object_of_sequence, length_of, other_characters, reversed, without, of_sequence, with_sequence, on_sequences};
 ghost use Rattle.value_functions.specs.SequenceParts.{sequence_in, AreProperParts};
-ghost use Rattle.value_functions.specs.Answered.{AnswersValue};
+ghost use Rattle.value_functions.specs.FunctionAnswers.{AnswersValue};
 
 use crate::equals::is_eql;
 use crate::functions::OnSequences;

@@ -5,7 +5,7 @@ ghost use Rattle.lisp_object.specs.Datum.{object_of};
 ghost use Rattle.lisp_operators.specs.Kinds.{an_integer};
 ghost use Rattle.lisp_operators.specs.Evaluated.{IsProper, AreProper, objects};
 ghost use Rattle.value_functions.specs.Arithmetic.{integer_in, operation, if_operation, from_left, result_of, arithmetic};
-ghost use Rattle.value_functions.specs.Answered.{AnswersValue};
+ghost use Rattle.value_functions.specs.FunctionAnswers.{AnswersValue};
 
 use crate::functions::Arithmetic;
 use crate::kinds::integer;

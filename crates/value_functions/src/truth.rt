@@ -2,7 +2,7 @@
 ghost use Rattle.std.specs.Prelude.{◌≡◌, IfOk};
 ghost use Rattle.lisp_object.specs.Datum.{object_of};
 ghost use Rattle.lisp_operators.specs.Evaluated.{IsProper};
-ghost use Rattle.value_functions.specs.Answered.{truth_value};
+ghost use Rattle.value_functions.specs.FunctionAnswers.{truth_value};
 
 use lisp_object::{Bytes, Datum};
 use package_table::standardized::COMMON_LISP;

@@ -12,7 +12,7 @@ use Rattle.std.specs.FinMap.{contains_key-keys, get-empty, get-insert, len-inser
 use Rattle.std.proofs.lemmas.Bool.{and_parts, both_ways, or_right}
 use Rattle.std.proofs.lemmas.List.Elements.{All-cons, All-head, All-nil, All-tail}
 use Rattle.std.proofs.lemmas.Map.Text.{is_eq-slice_cmp}
-use Rattle.readtable_core.specs.Named.{functions_of}
+use Rattle.readtable_core.specs.NamedFunctions.{functions_of}
 use Rattle.readtable_core.specs.Tables.{Table, standard}
 use Rattle.package_table.specs.Table as packages
 use Rattle.package_table.specs.Table.{Name, keyword, name_cmp}
@@ -146,7 +146,7 @@ module _ (s : WorldState) (are : IsReadtables s.packages s.readtables) where
   all_there : All IsThere (readtable_names s)
   all_there = every_name (readtable_names s) (λ n there. contains_key-keys s.readtables n ∙ there)
 
-  module _ (functions : Functions) (first : WorldState) (whole : List ℕ) (base : WorldState) (sound : packages.IsSound s.packages) (same : base.packages ≡ s.packages) (reads : ReadsStandard base) where
+  module _ (functions : Functions) (first : WorldState) (whole : List ℕ) (base : WorldState) (sound : packages.AreSoundPackages s.packages) (same : base.packages ≡ s.packages) (reads : ReadsStandard base) where
     abbrev with_tables : Readtables → WorldState
     with_tables m = record base { readtables = m }
 
@@ -167,7 +167,7 @@ module _ (s : WorldState) (are : IsReadtables s.packages s.readtables) where
               subst (λ k. Made k rest) (sym (table_same m n (table_named s n) (ap (finite.get m) is_standard ∙ has ∙ ap Some (sym (ap (table_named s) is_standard ∙ standard_is))))) made
           | false ↦ λ other made.
               let can : CanBeMade m n = record { other = other; standard = has; room = room_for m n (table_named s n) few } in
-              table_made functions first whole (with_tables m) (subst packages.IsSound (sym same) sound) (record { current = reads.current; base = reads.base; user = reads.user }) n
+              table_made functions first whole (with_tables m) (subst packages.AreSoundPackages (sym same) sound) (record { current = reads.current; base = reads.base; user = reads.user }) n
               (subst (λ p. IsSymbol p (keyword, n)) (sym same) (are.names n there)) can (table_named s n) (subst (λ p. IsNamed p (table_named s n)) (sym same) (are.each n (table_named s n) (table_is n there))) covered rest
               (subst (λ o. Makes functions first whole (with_tables m) (10 ∷ option_map_or (table_lines n) o [] ++ rest)) (table_is n there) made)
         ] refl made

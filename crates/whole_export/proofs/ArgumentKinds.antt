@@ -61,7 +61,7 @@ name_short c =
     (either_short (c == 32) (codes "Space") _ (omega arith)
     (either_short (c == 127) (codes "Rubout") (c ∷ []) (omega arith) (omega arith)))))))
 
-module _ (names : List Name) (s : WorldState) (sound : packages.IsSound s.packages) where
+module _ (names : List Name) (s : WorldState) (sound : packages.AreSoundPackages s.packages) where
   abbrev t : Table
   t = s.packages
 

@@ -28,7 +28,7 @@ use Rattle.prevalence_store.proofs.meaning.Transactions.{not_forgetting}
 abbrev pub IsList : packages.Table → List ℕ → Object → Type 0
 IsList t text x = (rest : List ℕ) → begun form_limits t common_lisp_user no_functions 100 0 (text ++ rest) ≡ Ok (one false x, length text, rest)
 
-module _ (names : List Name) (s : WorldState) (sound : packages.IsSound s.packages) where
+module _ (names : List Name) (s : WorldState) (sound : packages.AreSoundPackages s.packages) where
   -- the text is read as the object, of which nothing is missing, and its value changes nothing
   pub record IsArgument (text : List ℕ) (x v : Object) : Type 0 where
     pub read : IsRead form_limits s.packages no_functions sound (room s.packages sound) 1 text x

@@ -14,7 +14,7 @@ use Rattle.package_table.specs.Table as packages
 use Rattle.plist_state.specs.Properties.{Symbol, Plist, Properties, list_at, symbol_cmp, value_at}
 use Rattle.plist_state.specs.Changes.{plist, with_property}
 use Rattle.plist_state.specs.Readers.{symbols_with_properties}
-use Rattle.plist_state.specs.Sound.{IsApart, IsPlist, IsSound, IsSymbol, IsValue}
+use Rattle.plist_state.specs.Sound.{IsApart, IsPlist, IsSoundWorldState, IsSymbol, IsValue}
 use Rattle.plist_state.specs.State.{WorldState}
 use Rattle.plist_state.proofs.Orders.{one_symbol, symbol_tied, symbol_total}
 use Rattle.user_macros.specs.Functions.{Functions}
@@ -22,7 +22,7 @@ use Rattle.snapshot_text.specs.Built.{with_each, with_properties}
 use Rattle.snapshot_text.proofs.KeysSoFar.{AreApart, keys_apart}
 use Rattle.snapshot_text.proofs.PropertyParts.{each_is_list}
 use Rattle.world_forms.specs.Properties.{is_form, plist_lines, property_form, property_line, property_lines}
-use Rattle.world_forms.specs.Tokens.{line}
+use Rattle.world_forms.specs.Tokens.{line_of_form}
 use Rattle.export_laws.specs.Objects.{property_object}
 use Rattle.export_laws.specs.Texts.{Makes, ReadsAsExported}
 use Rattle.export_laws.proofs.All.{MayBe, all_may_be, each_put}
@@ -30,7 +30,7 @@ use Rattle.export_laws.proofs.One.{property_set}
 use Rattle.export_laws.proofs.OneForm.{one_more_made}
 use Rattle.export_laws.proofs.PropertyText.{property_is_form}
 use Rattle.export_laws.proofs.There.{value_there}
-use Rattle.whole_export.specs.Kept.{IsWithoutLeftOut, kept_properties}
+use Rattle.whole_export.specs.KeptWorld.{IsWithoutLeftOut, kept_properties}
 
 abbrev eq : Symbol → Symbol → Bool
 eq = eq_by_cmp symbol_cmp
@@ -58,7 +58,7 @@ apart_filtered test (p ∷ ps) apart =
       | false ↦ apart_filtered test ps apart.1
     ]
 
-module _ (s : WorldState) (sound : IsSound s) where
+module _ (s : WorldState) (sound : IsSoundWorldState s) where
   -- ---- the lists one after the other
 
   abbrev pub kept_listed : WorldState → List Symbol → WorldState
@@ -177,7 +177,7 @@ module _ (s : WorldState) (sound : IsSound s) where
     abbrev Made : WorldState → List ℕ → Type 0
     Made now rest = Makes functions first whole now (10 ∷ rest)
 
-    list_made : (x : Symbol) (ps : Plist) (now : WorldState) (rest : List ℕ) → packages.IsSound now.packages → IsSymbol now.packages x
+    list_made : (x : Symbol) (ps : Plist) (now : WorldState) (rest : List ℕ) → packages.AreSoundPackages now.packages → IsSymbol now.packages x
         → All (λ p. IsSymbol now.packages p.0) ps → All (λ p. IsValue now.packages p.1) ps → ReadsAsExported now
         → Made now (flat_map (property_line now.packages x) ps ++ rest)
         → Made (with_each now x (filter (λ p. is_form now.packages (property_form now.packages x p)) ps)) rest
@@ -200,7 +200,7 @@ module _ (s : WorldState) (sound : IsSound s) where
         (record { readtable = as_exported.readtable; base = as_exported.base; current = as_exported.current }) in
         let passes_over : Made now more → Made (with_each now x (filter test ps)) rest
         = list_made x ps now rest its_sound there (All-tail (λ p. IsSymbol t p.0) p ps indicators) (All-tail (λ p. IsValue t p.1) p ps values) as_exported in
-        elim (is_form t text) as (λ b. is_form t text ≡ b → Made now ((if b then line text else []) ++ more) → Made (with_each now x (cond b (p ∷ filter test ps) (filter test ps))) rest) [
+        elim (is_form t text) as (λ b. is_form t text ≡ b → Made now ((if b then line_of_form text else []) ++ more) → Made (with_each now x (cond b (p ∷ filter test ps) (filter test ps))) rest) [
           | true ↦ λ is made. goes_on (set is (subst (λ cs. Made now cs) (append_assoc text (10 ∷ []) more) made))
           | false ↦ λ is made. passes_over made
         ] refl (subst (λ cs. Made now cs) (append_assoc (property_line t x p) (flat_map (property_line t x) ps) rest) made)
@@ -216,7 +216,7 @@ module _ (s : WorldState) (sound : IsSound s) where
         let text : flat_map (plist_lines s) (x ∷ xs) ++ rest ≡ flat_map (property_line now.packages x) ps ++ more
         = append_assoc (plist_lines s x) (flat_map (plist_lines s) xs) rest ∙ ap (λ u. flat_map (property_line u x) ps ++ more) (sym same) in
         let there = subst (λ u. IsPlist u ps) (sym same) one.1 in
-        let listed = list_made x ps now more (subst packages.IsSound (sym same) sound.packages) (subst (λ u. IsSymbol u x) (sym same) one.0) there.indicators there.values as_exported
+        let listed = list_made x ps now more (subst packages.AreSoundPackages (sym same) sound.packages) (subst (λ u. IsSymbol u x) (sym same) one.0) there.indicators there.values as_exported
         (subst (λ cs. Made now cs) text made) in
         let put = each_put now x (kept_properties s x) in
         all_made xs (with_each now x (kept_properties s x)) rest (ap (λ (w : WorldState). w.packages) put ∙ same) (All-tail (MayBe s sound) x xs all)

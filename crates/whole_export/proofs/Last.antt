@@ -20,7 +20,7 @@ use Rattle.user_macros.specs.Functions.{Functions, no_functions}
 use Rattle.canon_printer.specs.Written.{printed_text}
 use Rattle.lisp_operators.specs.Evaluation.{also, and_then, gives, writes}
 use Rattle.lisp_operators.specs.ReadBase.{is_base}
-use Rattle.lisp_operators.specs.Readtables.{after, enter_readtable}
+use Rattle.lisp_operators.specs.Readtables.{value_after, enter_readtable}
 use Rattle.evaluator.specs.Value.{last, value_by, values_by, value_over}
 use Rattle.lisp_reading.specs.declared.found.Found.TheVariants.{One as one}
 use Rattle.prevalence_store.specs.meaning.Acceptance.{form_limits, transacted}
@@ -59,7 +59,7 @@ last_object p n r = call (codes "PROGN") (enter_object p ∷ base_object n ∷ e
 abbrev pub with_current : WorldState → Name → ℕ → Name → WorldState
 with_current s p n r = record s { current_package = p; read_base = n; current_readtable = r }
 
-module _ (names : List Name) (s : WorldState) (sound : packages.IsSound s.packages) (p : Name) (n : ℕ) (r : Name)
+module _ (names : List Name) (s : WorldState) (sound : packages.AreSoundPackages s.packages) (p : Name) (n : ℕ) (r : Name)
     (is_package : IsPackage s.packages p) (lowest : 2 ≤ n) (highest : n ≤ 36) (named : IsSymbol s.packages (keyword, r)) (is_table : IsTrue (finite.contains_key s.readtables r)) where
   abbrev Arguments : List ℕ → List Object → List Object → Type 0
   Arguments = AreArguments names s sound
@@ -156,7 +156,7 @@ module _ (names : List Name) (s : WorldState) (sound : packages.IsSound s.packag
       ap (λ e. and_then e enter_readtable)
       (call_values names based sound table_more (table_form r ∷ []) (symbol keyword r ∷ [])
       (argument (value_text [] [] keyword r) (table_form r) (symbol keyword r) (codes ")") [] [] (table_is names based sound r named) no_argument))
-      ∙ ap (λ (b : Bool). also false (after based (symbol keyword r) (if b then Ok (with_current s p n r) else Err NoReadtable))) is_table
+      ∙ ap (λ (b : Bool). also false (value_after based (symbol keyword r) (if b then Ok (with_current s p n r) else Err NoReadtable))) is_table
 
   last_value : value_by true names s (last_object p n r) ≡ writes (symbol keyword r) (with_current s p n r)
   unfolding value_over
@@ -178,7 +178,7 @@ module _ (names : List Name) (s : WorldState) (sound : packages.IsSound s.packag
 
 -- ---- both, of the state that is exported
 
-module _ (functions : Functions) (first : WorldState) (whole : List ℕ) (s now : WorldState) (sound : packages.IsSound now.packages)
+module _ (functions : Functions) (first : WorldState) (whole : List ℕ) (s now : WorldState) (sound : packages.AreSoundPackages now.packages)
     (is_package : IsPackage now.packages s.current_package) (lowest : 2 ≤ s.read_base) (highest : s.read_base ≤ 36)
     (named : IsSymbol now.packages (keyword, s.current_readtable)) (is_table : IsTrue (finite.contains_key now.readtables s.current_readtable)) where
   pub last_made : (rest : List ℕ) → ReadsAsExported now → Makes functions first whole now (10 ∷ current_form s World ++ rest)

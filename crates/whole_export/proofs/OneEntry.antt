@@ -9,9 +9,9 @@ use Rattle.std.proofs.lemmas.List.{get_or-replicate, get_or_past, length-replica
 use Rattle.std.specs.Cmp.Lexicographic.{bytes_decides}
 use Rattle.readtable_core.specs.declared.characters.Syntax.{Syntax}
 use Rattle.readtable_core.specs.declared.characters.Syntax.TheVariants.{Whitespace, Constituent, TerminatingMacro, NonTerminatingMacro, SingleEscape, MultipleEscape, Invalid}
-use Rattle.readtable_core.specs.Changes.{dispatching_entry, macro_syntax, with_entry, with_function}
+use Rattle.readtable_core.specs.Changes.{dispatching_entry, macro_syntax, with_character_entry, with_function}
 use Rattle.readtable_core.specs.Characters.{is_digit, is_lower_case, standard_syntax}
-use Rattle.readtable_core.specs.Named.{functions_at}
+use Rattle.readtable_core.specs.NamedFunctions.{functions_at}
 use Rattle.readtable_core.specs.Names.{dispatch_name, is_dispatch_name}
 use Rattle.readtable_core.specs.Sound.{IsCharacterEntry, dispatches, is_dispatching, is_macro, is_none_or_name}
 use Rattle.readtable_core.specs.Tables.{CharacterEntry, Table, entry_at, standard}
@@ -100,7 +100,7 @@ all_given e b sound is named =
     set_to None x e = absurd cc
     set_to (Some f) x e = let same : Some f ≡ x = cc in sym same
 
-module _ (functions : Functions) (first : WorldState) (whole : List ℕ) (base : WorldState) (sound : packages.IsSound base.packages) (reads : ReadsStandard base)
+module _ (functions : Functions) (first : WorldState) (whole : List ℕ) (base : WorldState) (sound : packages.AreSoundPackages base.packages) (reads : ReadsStandard base)
     (n : Name) (there : IsSymbol base.packages (keyword, n)) (can : CanBeMade base.readtables n) (c : ℕ) (below : c < 128) (e : CharacterEntry)
     (named : IsNamedEntry base.packages e) (covered : list_all (is_covered functions.names) (functions_at e) ≡ true) where
   abbrev Made : Table → List ℕ → Type 0
@@ -118,11 +118,11 @@ module _ (functions : Functions) (first : WorldState) (whole : List ℕ) (base :
 
   -- ---- without a function
 
-  plain_made : (t : Table) (rest : List ℕ) → length t.entries ≡ 128 → is_macro e.syntax ≡ false → Made t (syntax_line n c e.syntax ++ rest) → Made (with_entry t c e) rest
+  plain_made : (t : Table) (rest : List ℕ) → length t.entries ≡ 128 → is_macro e.syntax ≡ false → Made t (syntax_line n c e.syntax ++ rest) → Made (with_character_entry t c e) rest
   unfolding syntax_line
   plain_made t rest many other made =
       let like = like_of e.syntax other in
-      subst (λ x. Made (with_entry t c x) rest) (standard_is e e.syntax like.character named.entry refl like.typed other)
+      subst (λ x. Made (with_character_entry t c x) rest) (standard_is e e.syntax like.character named.entry refl like.typed other)
       (like_made functions first whole base sound reads n there can t many c like.character rest below like.below
       (subst (λ o. Made t (option_map_or (like_line n c) o [] ++ rest)) like.found made))
 
@@ -135,9 +135,9 @@ module _ (functions : Functions) (first : WorldState) (whole : List ℕ) (base :
     function_covered : is_covered functions.names f ≡ true
     function_covered = ap (passes (is_covered functions.names)) (sym (has_function e b named.entry is)) ∙ covered_parts.0
 
-    one_function_made : (t : Table) (rest : List ℕ) → length t.entries ≡ 128 → is_dispatch_name f ≡ false → Made t (macro_line n c f e.syntax ++ rest) → Made (with_entry t c e) rest
+    one_function_made : (t : Table) (rest : List ℕ) → length t.entries ≡ 128 → is_dispatch_name f ≡ false → Made t (macro_line n c f e.syntax ++ rest) → Made (with_character_entry t c e) rest
     one_function_made t rest many other made =
-        subst (λ x. Made (with_entry t c x) rest) (macro_is_entry e b named.entry is other)
+        subst (λ x. Made (with_character_entry t c x) rest) (macro_is_entry e b named.entry is other)
         (macro_made functions first whole base sound reads n there can t many c f b rest below (function_name e b named.entry is) (function_named base.packages e b named is)
         (function_may functions.names f function_covered other) (subst (λ y. Made t (macro_line n c f y ++ rest)) is made))
 
@@ -147,7 +147,7 @@ module _ (functions : Functions) (first : WorldState) (whole : List ℕ) (base :
 
     module _ (t : Table) (many : length t.entries ≡ 128) (dispatches_here : is_dispatch_name f ≡ true) where
       abbrev with_these : List (Option Name) → Table
-      with_these places = with_entry t c (with_places e places)
+      with_these places = with_character_entry t c (with_places e places)
 
       these_many : (places : List (Option Name)) → length (with_these places).entries ≡ 128
       these_many places = length-set t.entries c (with_places e places) ∙ many
@@ -169,10 +169,10 @@ module _ (functions : Functions) (first : WorldState) (whole : List ℕ) (base :
           let g_covered : is_covered functions.names g ≡ true
           = ap (passes (is_covered functions.names)) (sym is_g) ∙ passing_item (passes (is_covered functions.names)) e.dispatch covered_parts.1 sub None there_sub in
           let here = with_these places in
-          let same : with_entry here c (with_function (entry_at here c) sub g) ≡ with_these (set places sub (Some g))
+          let same : with_character_entry here c (with_function (entry_at here c) sub g) ≡ with_these (set places sub (Some g))
           = entry_twice t c (with_places e places) (with_function (entry_at here c) sub g)
-          ∙ ap (λ x. with_entry t c (with_function x sub g)) (at_c places)
-          ∙ ap (λ i. with_entry t c (with_places e (set places i (Some g)))) (upper_same base.packages sub g may) in
+          ∙ ap (λ x. with_character_entry t c (with_function x sub g)) (at_c places)
+          ∙ ap (λ i. with_character_entry t c (with_places e (set places i (Some g)))) (upper_same base.packages sub g may) in
           subst (λ u. Made u rest) same
           (sub_made functions first whole base sound reads n there can here (these_many places) c sub g rest below may (function_may functions.names g g_covered may.other)
           (ap is_dispatching (at_c places) ∙ ap dispatches (has_function e b named.entry is) ∙ dispatches_here) made)
@@ -194,7 +194,7 @@ module _ (functions : Functions) (first : WorldState) (whole : List ℕ) (base :
             | Some g ↦ λ is_g made. later (set places from (Some g)) (one_sub_made places from g more small is_g made)
           ] refl (subst (λ cs. Made (with_these places) cs) (append_assoc (sub_line n c from (sub_function from)) (flat_map (λ sub. sub_line n c sub (sub_function sub)) subs) rest) made)
 
-      dispatch_made : (rest : List ℕ) → Made t (dispatch_lines n c e ++ rest) → Made (with_entry t c e) rest
+      dispatch_made : (rest : List ℕ) → Made t (dispatch_lines n c e ++ rest) → Made (with_character_entry t c e) rest
       unfolding dispatch_lines
       dispatch_made rest made =
           let subs = flat_map (λ sub. sub_line n c sub (sub_function sub)) (range_with_len 0 128) in
@@ -202,7 +202,7 @@ module _ (functions : Functions) (first : WorldState) (whole : List ℕ) (base :
           let same : dispatch_lines n c e ++ rest ≡ head ++ (subs ++ rest) = append_assoc head subs rest in
           subst (λ places. Made (with_these places) rest) (all_given e b named.entry is dispatches_here)
           (subs_made 128 0 (replicate 128 None) rest (omega arith)
-          (subst (λ x. Made (with_entry t c x) (subs ++ rest)) (dispatching_is e b named.entry is dispatches_here)
+          (subst (λ x. Made (with_character_entry t c x) (subs ++ rest)) (dispatching_is e b named.entry is dispatches_here)
           (dispatching_made functions first whole base sound reads n there can t many c b (subs ++ rest) below
           (subst (λ y. Made t ((codes "(MAKE-DISPATCH-MACRO-CHARACTER" ++ (32 ∷ printed_character c) ++ kind_argument y ++ table_end n) ++ (subs ++ rest))) is
           (subst (λ cs. Made t cs) same made)))))
@@ -211,15 +211,15 @@ module _ (functions : Functions) (first : WorldState) (whole : List ℕ) (base :
   abbrev of_function : Name → List ℕ
   of_function function = if is_dispatch_name function then dispatch_lines n c e else macro_line n c function e.syntax
 
-  pub entry_made : (t : Table) (rest : List ℕ) → length t.entries ≡ 128 → Made t (entry_lines n c e ++ rest) → Made (with_entry t c e) rest
+  pub entry_made : (t : Table) (rest : List ℕ) → length t.entries ≡ 128 → Made t (entry_lines n c e ++ rest) → Made (with_character_entry t c e) rest
   entry_made t rest many made =
-      elim (is_macro e.syntax) as (λ b. is_macro e.syntax ≡ b → Made (with_entry t c e) rest) [
+      elim (is_macro e.syntax) as (λ b. is_macro e.syntax ≡ b → Made (with_character_entry t c e) rest) [
         | false ↦ λ other. plain_made t rest many other (subst (λ o. Made t (option_map_or of_function o (syntax_line n c e.syntax) ++ rest)) (no_function e.function (named.entry.function ∙ other)) made)
         | true ↦ λ is_one. let kind = kind_of e.syntax is_one in
             by_name kind.0 kind.1 (is_dispatch_name (function_of e)) refl (subst (λ o. Made t (option_map_or of_function o (syntax_line n c e.syntax) ++ rest)) (has_function e kind.0 named.entry kind.1) made)
       ] refl
     where
       by_name : (b : Bool) → e.syntax ≡ macro_syntax b → (d : Bool) → is_dispatch_name (function_of e) ≡ d
-          → Made t ((if d then dispatch_lines n c e else macro_line n c (function_of e) e.syntax) ++ rest) → Made (with_entry t c e) rest
+          → Made t ((if d then dispatch_lines n c e else macro_line n c (function_of e) e.syntax) ++ rest) → Made (with_character_entry t c e) rest
       by_name b is true dispatches_here made = dispatch_made b is t many dispatches_here rest made
       by_name b is false other made = one_function_made b is t rest many other made

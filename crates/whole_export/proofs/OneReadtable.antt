@@ -6,7 +6,7 @@ use Rattle.std.specs.List.{flat_map, list_all, range_with_len}
 use Rattle.std.specs.Option.{option_map_or}
 use Rattle.readtable_core.specs.declared.table.Case.{Case}
 use Rattle.readtable_core.specs.declared.table.Case.TheVariants.{Upcase, Downcase, Preserve, Invert}
-use Rattle.readtable_core.specs.Named.{functions_of, same_entry}
+use Rattle.readtable_core.specs.NamedFunctions.{functions_of, same_entry}
 use Rattle.readtable_core.specs.Tables.{CharacterEntry, Table, entry_at, no_entry, standard}
 use Rattle.readtable_core.proofs.Named.{named_at, same_is}
 use Rattle.readtable_core.proofs.Sound.{standard_sound}
@@ -41,7 +41,7 @@ all_entries u many =
     (λ q past nothing. sym (same_is (entry_at u q) (entry_at standard q) (not_set (same_entry (entry_at u q) (entry_at standard q)) (entry_at u q) nothing)))
     (λ q x some. of_update (not (same_entry (entry_at u q) (entry_at standard q))) (entry_at u q) x some)
 
-module _ (functions : Functions) (first : WorldState) (whole : List ℕ) (base : WorldState) (sound : packages.IsSound base.packages) (reads : ReadsStandard base)
+module _ (functions : Functions) (first : WorldState) (whole : List ℕ) (base : WorldState) (sound : packages.AreSoundPackages base.packages) (reads : ReadsStandard base)
     (n : Name) (there : IsSymbol base.packages (keyword, n)) (can : CanBeMade base.readtables n)
     (u : Table) (named : IsNamed base.packages u) (covered : list_all (is_covered functions.names) (functions_of u) ≡ true) where
   abbrev Made : Table → List ℕ → Type 0

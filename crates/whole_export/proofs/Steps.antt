@@ -12,7 +12,7 @@ use Rattle.lisp_object.specs.Object.{Object, character, symbol}
 use Rattle.readtable_core.specs.declared.table.Case.{Case}
 use Rattle.readtable_core.specs.declared.table.Case.TheVariants.{Upcase, Downcase, Preserve, Invert}
 use Rattle.readtable_core.specs.Cases.{case_name}
-use Rattle.readtable_core.specs.Changes.{dispatching_entry, macro_entry, macro_syntax, with_entry, with_function}
+use Rattle.readtable_core.specs.Changes.{dispatching_entry, macro_entry, macro_syntax, with_character_entry, with_function}
 use Rattle.readtable_core.specs.Names.{is_function_name}
 use Rattle.readtable_core.specs.Sound.{is_dispatching}
 use Rattle.readtable_core.specs.Tables.{Table, entry_at, standard}
@@ -30,7 +30,7 @@ use Rattle.canon_printer.specs.Written.{printed_character}
 use Rattle.snapshot_text.specs.Built.{CanBeMade, IsSubFunction, IsWritable, with_table}
 use Rattle.snapshot_text.proofs.TableParts.{made_writable, table_twice}
 use Rattle.world_forms.specs.Readtables.{like_line, set_case_line, kind_argument, macro_line, sub_line, table_argument, table_end}
-use Rattle.world_forms.specs.Tokens.{character_argument, keyword_argument, line, symbol_text, value_text}
+use Rattle.world_forms.specs.Tokens.{character_argument, keyword_argument, line_of_form, symbol_text, value_text}
 use Rattle.export_laws.specs.Objects.{call}
 use Rattle.export_laws.specs.Texts.{Makes, ReadsAsExported}
 use Rattle.export_laws.proofs.OneForm.{one_more_made}
@@ -87,7 +87,7 @@ kind_is true = refl
 kind_is false = refl
 
 -- the names of the cases are keywords from the first
-case_first : (names : List Name) (s : WorldState) (sound : packages.IsSound s.packages) (k : Case)
+case_first : (names : List Name) (s : WorldState) (sound : packages.AreSoundPackages s.packages) (k : Case)
     → IsArgument names s sound (symbol_text keyword (case_name k)) (symbol keyword (case_name k)) (symbol keyword (case_name k))
 unfolding keyword_names
 case_first names s sound Upcase = keyword_first names s sound (codes "UPCASE") refl (omega arith)
@@ -95,11 +95,11 @@ case_first names s sound Downcase = keyword_first names s sound (codes "DOWNCASE
 case_first names s sound Preserve = keyword_first names s sound (codes "PRESERVE") refl (omega arith)
 case_first names s sound Invert = keyword_first names s sound (codes "INVERT") refl (omega arith)
 
-pub standard_argument : (names : List Name) (s : WorldState) (sound : packages.IsSound s.packages) → IsArgument names s sound (codes ":STANDARD") (symbol keyword standard_name) (symbol keyword standard_name)
+pub standard_argument : (names : List Name) (s : WorldState) (sound : packages.AreSoundPackages s.packages) → IsArgument names s sound (codes ":STANDARD") (symbol keyword standard_name) (symbol keyword standard_name)
 unfolding keyword_names symbol_text
 standard_argument names s sound = keyword_first names s sound standard_name refl (omega arith)
 
-module _ (functions : Functions) (first : WorldState) (whole : List ℕ) (base : WorldState) (sound : packages.IsSound base.packages) (reads : ReadsStandard base)
+module _ (functions : Functions) (first : WorldState) (whole : List ℕ) (base : WorldState) (sound : packages.AreSoundPackages base.packages) (reads : ReadsStandard base)
     (n : Name) (there : IsSymbol base.packages (keyword, n)) (can : CanBeMade base.readtables n) where
   abbrev now : Table → WorldState
   now t = with_table base n t
@@ -181,7 +181,7 @@ module _ (functions : Functions) (first : WorldState) (whole : List ℕ) (base :
 
     -- ---- its characters
 
-    pub like_made : (c d : ℕ) (rest : List ℕ) → c < 128 → d < 128 → MadeTable t (like_line n c d ++ rest) → MadeTable (with_entry t c (entry_at standard d)) rest
+    pub like_made : (c d : ℕ) (rest : List ℕ) → c < 128 → d < 128 → MadeTable t (like_line n c d ++ rest) → MadeTable (with_character_entry t c (entry_at standard d)) rest
     unfolding like_line
     like_made c d rest below from made =
         let op = codes "SET-SYNTAX-FROM-CHAR" in
@@ -199,14 +199,14 @@ module _ (functions : Functions) (first : WorldState) (whole : List ℕ) (base :
         (argument (codes ":STANDARD") z z (codes ")") [] [] (standard_argument functions.names s sound) no_argument))) in
         let begins = codes "(SET-SYNTAX-FROM-CHAR" in
         let same : like_line n c d ++ rest ≡ (40 ∷ op ++ more) ++ 10 ∷ rest
-        = left_5 begins (character_argument c) (character_argument d) (table_argument n) (line (codes " :STANDARD)")) rest
+        = left_5 begins (character_argument c) (character_argument d) (table_argument n) (line_of_form (codes " :STANDARD)")) rest
         ∙ sym (right_5 begins (character_argument c) (character_argument d) (table_argument n) (codes " :STANDARD)") (10 ∷ rest)) in
-        called op is_like more xs vs arguments (omega arith) (with_entry t c (entry_at standard d)) rest
+        called op is_like more xs vs arguments (omega arith) (with_character_entry t c (entry_at standard d)) rest
         (like_set functions.names s n t writable c d (character c) (character d) (table_form n) z (call_values functions.names s sound more xs vs arguments))
         (subst (λ cs. MadeTable t cs) same made)
 
     pub macro_made : (c : ℕ) (f : Name) (b : Bool) (rest : List ℕ) → c < 128 → IsTrue (is_function_name f) → IsSymbol base.packages (keyword, f) → is_function functions.names f ≡ true
-        → MadeTable t (macro_line n c f (macro_syntax b) ++ rest) → MadeTable (with_entry t c (macro_entry f b)) rest
+        → MadeTable t (macro_line n c f (macro_syntax b) ++ rest) → MadeTable (with_character_entry t c (macro_entry f b)) rest
     unfolding macro_line
     macro_made c f b rest below is_name known may made =
         let op = codes "SET-MACRO-CHARACTER" in
@@ -224,12 +224,12 @@ module _ (functions : Functions) (first : WorldState) (whole : List ℕ) (base :
         = ap (λ cs. (codes "(SET-MACRO-CHARACTER" ++ (32 ∷ printed_character c) ++ (32 ∷ symbol_text keyword f) ++ cs ++ table_end n) ++ rest) (kind_is b) in
         let same : (codes "(SET-MACRO-CHARACTER" ++ (32 ∷ printed_character c) ++ (32 ∷ symbol_text keyword f) ++ (32 ∷ flag_text b) ++ table_end n) ++ rest ≡ (40 ∷ op ++ more) ++ 10 ∷ rest
         = after_4 n rest (codes "(SET-MACRO-CHARACTER") (character_argument c) (keyword_argument f) (32 ∷ flag_text b) in
-        called op is_macro more xs vs arguments (omega arith) (with_entry t c (macro_entry f b)) rest
+        called op is_macro more xs vs arguments (omega arith) (with_character_entry t c (macro_entry f b)) rest
         (macro_set functions.names s n t writable c f b (character c) y (flag b) (table_form n) may (call_values functions.names s sound more xs vs arguments))
         (subst (λ cs. MadeTable t cs) (kind ∙ same) made)
 
     pub dispatching_made : (c : ℕ) (b : Bool) (rest : List ℕ) → c < 128
-        → MadeTable t ((codes "(MAKE-DISPATCH-MACRO-CHARACTER" ++ (32 ∷ printed_character c) ++ kind_argument (macro_syntax b) ++ table_end n) ++ rest) → MadeTable (with_entry t c (dispatching_entry b)) rest
+        → MadeTable t ((codes "(MAKE-DISPATCH-MACRO-CHARACTER" ++ (32 ∷ printed_character c) ++ kind_argument (macro_syntax b) ++ table_end n) ++ rest) → MadeTable (with_character_entry t c (dispatching_entry b)) rest
     dispatching_made c b rest below made =
         let op = codes "MAKE-DISPATCH-MACRO-CHARACTER" in
         let second = 32 ∷ flag_text b ++ named in
@@ -244,12 +244,12 @@ module _ (functions : Functions) (first : WorldState) (whole : List ℕ) (base :
         = ap (λ cs. (codes "(MAKE-DISPATCH-MACRO-CHARACTER" ++ (32 ∷ printed_character c) ++ cs ++ table_end n) ++ rest) (kind_is b) in
         let same : (codes "(MAKE-DISPATCH-MACRO-CHARACTER" ++ (32 ∷ printed_character c) ++ (32 ∷ flag_text b) ++ table_end n) ++ rest ≡ (40 ∷ op ++ more) ++ 10 ∷ rest
         = after_3 n rest (codes "(MAKE-DISPATCH-MACRO-CHARACTER") (character_argument c) (32 ∷ flag_text b) in
-        called op is_dispatch more xs vs arguments (omega arith) (with_entry t c (dispatching_entry b)) rest
+        called op is_dispatch more xs vs arguments (omega arith) (with_character_entry t c (dispatching_entry b)) rest
         (dispatching_set functions.names s n t writable c b (character c) (flag b) (table_form n) (call_values functions.names s sound more xs vs arguments))
         (subst (λ cs. MadeTable t cs) (kind ∙ same) made)
 
     pub sub_made : (c sub : ℕ) (f : Name) (rest : List ℕ) → c < 128 → IsSubFunction base.packages sub f → is_function functions.names f ≡ true → is_dispatching (entry_at t c) ≡ true
-        → MadeTable t (sub_line n c sub (Some f) ++ rest) → MadeTable (with_entry t c (with_function (entry_at t c) sub f)) rest
+        → MadeTable t (sub_line n c sub (Some f) ++ rest) → MadeTable (with_character_entry t c (with_function (entry_at t c) sub f)) rest
     unfolding sub_line
     sub_made c sub f rest below is may dispatches made =
         let op = codes "SET-DISPATCH-MACRO-CHARACTER" in
@@ -265,6 +265,6 @@ module _ (functions : Functions) (first : WorldState) (whole : List ℕ) (base :
         (argument (symbol_text keyword f) y y named (table_form n ∷ []) (symbol keyword n ∷ []) (keyword_is functions.names s sound f is.named (function_short f is.name)) table_last)) in
         let same : sub_line n c sub (Some f) ++ rest ≡ (40 ∷ op ++ more) ++ 10 ∷ rest
         = after_4 n rest (codes "(SET-DISPATCH-MACRO-CHARACTER") (character_argument c) (character_argument sub) (keyword_argument f) in
-        called op is_sub more xs vs arguments (omega arith) (with_entry t c (with_function (entry_at t c) sub f)) rest
+        called op is_sub more xs vs arguments (omega arith) (with_character_entry t c (with_function (entry_at t c) sub f)) rest
         (sub_set functions.names s n t writable c sub f (character c) (character sub) y (table_form n) may is dispatches (call_values functions.names s sound more xs vs arguments))
         (subst (λ cs. MadeTable t cs) same made)

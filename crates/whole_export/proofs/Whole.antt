@@ -11,11 +11,11 @@ use Rattle.package_table.proofs.First.{sound as first_sound}
 use Rattle.package_table.proofs.Frames.{get_inserted}
 use Rattle.plist_state.specs.declared.error.ReadtableError.TheVariants.{NoReadtable}
 use Rattle.plist_state.specs.Properties.{Properties}
-use Rattle.plist_state.specs.Sound.{IsSound}
+use Rattle.plist_state.specs.Sound.{IsSoundWorldState}
 use Rattle.plist_state.specs.State.{WorldState, initial, standard_name, user_name}
 use Rattle.user_macros.specs.Functions.{Functions}
 use Rattle.lisp_operators.specs.Evaluation.{also, and_then, writes}
-use Rattle.lisp_operators.specs.Readtables.{after, enter_readtable}
+use Rattle.lisp_operators.specs.Readtables.{value_after, enter_readtable}
 use Rattle.evaluator.specs.Value.{value_by, value_over}
 use Rattle.snapshot_text.specs.Covered.{are_covered}
 use Rattle.session_words.specs.declared.content.Content.TheVariants.{World}
@@ -29,7 +29,7 @@ use Rattle.export_laws.proofs.Front.{without_newline}
 use Rattle.export_laws.proofs.Lines.{lines_made}
 use Rattle.export_laws.proofs.OneForm.{nothing_made, one_more_made}
 use Rattle.export_laws.proofs.PackageLines.{packages_made}
-use Rattle.whole_export.specs.Kept.{IsWithoutLeftOut}
+use Rattle.whole_export.specs.KeptWorld.{IsWithoutLeftOut}
 use Rattle.whole_export.specs.Standard.{ReadsStandard}
 use Rattle.whole_export.proofs.AllReadtables.{first_standard, tables_made}
 use Rattle.whole_export.proofs.Arguments.{AreArguments, accepted_so, argument, call_is_list, call_there, call_values, no_argument}
@@ -70,7 +70,7 @@ module _ (functions : Functions) (whole : List ℕ) where
   first_value =
       let name = symbol keyword standard_name in
       ap (λ e. and_then e enter_readtable) (call_values functions.names initial first_sound more (name ∷ []) (name ∷ []) its_arguments)
-      ∙ ap (λ (b : Bool). also false (after initial name (if b then Ok begun else Err NoReadtable))) (ap is_some first_standard)
+      ∙ ap (λ (b : Bool). also false (value_after initial name (if b then Ok begun else Err NoReadtable))) (ap is_some first_standard)
 
   first_made : (rest : List ℕ) → Makes functions initial whole initial (10 ∷ (codes "(IN-READTABLE :STANDARD)" ++ 10 ∷ rest)) → Makes functions initial whole begun (10 ∷ rest)
   first_made rest made =
@@ -81,7 +81,7 @@ module _ (functions : Functions) (whole : List ℕ) where
 
 -- ---- the whole
 
-module _ (functions : Functions) (s : WorldState) (sound : IsSound s) (covered : are_covered functions.names s ≡ true) where
+module _ (functions : Functions) (s : WorldState) (sound : IsSoundWorldState s) (covered : are_covered functions.names s ≡ true) where
   abbrev ending : List ℕ
   ending = last_newline s World
 

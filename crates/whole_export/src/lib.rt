@@ -19,7 +19,7 @@
 
 ghost use Rattle.std.specs.Prelude.{◌≡◌, ◌∷◌, ◌++◌, [], ℕ, List, Option, Some, true};
 ghost use Rattle.disk_trait.specs.Disk.{IsHonest};
-ghost use Rattle.plist_state.specs.Sound.{IsSound};
+ghost use Rattle.plist_state.specs.Sound.{IsSoundWorldState};
 ghost use Rattle.plist_state.specs.State.{WorldState, first_readtables, initial};
 ghost use Rattle.lisp_reading.specs.Reading.{empty};
 ghost use Rattle.prevalence_store.specs.Theorem.{Keeps};
@@ -36,7 +36,7 @@ ghost use Rattle.world_forms.specs.Forms.{forms, last_newline};
 ghost use Rattle.world_forms.specs.Properties.{left_out_lines};
 ghost use Rattle.world_forms.specs.Readtables.{readtable_lines};
 ghost use Rattle.export_laws.specs.Texts.{Makes};
-ghost use Rattle.whole_export.specs.Kept.{IsWithoutLeftOut};
+ghost use Rattle.whole_export.specs.KeptWorld.{IsWithoutLeftOut};
 ghost use Rattle.whole_export.specs.Sessions.{EndsWith};
 ghost use Rattle.whole_export.specs.Standard.{ReadsStandard};
 
@@ -55,7 +55,7 @@ pub fn kept_worlds_are_covered<D: Disk>()
 /// of the sound one.
 pub fn readtable_lines_are_read()
     ensures { (functions : Functions) (s now : WorldState) (rest : List ℕ)
-        → IsSound s → are_covered functions.names s ≡ true → now.packages ≡ s.packages
+        → IsSoundWorldState s → are_covered functions.names s ≡ true → now.packages ≡ s.packages
         → now.readtables ≡ first_readtables → ReadsStandard now
         → Makes functions now (10 ∷ readtable_lines s ++ rest)
         (record now { readtables = s.readtables }) (10 ∷ rest) }
@@ -69,10 +69,10 @@ pub fn readtable_lines_are_read()
 /// - `all`: what is left of the text is no form.
 pub fn export_makes_a_world()
     ensures world { (functions : Functions) (s : WorldState)
-        → IsSound s → are_covered functions.names s ≡ true → left_out_lines s ≡ []
+        → IsSoundWorldState s → are_covered functions.names s ≡ true → left_out_lines s ≡ []
         → Makes functions initial (forms s World) s (last_newline s World) }
     ensures without { (functions : Functions) (s : WorldState)
-        → IsSound s → are_covered functions.names s ≡ true
+        → IsSoundWorldState s → are_covered functions.names s ≡ true
         → (w : WorldState) × IsWithoutLeftOut s w
         × Makes functions initial (forms s World) w (last_newline s World) }
     ensures all { (functions : Functions) (s : WorldState)
@@ -86,13 +86,13 @@ pub fn export_makes_a_world()
 /// - `without`: else it has the state without the properties that are left out.
 pub fn export_is_taken<D: Disk, R>()
     ensures world { (functions : Functions) (s : WorldState)
-        → IsSound s → are_covered functions.names s ≡ true → left_out_lines s ≡ []
+        → IsSoundWorldState s → are_covered functions.names s ≡ true → left_out_lines s ≡ []
         → (wanted : Wanted) (old new : StoreView D R)
         → (has held written : Option (List ℕ)) (ended : Ended) → wanted.mode ≡ Current
         → ServesWanted functions D.state wanted old new initial (Some (forms s World)) has held written ended
         → EndsWith new.world s ended }
     ensures without { (functions : Functions) (s : WorldState)
-        → IsSound s → are_covered functions.names s ≡ true
+        → IsSoundWorldState s → are_covered functions.names s ≡ true
         → (wanted : Wanted) (old new : StoreView D R)
         → (has held written : Option (List ℕ)) (ended : Ended) → wanted.mode ≡ Current
         → ServesWanted functions D.state wanted old new initial (Some (forms s World)) has held written ended

@@ -17,7 +17,7 @@ use Rattle.gate_log.specs.Layout.{Contents, LogRecord}
 use Rattle.lisp_object.specs.Object.{Object}
 use Rattle.lisp_object.specs.declared.refusal.TheConstants.{TEXT_LEFT_OVER}
 use Rattle.readtable_core.specs.Names.{is_among, is_dispatch_name, is_standard}
-use Rattle.readtable_core.specs.Named.{functions_of}
+use Rattle.readtable_core.specs.NamedFunctions.{functions_of}
 use Rattle.package_table.specs.Table.{Name}
 use Rattle.user_macros.specs.Functions.{Functions, no_functions}
 use Rattle.user_macros.specs.Registry.{is_covered}

@@ -22,10 +22,10 @@ use Rattle.lisp_reading.specs.declared.way.Function.{Function}
 use Rattle.lisp_reading.specs.declared.way.Function.TheVariants.{Standard as AStandard, User}
 use Rattle.lisp_reading.specs.declared.way.Way.{Way}
 use Rattle.lisp_reading.specs.declared.way.Way.TheVariants.{Nothing, Next, List as AList, Until, Text, Line, Block, Token, EscapedToken}
-use Rattle.lisp_reading.specs.Calls.{InvokedCall, caller}
+use Rattle.lisp_reading.specs.InvokedCalls.{InvokedCall, caller}
 use Rattle.lisp_reading.specs.Plans.{Plan, gives, refuses, takes, scans, then_plan, next_byte, character, loop_in, loop, Fault, Read, within, limited, scanned, run}
 use Rattle.lisp_reading.specs.Setting.{Setting, setting_of, macro_call, user_way, way_in, function_of}
-use Rattle.lisp_reading.specs.Reading.{text_to, line_after, block_after, number_after, Piece, item, dot, closed, is_whitespace, without_space, piece_of, or_closed, next_item_turn, next_item, Items, items_step, items_turn, items_after, undotted, after_tail, after_dot, list_end, one_piece, plan_after_answer, completed, opened, gathered, gathered_by, called, sub_called, sub_there, dispatched, macro_called, stands_alone, alone, token_found, attempt_by, inner, attempt, Outcome, form, outcome, reads_in, reads}
+use Rattle.lisp_reading.specs.Reading.{text_to, line_after, block_after, number_after, Piece, item, dot, closed, is_whitespace, without_space, piece_of, or_closed, next_item_turn, next_item, Items, items_step, items_turn, items_after, undotted, after_tail, after_dot, list_end, one_piece, plan_after_answer, completed, opened, gathering_plan, gathered_by, called, sub_called, sub_there, dispatch_plan, macro_called, stands_alone, alone, token_found, attempt_by, inner, attempt, Outcome, form, outcome, reads_in, reads}
 use Rattle.lisp_reading.proofs.Steps.{and_then, run_then}
 use Rattle.wider_functions.specs.Among.{AreAmong}
 
@@ -255,7 +255,7 @@ module _ (limits : Limits) (table : Table) (base : ℕ) (packages : Packages) (c
   module _ (depth : ℕ) (may may2 : Option (Plan Found)) (deeper : WidensInner may may2) where
     -- where the function of the call is one
     module _ (call : InvokedCall) (ends : (token spaced : Bool) (m : Material) → Widens (completed few depth call token spaced m) (completed many depth call token spaced m)) where
-      gathered_widens : (way : Way) → Widens (gathered few depth may call way) (gathered many depth may2 call way)
+      gathered_widens : (way : Way) → Widens (gathering_plan few depth may call way) (gathering_plan many depth may2 call way)
       gathered_widens Nothing = ends false false no_material
       gathered_widens Next =
           let on : Piece → Plan Found = one_piece (λ token x. completed few depth call token token (one_object x)) in
@@ -322,7 +322,7 @@ module _ (limits : Limits) (table : Table) (base : ℕ) (packages : Packages) (c
     sub_widens c sub number None = same_widens (refuses NO_DISPATCH 1)
     sub_widens c sub number (Some name) = called_widens (function_of name) c (Some (upper_case sub)) number
 
-    dispatched_widens : (c : ℕ) → Widens (dispatched few depth may c None) (dispatched many depth may2 c None)
+    dispatched_widens : (c : ℕ) → Widens (dispatch_plan few depth may c None) (dispatch_plan many depth may2 c None)
     dispatched_widens c =
         then_widens (number_after few None) (number_after many None) (sub_there few depth may c) (sub_there many depth may2 c) (same_widens (number_after few None))
         (λ number. next_byte_widens (λ sub. sub_called few depth may c sub number (dispatch_at table c sub))
@@ -332,8 +332,8 @@ module _ (limits : Limits) (table : Table) (base : ℕ) (packages : Packages) (c
     macro_widens c None = same_widens (refuses OUT_OF_PROFILE 1)
     macro_widens c (Some name) =
         let call : InvokedCall = record { function = function_of name; character = c; sub = None; number = None } in
-        if_widens (is_dispatch_name name) (dispatched few depth may c None) (called few depth may call)
-        (dispatched many depth may2 c None) (called many depth may2 call) (dispatched_widens c) (called_widens (function_of name) c None None)
+        if_widens (is_dispatch_name name) (dispatch_plan few depth may c None) (called few depth may call)
+        (dispatch_plan many depth may2 c None) (called many depth may2 call) (dispatched_widens c) (called_widens (function_of name) c None None)
 
     alone_widens : (c : ℕ) (s : Syntax) → Widens (alone few depth may c s) (alone many depth may2 c s)
     alone_widens c Whitespace = same_widens (gives (nothing false))

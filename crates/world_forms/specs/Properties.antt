@@ -13,7 +13,7 @@ use Rattle.plist_state.specs.Properties.{Symbol}
 use Rattle.plist_state.specs.State.{WorldState}
 use Rattle.plist_state.specs.Changes.{plist}
 use Rattle.plist_state.specs.Readers.{symbols_with_properties}
-use Rattle.world_forms.specs.Tokens.{line, symbol_text, quoted_text, told_text}
+use Rattle.world_forms.specs.Tokens.{line_of_form, symbol_text, quoted_text, told_text}
 
 -- the form that sets a property of a symbol
 unfoldable pub property_form : Table → Symbol → Symbol × Object → List ℕ
@@ -32,18 +32,18 @@ ends_at _ n = false
 
 -- whether a form is read on a line of its own: what is too long or too deep is not
 unfoldable pub is_form : Table → List ℕ → Bool
-is_form t text = ends_at (reads (form_setting t) (line text)) (length text)
+is_form t text = ends_at (reads (form_setting t) (line_of_form text)) (length text)
 
 module _ (t : Table) (x : Symbol) where
   -- the form of a property, if it is one
   unfoldable pub property_line : Symbol × Object → List ℕ
-  property_line p = if is_form t (property_form t x p) then line (property_form t x p) else []
+  property_line p = if is_form t (property_form t x p) then line_of_form (property_form t x p) else []
 
   -- else the symbol and the indicator: the property is left out
   unfoldable pub left_out_line : Symbol × Object → List ℕ
   left_out_line p =
       if is_form t (property_form t x p) then []
-      else line (told_text (symbol_text x.0 x.1 ++ codes " " ++ symbol_text p.0.0 p.0.1))
+      else line_of_form (told_text (symbol_text x.0 x.1 ++ codes " " ++ symbol_text p.0.0 p.0.1))
 
 module _ (s : WorldState) where
   unfoldable pub plist_lines : Symbol → List ℕ

@@ -10,13 +10,13 @@ use Rattle.readtable_core.specs.declared.table.Case.{Case}
 use Rattle.readtable_core.specs.declared.table.Case.TheVariants.{Upcase}
 use Rattle.readtable_core.specs.Cases.{case_name}
 use Rattle.readtable_core.specs.Characters.{syntax_number}
-use Rattle.readtable_core.specs.Named.{same_entry}
+use Rattle.readtable_core.specs.NamedFunctions.{same_entry}
 use Rattle.readtable_core.specs.Names.{is_dispatch_name}
 use Rattle.readtable_core.specs.Tables.{Table, CharacterEntry, entry_at, standard}
 use Rattle.package_table.specs.Table.{Name, keyword}
 use Rattle.plist_state.specs.State.{WorldState, standard_name}
 use Rattle.plist_state.specs.Readers.{readtable_names}
-use Rattle.world_forms.specs.Tokens.{line, value_text, keyword_argument, character_argument}
+use Rattle.world_forms.specs.Tokens.{line_of_form, value_text, keyword_argument, character_argument}
 
 -- the first character with this syntax type, and without a function, in the standard readtable
 unfoldable pub character_of_type : Syntax → Option ℕ
@@ -35,11 +35,11 @@ module _ (name : Name) where
 
   -- the same, and the end of the form
   abbrev pub table_end : List ℕ
-  table_end = table_argument ++ line (codes ")")
+  table_end = table_argument ++ line_of_form (codes ")")
 
   -- a character that is as another one in the standard readtable
   unfoldable pub like_line : ℕ → ℕ → List ℕ
-  like_line c there = codes "(SET-SYNTAX-FROM-CHAR" ++ character_argument c ++ character_argument there ++ table_argument ++ line (codes " :STANDARD)")
+  like_line c there = codes "(SET-SYNTAX-FROM-CHAR" ++ character_argument c ++ character_argument there ++ table_argument ++ line_of_form (codes " :STANDARD)")
 
   -- a character without a function
   unfoldable pub syntax_line : ℕ → Syntax → List ℕ
@@ -73,7 +73,7 @@ module _ (name : Name) where
 
   -- the case of this name
   unfoldable pub set_case_line : List ℕ → List ℕ
-  set_case_line case = codes "(SETF (READTABLE-CASE" ++ table_argument ++ codes ")" ++ keyword_argument case ++ line (codes ")")
+  set_case_line case = codes "(SETF (READTABLE-CASE" ++ table_argument ++ codes ")" ++ keyword_argument case ++ line_of_form (codes ")")
 
   -- the case, if it is another than in the standard readtable
   unfoldable pub case_line : Case → List ℕ

@@ -4,12 +4,12 @@ use Rattle.std.specs.List.{list_all, flat_map}
 use Rattle.std.specs.Char.{is_ascii_digit, is_ascii_uppercase}
 use Rattle.std.specs.Str.{byte, bytes_eq}
 use Rattle.package_table.specs.Table.{Name, common_lisp_user, keyword}
-use Rattle.canon_printer.specs.Names.{escaped, is_escaped_in_bars}
+use Rattle.canon_printer.specs.Names.{with_backslashes, is_escaped_in_bars}
 use Rattle.canon_printer.specs.Written.{printed_text, printed_character}
 
 -- a form on a line of its own
-abbrev pub line : List ℕ → List ℕ
-line form = form ++ 10 ∷ []
+abbrev pub line_of_form : List ℕ → List ℕ
+line_of_form form = form ++ 10 ∷ []
 
 -- ---- symbols
 
@@ -23,7 +23,7 @@ is_portable_name (c ∷ cs) = is_ascii_uppercase c && list_all is_plain_after cs
 
 -- a name as a part of a token: as it stands, or between bars
 abbrev pub name_text : Name → List ℕ
-name_text name = if is_portable_name name then name else codes "|" ++ escaped is_escaped_in_bars name ++ codes "|"
+name_text name = if is_portable_name name then name else codes "|" ++ with_backslashes is_escaped_in_bars name ++ codes "|"
 
 -- what comes before the name of a symbol
 abbrev pub prefix_text : Name → List ℕ

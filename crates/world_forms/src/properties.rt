@@ -6,9 +6,9 @@ ghost use Rattle.readtable_core.specs.Tables.{standard};
 ghost use Rattle.lisp_reading.specs.Reading.{Outcome, reads};
 ghost use Rattle.form_reader.specs.Reader.{IsOutcome};
 ghost use Rattle.plist_state.specs.Readers.{borrowed_symbol, borrowed_symbols};
-ghost use Rattle.plist_state.specs.Shown.{property_of};
+ghost use Rattle.plist_state.specs.Views.{property_of};
 ghost use Rattle.canon_printer.specs.Written.{AddsText};
-ghost use Rattle.world_forms.specs.Tokens.{line, symbol_text, quoted_text, told_text};
+ghost use Rattle.world_forms.specs.Tokens.{line_of_form, symbol_text, quoted_text, told_text};
 ghost use Rattle.world_forms.specs.Properties.{form_setting, ends_at, property_form, property_line, left_out_line, plist_lines, plist_left_out, property_lines, left_out_lines};
 
 use crate::texts::{push_symbol, push_told, push_value};
@@ -99,7 +99,7 @@ fn is_form(
     end: usize,
 ) -> Result<bool, AllocError>
     requires { readtable.now ≡ standard }
-    ensures { IfOk result (λ is. is ≡ ends_at (reads (form_setting packages.now.0) line.now) end) }
+    ensures { IfOk result (λ is. is ≡ ends_at (reads (form_setting packages.now.0) line_of_form.now) end) }
 {
     let read = read_form(alloc, readtable, packages, line)?;
     Ok(ends_at(&read, end))
@@ -129,7 +129,8 @@ fn push_names(
     name: &[u8],
     property: &Property<'_>,
 ) -> Result<(), AllocError>
-    ensures { OnOk result (AddsText left_out.old left_out.new (line (told_text (symbol_text home.now name.now
+    ensures { OnOk result
+        (AddsText left_out.old left_out.new (line_of_form (told_text (symbol_text home.now name.now
         ++ codes " " ++ symbol_text property.now.home.now property.now.name.now)))) }
 {
     let names = names_of(*left_out.allocator(), home, name, property)?;

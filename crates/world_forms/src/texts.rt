@@ -1,7 +1,7 @@
 //! Names, texts, symbols and characters as they stand in a form.
 ghost use Rattle.std.specs.Prelude.{◌≡◌, ◌<◌, [], ◌∷◌, ◌++◌, map, if◌then◌else◌, codes, OnOk};
 ghost use Rattle.std.specs.List.{list_all, flat_map};
-ghost use Rattle.canon_printer.specs.Names.{escaped, is_escaped_in_bars, is_invalid};
+ghost use Rattle.canon_printer.specs.Names.{with_backslashes, is_escaped_in_bars, is_invalid};
 ghost use Rattle.canon_printer.specs.Written.{AddsText, printed_text};
 ghost use Rattle.package_table.specs.Readers.{names_of};
 ghost use Rattle.world_forms.specs.Tokens.{is_portable_name, is_plain_after, name_text, prefix_text, symbol_text, prefix_length, is_too_long};
@@ -56,7 +56,7 @@ fn is_escaped_in_bars(c: u8) -> bool
 /// Adds a name between bars.
 fn push_barred(text: &mut Vec<u8>, name: &[u8]) -> Result<(), AllocError>
     ensures { OnOk result (AddsText text.old text.new
-        (codes "|" ++ escaped is_escaped_in_bars name.now ++ codes "|")) }
+        (codes "|" ++ with_backslashes is_escaped_in_bars name.now ++ codes "|")) }
 {
     text.push(b'|')?;
     for byte in name {

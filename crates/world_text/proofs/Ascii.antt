@@ -11,7 +11,7 @@ use Rattle.std.specs.FinMap.{contains_key-keys, get-entries, entries_sorted, fin
 use Rattle.std.specs.FinMap.Entries.{below_all}
 use Rattle.std.proofs.lemmas.Bool.{lt-ltb, or_left, or_right, and_from, and_parts}
 use Rattle.lisp_object.specs.Ascii.{is_ascii}
-use Rattle.package_table.specs.Table.{Name, Table, Package, Present, name_cmp, IsSound, IsPackage, IsPresent, keyword}
+use Rattle.package_table.specs.Table.{Name, Table, Package, Present, name_cmp, AreSoundPackages, IsPackage, IsPresent, keyword}
 use Rattle.package_table.specs.Table.{initial}
 use Rattle.package_table.specs.Lookup.{is_present}
 use Rattle.package_table.specs.Readers.{package_names, used_names, present, own_names, external_names, imports}
@@ -87,7 +87,7 @@ are_ascii_names names = list_all is_ascii_name names
 abbrev pub are_ascii_imports : List (Name × Name) → Bool
 are_ascii_imports rows = list_all (λ r. is_ascii_name r.0 && is_ascii_name r.1) rows
 
-module _ (t : Table) (sound : IsSound t) where
+module _ (t : Table) (sound : AreSoundPackages t) where
   pub package_ascii : (p : Name) → IsPackage t p → is_ascii_name p ≡ true
   package_ascii p there = ascii_all p (sound.within.package_names p there).ascii
 

@@ -19,11 +19,11 @@ use Rattle.token_meaning.specs.declared.token.TokenName.TheVariants.{Unqualified
 use Rattle.token_meaning.specs.Numerals.{is_empty}
 use Rattle.token_meaning.specs.Numbers.{is_point, number_in_base}
 use Rattle.token_meaning.specs.Folding.{in_upper_case}
-use Rattle.token_meaning.specs.Meanings.{Meaning, number, name, is_unescaped as is_plain_mark, name_of, meaning_of}
-use Rattle.package_table.specs.Table.{Name, Table, IsSound, IsPresent, keyword}
+use Rattle.token_meaning.specs.Meanings.{Meaning, number, name, is_unescaped as is_plain_mark, name_of_marks, meaning_of}
+use Rattle.package_table.specs.Table.{Name, Table, AreSoundPackages, IsPresent, keyword}
 use Rattle.package_table.specs.Lookup.{is_symbol, is_external}
 use Rattle.package_table.specs.Resolving.{found_at, resolution, external_resolution, internal_resolution}
-use Rattle.canon_printer.specs.Names.{escaped, is_escaped_in_bars, printed_name}
+use Rattle.canon_printer.specs.Names.{with_backslashes, is_escaped_in_bars, printed_name}
 use Rattle.canon_printer.specs.Written.{printed_ratio}
 use Rattle.canon_printer.specs.Printed.{is_accessible, printed}
 use Rattle.canon_printer.proofs.Resolved.{accessible_resolved, home_there, external_resolved, internal_resolved}
@@ -45,7 +45,7 @@ pub record IsNameText (own text : List ℕ) (marks : List Mark) : Type 0 where
 pub printed_text : (own : List ℕ) → IsAscii own → IsNameText own (printed_name own) (name_marks own)
 printed_text own ascii = record { spelled = name_spelled own ascii; starts = name_starts own ascii; stands = is_name own ascii }
 
-pub barred_text : (own : List ℕ) → IsAscii own → IsNameText own (codes "|" ++ escaped is_escaped_in_bars own ++ codes "|") (Bar ∷ (quoted_marks own ++ Bar ∷ []))
+pub barred_text : (own : List ℕ) → IsAscii own → IsNameText own (codes "|" ++ with_backslashes is_escaped_in_bars own ++ codes "|") (Bar ∷ (quoted_marks own ++ Bar ∷ []))
 barred_text own ascii = record { spelled = barred_spelled own ascii; starts = refl; stands = quoted_name own }
 
 module _ (t : Table) (current : Name) where
@@ -103,7 +103,7 @@ module _ (t : Table) (current : Name) where
   -- ---- names
 
   -- marks that keep their case and begin a name mean what their package markers say
-  name_meant : (marks : List Mark) (meaning : Meaning) (x : Object) → in_upper_case marks ≡ marks → BeginsName marks → name_of marks ≡ Ok meaning
+  name_meant : (marks : List Mark) (meaning : Meaning) (x : Object) → in_upper_case marks ≡ marks → BeginsName marks → name_of_marks marks ≡ Ok meaning
       → told_meaning t current (Ok meaning) ≡ Ok (told_object x) → meant marks ≡ Ok (told_object x)
   name_meant marks meaning x kept begins is found =
       ap (λ (ms : List Mark). told_meaning t current (meaning_of 10 ms)) kept
@@ -141,7 +141,7 @@ module _ (t : Table) (current : Name) where
 
     -- after the name of a package
     module _ (prefix : Name) (front_text : List ℕ) (front : List Mark) (first : IsNameText prefix front_text front) where
-      front_marks : (home : Name) (colons : List Mark) (meaning : Meaning) → in_upper_case colons ≡ colons → name_of (front ++ (colons ++ own_marks)) ≡ Ok meaning
+      front_marks : (home : Name) (colons : List Mark) (meaning : Meaning) → in_upper_case colons ≡ colons → name_of_marks (front ++ (colons ++ own_marks)) ≡ Ok meaning
           → told_meaning t current (Ok meaning) ≡ Ok (told_object (symbol home own)) → meant ((front ++ colons) ++ own_marks) ≡ Ok (told_object (symbol home own))
       front_marks home colons meaning kept is found =
           ap meant (append_assoc front colons own_marks)
@@ -176,7 +176,7 @@ module _ (t : Table) (current : Name) where
 
   -- ---- symbols, as they are printed
 
-  module _ (sound : IsSound t) (home own : Name) (present : IsPresent t home own home) where
+  module _ (sound : AreSoundPackages t) (home own : Name) (present : IsPresent t home own home) where
     pub home_ascii : IsAscii home
     home_ascii = (sound.within.package_names home (home_there t home own sound present)).ascii
 

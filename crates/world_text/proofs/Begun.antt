@@ -24,8 +24,8 @@ use Rattle.lisp_reading.specs.declared.found.Found.TheVariants.{Nothing as nothi
 use Rattle.lisp_reading.specs.declared.told.Told.TheVariants.{Object as told_object}
 use Rattle.lisp_reading.specs.declared.way.Function.TheVariants.{Standard as AStandard}
 use Rattle.lisp_reading.specs.Plans.{Plan, scans, Read, limited, scanned, run}
-use Rattle.lisp_reading.specs.Calls.{InvokedCall}
-use Rattle.lisp_reading.specs.Naming.{told}
+use Rattle.lisp_reading.specs.InvokedCalls.{InvokedCall}
+use Rattle.lisp_reading.specs.Naming.{token_meant}
 use Rattle.lisp_reading.specs.Setting.{Setting, setting_of}
 use Rattle.lisp_reading.specs.Reading.{stands_alone, alone, called, inner, attempt, token_found, sub_there, sub_called, number_after}
 use Rattle.form_reader.proofs.Objects.{takes_is, passes_is}
@@ -68,7 +68,7 @@ module _ (limits : Limits) (packages : Packages) (current : Name) (functions : F
 
   -- a token that means an object
   pub token_begun : (d at c : ℕ) (cs : List ℕ) (marks : List Mark) (next : ℕ) (rest : List ℕ) (x : Object) → starts_token (standard_syntax c) ≡ true
-      → scanned false standard limits.token at (c ∷ cs) ≡ Ok (marks, next, rest) → next ≤ limits.text → is_empty marks ≡ false → told under marks ≡ Ok (told_object x)
+      → scanned false standard limits.token at (c ∷ cs) ≡ Ok (marks, next, rest) → next ≤ limits.text → is_empty marks ≡ false → token_meant under marks ≡ Ok (told_object x)
       → begun d at (c ∷ cs) ≡ Ok (one true x, next, rest)
   unfolding run
   token_begun d at c cs marks next rest x starts e fits some is =
@@ -76,7 +76,7 @@ module _ (limits : Limits) (packages : Packages) (current : Name) (functions : F
       ∙ scan_is standard limits false limits.token (token_found under) at (c ∷ cs) marks next rest e fits
       ∙ by_marks marks some is
     where
-      by_marks : (marks : List Mark) → is_empty marks ≡ false → told under marks ≡ Ok (told_object x) → run standard limits (token_found under marks) next rest ≡ Ok (one true x, next, rest)
+      by_marks : (marks : List Mark) → is_empty marks ≡ false → token_meant under marks ≡ Ok (told_object x) → run standard limits (token_found under marks) next rest ≡ Ok (one true x, next, rest)
       by_marks [] some is = absurd cc
       by_marks (m ∷ ms) some is = rw is refl
 

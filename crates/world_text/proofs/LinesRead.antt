@@ -8,7 +8,7 @@ use Rattle.canon_printer.specs.Printed.{printed}
 use Rattle.lisp_reading.specs.Setting.{Setting, setting_of}
 use Rattle.lisp_reading.specs.Reading.{form, space_at, reads}
 use Rattle.plist_state.specs.State.{WorldState}
-use Rattle.plist_state.specs.Sound.{IsSound}
+use Rattle.plist_state.specs.Sound.{IsSoundWorldState}
 use Rattle.world_text.specs.Lines.{snapshot_limits, IsLineRead}
 use Rattle.world_text.specs.Tokens.{ends_with_token}
 use Rattle.world_text.specs.Snapshot.{packages_object, properties_object, tables_object_in}
@@ -23,7 +23,7 @@ module _ (functions : Functions) where
   abbrev under : Table → Setting
   under t = setting_of snapshot_limits standard 10 t common_lisp_user functions
 
-  read_line : (t : Table) → packages.IsSound t → (x : Object) → IsGood t x → object_depth x ≤ 104 → length (printed t common_lisp_user x) ≤ 4294967295 → (rest : List ℕ)
+  read_line : (t : Table) → packages.AreSoundPackages t → (x : Object) → IsGood t x → object_depth x ≤ 104 → length (printed t common_lisp_user x) ≤ 4294967295 → (rest : List ℕ)
       → IsLineRead (under t) t x rest
   read_line t sound x good deep fits rest = (
     length (printed t common_lisp_user x) + space_at standard (ends_with_token x) (10 ∷ rest),
@@ -32,7 +32,7 @@ module _ (functions : Functions) where
         (good.sound, good_symbols t x good, tokens_short t common_lisp_user sound x good.sound good.known) deep fits (10 ∷ rest) (ends_line rest),
   )
 
-  pub first_read : (s : WorldState) → IsSound s → (t : Table) → packages.IsSound t → length (printed s.packages common_lisp_user (packages_object s.packages)) ≤ 4294967295 → (rest : List ℕ)
+  pub first_read : (s : WorldState) → IsSoundWorldState s → (t : Table) → packages.AreSoundPackages t → length (printed s.packages common_lisp_user (packages_object s.packages)) ≤ 4294967295 → (rest : List ℕ)
       → IsLineRead (under t) s.packages (packages_object s.packages) rest
   first_read s sound t sound_t fits rest =
       let x = packages_object s.packages in
@@ -41,7 +41,7 @@ module _ (functions : Functions) where
       subst (λ (text : List ℕ). (next : ℕ) × (reads (under t) ((text ++ 10 ∷ []) ++ rest) ≡ form x 0 (length text) next)) alike
       (read_line t sound_t x (plain_good t sound_t x plain) (packages_depth s.packages) (subst (λ (text : List ℕ). length text ≤ 4294967295) (sym alike) fits) rest)
 
-  module _ (s : WorldState) (sound : IsSound s) where
+  module _ (s : WorldState) (sound : IsSoundWorldState s) where
     pub second_read : length (printed s.packages common_lisp_user (properties_object s)) ≤ 4294967295 → (rest : List ℕ) → IsLineRead (under s.packages) s.packages (properties_object s) rest
     second_read fits rest = read_line s.packages sound.packages (properties_object s) (properties_good s sound) (properties_depth s sound) fits rest
 

@@ -11,7 +11,7 @@ use Rattle.token_scan.specs.Marks.{characters}
 use Rattle.token_meaning.specs.Numerals.{is_digit_in, is_sign, is_empty}
 use Rattle.token_meaning.specs.Numbers.{is_point, number_in_base}
 use Rattle.token_meaning.specs.Folding.{in_upper_case}
-use Rattle.token_meaning.specs.Meanings.{name, is_unescaped as is_plain_mark, is_package_marker, pattern, name_of, dots_of, number_or_name, meaning_of}
+use Rattle.token_meaning.specs.Meanings.{name, is_unescaped as is_plain_mark, is_package_marker, pattern, name_of_marks, dots_of, number_or_name, meaning_of}
 use Rattle.token_meaning.specs.Results.{is_one_part}
 use Rattle.token_meaning.proofs.NumberFronts.{begins_number, no_number}
 use Rattle.token_meaning.proofs.Parts.{cut_with, cut_without}
@@ -34,7 +34,7 @@ pub record BeginsName (marks : List Mark) : Type 0 where
   pub is : marks ≡ mark ∷ more
   pub passes : begins_name mark ≡ true
 
-by_mark : (m : Mark) (ms : List Mark) → begins_name m ≡ true → meaning_of 10 (m ∷ ms) ≡ name_of (m ∷ ms)
+by_mark : (m : Mark) (ms : List Mark) → begins_name m ≡ true → meaning_of 10 (m ∷ ms) ≡ name_of_marks (m ∷ ms)
 by_mark (Quoted c) ms e = refl
 by_mark Bar ms e = refl
 by_mark (Plain c) ms e =
@@ -43,13 +43,13 @@ by_mark (Plain c) ms e =
     let no_point : is_point c ≡ false = (or_parts (is_sign c) (is_point c) later).1 in
     let none : number_in_base 10 (c ∷ characters ms) ≡ None = no_number (c ∷ characters ms) fails in
     elim (list_all is_plain_mark ms)
-    as (λ b. (if b then (if is_point c && list_all is_point (characters ms) then dots_of (c ∷ characters ms) else number_or_name (number_in_base 10 (c ∷ characters ms)) (Plain c ∷ ms)) else name_of (Plain c ∷ ms)) ≡ name_of (Plain c ∷ ms)) [
+    as (λ b. (if b then (if is_point c && list_all is_point (characters ms) then dots_of (c ∷ characters ms) else number_or_name (number_in_base 10 (c ∷ characters ms)) (Plain c ∷ ms)) else name_of_marks (Plain c ∷ ms)) ≡ name_of_marks (Plain c ∷ ms)) [
       | true ↦ rw (no_point, none) refl
       | false ↦ refl
     ]
 
-pub means_name : (marks : List Mark) → BeginsName marks → meaning_of 10 marks ≡ name_of marks
-means_name marks h = subst (λ (ms : List Mark). meaning_of 10 ms ≡ name_of ms) (sym h.is) (by_mark h.mark h.more h.passes)
+pub means_name : (marks : List Mark) → BeginsName marks → meaning_of 10 marks ≡ name_of_marks marks
+means_name marks h = subst (λ (ms : List Mark). meaning_of 10 ms ≡ name_of_marks ms) (sym h.is) (by_mark h.mark h.more h.passes)
 
 pub begins_both : (marks more : List Mark) → BeginsName marks → BeginsName (marks ++ more)
 begins_both marks more h = record { mark = h.mark; more = h.more ++ more; is = ap (λ (ms : List Mark). ms ++ more) h.is; passes = h.passes }
@@ -122,7 +122,7 @@ is_name text ascii =
 
 -- ---- what they mean alone and after a prefix
 
-pub alone : (own : List ℕ) (marks : List Mark) → IsNameMarks own marks → name_of marks ≡ Ok (name (Unqualified own))
+pub alone : (own : List ℕ) (marks : List Mark) → IsNameMarks own marks → name_of_marks marks ≡ Ok (name (Unqualified own))
 alone own marks h = unmarked marks (cut_without is_package_marker marks h.unmarked) ∙ ap (λ (s : List ℕ). Ok (name (Unqualified s))) h.same
 
 pub not_empty : (marks : List Mark) → BeginsName marks → is_empty marks ≡ false
@@ -131,17 +131,17 @@ not_empty marks h = ap is_empty h.is
 one_part : (own : List ℕ) (marks : List Mark) → IsNameMarks own marks → is_one_part marks ≡ true
 one_part own marks h = rw (not_empty marks h.starts, h.unmarked) refl
 
-pub keyworded : (own : List ℕ) (marks : List Mark) → IsNameMarks own marks → name_of (Plain 58 ∷ marks) ≡ Ok (name (Keyword own))
+pub keyworded : (own : List ℕ) (marks : List Mark) → IsNameMarks own marks → name_of_marks (Plain 58 ∷ marks) ≡ Ok (name (Keyword own))
 keyworded own marks h = keyword_given [] marks refl (one_part own marks h) ∙ ap (λ (s : List ℕ). Ok (name (Keyword s))) h.same
 
-pub prefixed : (home own : List ℕ) (front marks : List Mark) → IsNameMarks home front → IsNameMarks own marks → name_of (front ++ Plain 58 ∷ marks) ≡ Ok (name (External home own))
+pub prefixed : (home own : List ℕ) (front marks : List Mark) → IsNameMarks home front → IsNameMarks own marks → name_of_marks (front ++ Plain 58 ∷ marks) ≡ Ok (name (External home own))
 prefixed home own front marks g h =
     let at : slice_split is_package_marker (front ++ Plain 58 ∷ marks) ≡ front ∷ slice_split is_package_marker marks
     = marked (front ++ Plain 58 ∷ marks) front marks (cut_with is_package_marker front (Plain 58) marks g.unmarked refl) in
     ap pattern at ∙ external_given front marks (not_empty front g.starts) (one_part own marks h)
     ∙ (λ i. Ok (name (External (g.same i) (h.same i))))
 
-pub twice_prefixed : (home own : List ℕ) (front marks : List Mark) → IsNameMarks home front → IsNameMarks own marks → name_of (front ++ Plain 58 ∷ Plain 58 ∷ marks) ≡ Ok (name (Internal home own))
+pub twice_prefixed : (home own : List ℕ) (front marks : List Mark) → IsNameMarks home front → IsNameMarks own marks → name_of_marks (front ++ Plain 58 ∷ Plain 58 ∷ marks) ≡ Ok (name (Internal home own))
 twice_prefixed home own front marks g h =
     let at : slice_split is_package_marker (front ++ Plain 58 ∷ Plain 58 ∷ marks) ≡ front ∷ [] ∷ slice_split is_package_marker marks
     = marked (front ++ Plain 58 ∷ Plain 58 ∷ marks) front (Plain 58 ∷ marks) (cut_with is_package_marker front (Plain 58) (Plain 58 ∷ marks) g.unmarked refl) in

@@ -17,19 +17,19 @@ use Rattle.lisp_object.specs.Object.{Object, integer, rational}
 use Rattle.lisp_object.specs.Lowest.{IsLowest}
 use Rattle.lisp_object.specs.Quotient.{quotient}
 use Rattle.lisp_object.proofs.Quotients.{lowest_stays}
-use Rattle.token_meaning.specs.Numerals.{is_digit_in, is_numeral, are_digits, is_empty, value, signed, is_magnitude_in_range}
+use Rattle.token_meaning.specs.Numerals.{is_digit_in, is_numeral, are_digits, is_empty, numeral_value, signed, is_magnitude_in_range}
 use Rattle.token_meaning.specs.Numbers.{is_point, ratio_of, number_in_base}
 use Rattle.token_meaning.specs.Grammar.{Sign, absent, minus, IsDigits, IsRatio}
 use Rattle.token_meaning.proofs.Spelled.{digits_given, ratio_given}
 use Rattle.canon_printer.specs.Written.{printed_ratio}
 use Rattle.world_text.proofs.Characters.{in_number, in_number_below, number_no_point}
 
-weighs : WeighsDigits (value 10)
-unfolding value
+weighs : WeighsDigits (numeral_value 10)
+unfolding numeral_value
 weighs = search rules
 
-own : IsNumeralModel (AllDigits 10) (value 10)
-own = numerals_by_weight (AllDigits 10) tells_digits (value 10) weighs
+own : IsNumeralModel (AllDigits 10) (numeral_value 10)
+own = numerals_by_weight (AllDigits 10) tells_digits (numeral_value 10) weighs
 
 digits_test : (ds : List ℕ) → AllDigits 10 ds → are_digits 10 ds ≡ true
 digits_test [] h = refl
@@ -47,7 +47,7 @@ decimal_numeral n h =
     let is = decimal_is_IsNumeral_wide n (wide n h) in
     and_from _ _ (some_test (decimal n) is.0.0) (digits_test (decimal n) is.0.1)
 
-pub decimal_value : (n : ℕ) → n < 2 ^ 128 → n ≡ value 10 (decimal n)
+pub decimal_value : (n : ℕ) → n < 2 ^ 128 → n ≡ numeral_value 10 (decimal n)
 decimal_value n h =
     let is = decimal_is_IsNumeral_wide n (wide n h) in
     sym (own.same (decimal n) is.0.1 ∙ is.1)

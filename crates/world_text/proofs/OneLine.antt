@@ -53,7 +53,7 @@ known_symbol t (o.vector xs) k = tt
 pub good_symbols : (t : Table) (x : Object) → IsGood t x → HasAllSymbols t x
 good_symbols t x good = atoms_weaker (IsKnown t) (OfSymbol (λ home name. packages.IsPresent t home name home)) (known_symbol t) x good.known
 
-pub plain_good : (t : Table) → packages.IsSound t → (x : Object) → IsPlain x → IsGood t x
+pub plain_good : (t : Table) → packages.AreSoundPackages t → (x : Object) → IsPlain x → IsGood t x
 plain_good t sound x p = record { sound = plain_sound x p; known = plain_known t sound x p }
 
 -- ---- some limit is enough for its tokens
@@ -82,7 +82,7 @@ pub ends_line : (rest : List ℕ) → may_end (met_text (10 ∷ rest)) ≡ true
 unfolding standard
 ends_line rest = refl
 
-module _ (t : Table) (sound : packages.IsSound t) where
+module _ (t : Table) (sound : packages.AreSoundPackages t) where
   text_of : Object → List ℕ
   text_of x = printed t common_lisp_user x
 
@@ -131,7 +131,7 @@ each_any R tied P [] h = tt
 each_any R tied P (k ∷ ks) h =
     (h k (or_left (eq_by_cmp R k k) _ (tied k)), each_any R tied P ks (λ n e. h n (or_right (eq_by_cmp R n k) _ e)))
 
-module _ (t : Table) (sound : packages.IsSound t) where
+module _ (t : Table) (sound : packages.AreSoundPackages t) where
   value_good : (x : Object) → IsValue t x → IsGood t x
   value_good x v = record { sound = v.object; known = v.symbols }
 
@@ -154,7 +154,7 @@ module _ (t : Table) (sound : packages.IsSound t) where
       pair_good (symbol_object p.0) (o.pair p.1 (list_of (flat_map (λ p. symbol_object p.0 ∷ p.1 ∷ []) ps))) (symbol_good p.0 (hs 0 p (omega arith)))
       (pair_good p.1 (list_of (flat_map (λ p. symbol_object p.0 ∷ p.1 ∷ []) ps)) (value_good p.1 (vs 0 p (omega arith))) later)
 
-module _ (s : WorldState) (sound : state.IsSound s) where
+module _ (s : WorldState) (sound : state.IsSoundWorldState s) where
   pub row_good : (x : Symbol) → IsTrue (finite.contains_key s.properties x) → IsGood s.packages (plist_object x (plist s x))
   row_good x there =
       pair_good s.packages sound.packages (symbol_object x) (list_of (flat_map (λ p. symbol_object p.0 ∷ p.1 ∷ []) (plist s x))) (symbol_good s.packages sound.packages x (sound.symbols x there))

@@ -16,7 +16,7 @@ use Rattle.token_scan.proofs.Spelled.{quoted_counts, escaped_gives}
 use Rattle.token_meaning.specs.Folding.{in_upper_case}
 use Rattle.token_meaning.specs.Meanings.{is_package_marker}
 use Rattle.std_macros.specs.Values.{code_named}
-use Rattle.canon_printer.specs.Names.{escaped, printed_name}
+use Rattle.canon_printer.specs.Names.{with_backslashes, printed_name}
 use Rattle.canon_printer.specs.Written.{is_escaped_in_text, character_name}
 use Rattle.lisp_reading.specs.declared.limits.Limits.{Limits}
 use Rattle.lisp_reading.specs.Plans.{loop, run}
@@ -38,9 +38,9 @@ backslash : is_escape (entry_at standard 92).syntax ≡ true
 backslash = ap is_escape (standard_syntax_at 92)
 
 -- the characters up to the closing one, after those that were gathered
-pub text_read : (limits : Limits) (got bytes rest : List ℕ) (at : ℕ) → IsAscii bytes → at + length (escaped is_escaped_in_text bytes) < limits.text
-    → run standard limits (loop limits (text_turn standard 34) got) at (escaped is_escaped_in_text bytes ++ 34 ∷ rest)
-    ≡ Ok (got ++ bytes, at + length (escaped is_escaped_in_text bytes) + 1, rest)
+pub text_read : (limits : Limits) (got bytes rest : List ℕ) (at : ℕ) → IsAscii bytes → at + length (with_backslashes is_escaped_in_text bytes) < limits.text
+    → run standard limits (loop limits (text_turn standard 34) got) at (with_backslashes is_escaped_in_text bytes ++ 34 ∷ rest)
+    ≡ Ok (got ++ bytes, at + length (with_backslashes is_escaped_in_text bytes) + 1, rest)
 text_read limits got [] rest at ascii fits =
     text_ends standard limits 34 got at 34 rest (omega arith) (omega arith) refl
     ∙ (λ i. Ok (append_nil got i, (let h : at + 1 ≡ at + 0 + 1 = omega arith in h) i, rest))
@@ -49,7 +49,7 @@ text_read limits got [] rest at ascii fits =
     append_nil [] = refl
     append_nil (x ∷ xs) = ap (λ (ys : List ℕ). x ∷ ys) (append_nil xs)
 text_read limits got (c ∷ cs) rest at ascii fits =
-    let more = escaped is_escaped_in_text cs in
+    let more = with_backslashes is_escaped_in_text cs in
     let below = first c cs ascii in
     let plan = λ (got : List ℕ). loop limits (text_turn standard 34) got in
     let text : Bool → List ℕ = λ b. (if b then codes "\\" ++ c ∷ [] else c ∷ []) ++ more in

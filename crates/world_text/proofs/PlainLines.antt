@@ -17,13 +17,13 @@ use Rattle.readtable_core.specs.Names.{is_function_name}
 use Rattle.readtable_core.specs.Tables as readtable
 use Rattle.readtable_core.specs.Tables.{CharacterEntry, entry_at, standard}
 use Rattle.readtable_core.specs.Sound.{IsCharacterEntry, IsReadtable, is_none_or_name}
-use Rattle.readtable_core.specs.Named.{same_entry}
+use Rattle.readtable_core.specs.NamedFunctions.{same_entry}
 use Rattle.readtable_core.proofs.Sound.{standard_sound}
 use Rattle.package_table.specs.Table as packages
 use Rattle.package_table.specs.Table.{Name, Table, common_lisp}
 use Rattle.package_table.specs.Readers.{package_names, used_names, imports}
 use Rattle.plist_state.specs.State.{WorldState, standard_name}
-use Rattle.plist_state.specs.Sound.{IsSound}
+use Rattle.plist_state.specs.Sound.{IsSoundWorldState}
 use Rattle.plist_state.specs.Readers.{readtable_names}
 use Rattle.world_text.specs.Snapshot.{made_names, shown_names, imported_name, package_object, packages_object, number, dispatch_object, dispatch_objects, entry_object, entry_objects, readtable_object, table_named, readtables_object, tables_object_in}
 use Rattle.world_text.proofs.Ascii.{is_ascii_name, are_ascii_names, all_filtered, package_names_ascii, used_names_ascii, made_names_ascii, shown_names_ascii, imports_ascii}
@@ -33,7 +33,7 @@ use Rattle.world_text.proofs.PlainObjects.{IsPlain, ArePlain, plain_nil, plain_l
 
 -- ---- packages
 
-module _ (t : Table) (sound : packages.IsSound t) where
+module _ (t : Table) (sound : packages.AreSoundPackages t) where
   plain_package : (p : Name) → is_ascii_name p ≡ true → IsPlain (package_object t p)
   plain_package p e =
       let used = plain_texts (used_names t p) (used_names_ascii t sound p) in
@@ -118,7 +118,7 @@ plain_entries t sound = plain_among t sound (λ c. not (same_entry (entry_at t c
 plain_readtable : (n : Name) (t : readtable.Table) → is_ascii_name n ≡ true → IsReadtable t → IsPlain (readtable_object n t)
 plain_readtable n t e sound = (plain_text n e, (plain_case t.letters, (plain_list (entry_objects t) (plain_entries t sound), plain_nil)))
 
-module _ (s : WorldState) (sound : IsSound s) where
+module _ (s : WorldState) (sound : IsSoundWorldState s) where
   named_sound : (n : Name) → IsReadtable (table_named s n)
   named_sound n =
       elim (finite.get s.readtables n) as (λ t. finite.get s.readtables n ≡ t → IsReadtable (unwrap_or t standard)) [

@@ -37,7 +37,7 @@ plain_sound (o.character c) p = absurd p
 plain_sound (o.uninterned name) p = absurd p
 plain_sound (o.vector xs) p = absurd p
 
-pub plain_known : (t : Table) → packages.IsSound t → (x : Object) → IsPlain x → AllAtoms (IsKnown t) x
+pub plain_known : (t : Table) → packages.AreSoundPackages t → (x : Object) → IsPlain x → AllAtoms (IsKnown t) x
 plain_known t sound (o.integer n) p = tt
 plain_known t sound (o.text bytes) p = tt
 plain_known t sound (o.symbol home name) p =
@@ -78,23 +78,23 @@ module _ (f g : Name → Name → List ℕ) (same : f common_lisp (codes "NIL") 
     rest_alike (o.uninterned name) p = absurd p
     rest_alike (o.vector xs) p = absurd p
 
-nil_external : (t : Table) → packages.IsSound t → IsExternal t common_lisp (codes "NIL")
+nil_external : (t : Table) → packages.AreSoundPackages t → IsExternal t common_lisp (codes "NIL")
 unfolding common_lisp_package common_lisp_names
 nil_external t sound =
     ap (λ (k : Option Package). option_map (λ (e : Present). e.external) (option_and_then (λ (k : Package). finite.get k.symbols (codes "NIL")) k)) sound.first.fixed
     ∙ ap (option_map (λ (e : Present). e.external)) (get-from_entries name_total (map (λ n. (n, record { home = common_lisp; external = true })) common_lisp_names) (codes "NIL"))
 
 -- COMMON-LISP-USER finds it
-nil_accessible : (t : Table) → packages.IsSound t → is_accessible t common_lisp_user common_lisp (codes "NIL") ≡ true
+nil_accessible : (t : Table) → packages.AreSoundPackages t → is_accessible t common_lisp_user common_lisp (codes "NIL") ≡ true
 nil_accessible t sound =
     let there : found t common_lisp_user (codes "NIL") ≡ Some common_lisp =
     found_is t (codes "NIL") sound.joined common_lisp_user common_lisp (inr (common_lisp, sound.first.user, nil_external t sound, nil_present t sound)) in
     ap (λ h. has_home h common_lisp) there
 
-pub no_prefix : (t : Table) → packages.IsSound t → printed_prefix t common_lisp_user common_lisp (codes "NIL") ≡ []
+pub no_prefix : (t : Table) → packages.AreSoundPackages t → printed_prefix t common_lisp_user common_lisp (codes "NIL") ≡ []
 no_prefix t sound = rw (nil_accessible t sound) refl
 
-pub plain_printed : (t u : Table) → packages.IsSound t → packages.IsSound u → (x : Object) → IsPlain x → printed t common_lisp_user x ≡ printed u common_lisp_user x
+pub plain_printed : (t u : Table) → packages.AreSoundPackages t → packages.AreSoundPackages u → (x : Object) → IsPlain x → printed t common_lisp_user x ≡ printed u common_lisp_user x
 plain_printed t u sound_t sound_u x p =
     written_alike (printed_prefix t common_lisp_user) (printed_prefix u common_lisp_user) (no_prefix t sound_t ∙ sym (no_prefix u sound_u)) x p
 

@@ -9,7 +9,7 @@ use Rattle.std.specs.FinMap.{find, is_sorted, contains_key-keys, get-entries, en
 use Rattle.std.proofs.lemmas.Map.Text.{is_eq-slice_cmp}
 use Rattle.lisp_object.specs.Object as object
 use Rattle.lisp_object.specs.Object.{Object, list_of}
-use Rattle.package_table.specs.Table.{Name, name_cmp, Present, Package, Table, common_lisp, keyword, initial, entry_at, HasFirst, IsSound}
+use Rattle.package_table.specs.Table.{Name, name_cmp, Present, Package, Table, common_lisp, keyword, initial, entry_at, HasFirst, AreSoundPackages}
 use Rattle.package_table.specs.Lookup.{is_present}
 use Rattle.package_table.specs.Readers.{package_names, used_names, present, own_among, external_among, imported_among, own_names, external_names, imports}
 use Rattle.package_table.proofs.Names.{name_total, name_exact, tied_same}
@@ -126,7 +126,7 @@ own_is_some : (a : Option Present) → ((e : Present) → a ≡ Some e → e ≡
 own_is_some None f = refl
 own_is_some (Some x) f = ap (λ (e : Present). bytes_eq e.home keyword) (f x refl)
 
-module _ (t u : Table) (sound_t : IsSound t) (sound_u : IsSound u) where
+module _ (t u : Table) (sound_t : AreSoundPackages t) (sound_u : AreSoundPackages u) where
   keyword_symbols : (k l : Package) → finite.get t keyword ≡ Some k → finite.get u keyword ≡ Some l → made_names t keyword ≡ made_names u keyword → k.symbols ≡ l.symbols
   keyword_symbols k l got_k got_l made = same_map name_total name_exact k.symbols l.symbols (λ n.
       let fk = keyword_at t sound_t.first k got_k n in
@@ -208,7 +208,7 @@ package_of t q x b e =
       | false ↦ λ e. absurd cc
     ] e
 
-pub same_packages : (t u : Table) → IsSound t → IsSound u → packages_object t ≡ packages_object u → t ≡ u
+pub same_packages : (t u : Table) → AreSoundPackages t → AreSoundPackages u → packages_object t ≡ packages_object u → t ≡ u
 same_packages t u sound_t sound_u e =
     let lists : rows (package_row t) (package_names t) ≡ rows (package_row u) (package_names u) =
     sym (filtered_rows (package_object t) (λ p. not (bytes_eq p common_lisp)) (package_names t))

@@ -17,11 +17,11 @@ use Rattle.readtable_core.specs.Characters.{syntax_number}
 use Rattle.readtable_core.specs.Cases.{case_name}
 use Rattle.readtable_core.specs.Tables.{CharacterEntry, Table, entry_at, no_entry, standard}
 use Rattle.readtable_core.specs.Sound.{IsCharacterEntry, IsReadtable, is_macro, is_dispatching, dispatches}
-use Rattle.readtable_core.specs.Named.{same_entry}
+use Rattle.readtable_core.specs.NamedFunctions.{same_entry}
 use Rattle.readtable_core.proofs.Named as named
 use Rattle.package_table.specs.Table.{Name, name_cmp}
 use Rattle.plist_state.specs.State.{WorldState, standard_name}
-use Rattle.plist_state.specs.Sound.{IsSound}
+use Rattle.plist_state.specs.Sound.{IsSoundWorldState}
 use Rattle.plist_state.proofs.Orders.{name_total, name_exact, one_name}
 use Rattle.world_text.specs.Snapshot.{number, dispatch_object, dispatch_objects, entry_object, entry_objects, readtable_object, table_named, readtables_object, tables_object, tables_object_1, tables_object_in}
 use Rattle.world_text.proofs.Versions.{IsThird, third_by}
@@ -198,7 +198,7 @@ by_tables q (Some t) None sa sb e = absurd cc
 by_tables q (Some t) (Some u) sa sb e =
     ap (λ x. Some x) (same_table q t u (sa t refl) (sb u refl) (ap (λ o. unwrap_or o (readtable_object q t)) e))
 
-same_readtables : (s t : WorldState) → IsSound s → IsSound t → readtables_object s ≡ readtables_object t → s.readtables ≡ t.readtables
+same_readtables : (s t : WorldState) → IsSoundWorldState s → IsSoundWorldState t → readtables_object s ≡ readtables_object t → s.readtables ≡ t.readtables
 same_readtables s t sound_s sound_t e =
     let xs = names s in
     let ys = names t in
@@ -229,7 +229,7 @@ pub record HaveSameTables (s t : WorldState) : Type 0 where
   pub current_readtable : s.current_readtable ≡ t.current_readtable
   pub read_base : s.read_base ≡ t.read_base
 
-same_second : (s t : WorldState) → IsSound s → IsSound t → tables_object s ≡ tables_object t → HaveSameTables s t
+same_second : (s t : WorldState) → IsSoundWorldState s → IsSoundWorldState t → tables_object s ≡ tables_object t → HaveSameTables s t
 same_second s t sound_s sound_t e =
     let objects : readtables_object s ≡ readtables_object t = cc in
     let in_package : s.current_package ≡ t.current_package = cc in
@@ -237,7 +237,7 @@ same_second s t sound_s sound_t e =
     let in_base : s.read_base ≡ t.read_base = cc in
     record { readtables = same_readtables s t sound_s sound_t objects; current_package = in_package; current_readtable = in_readtable; read_base = in_base }
 
-same_first : (s t : WorldState) → IsSound s → IsSound t → s.read_base ≡ t.read_base → tables_object_1 s ≡ tables_object_1 t → HaveSameTables s t
+same_first : (s t : WorldState) → IsSoundWorldState s → IsSoundWorldState t → s.read_base ≡ t.read_base → tables_object_1 s ≡ tables_object_1 t → HaveSameTables s t
 same_first s t sound_s sound_t base e =
     let objects : readtables_object s ≡ readtables_object t = cc in
     let in_package : s.current_package ≡ t.current_package = cc in
@@ -245,7 +245,7 @@ same_first s t sound_s sound_t base e =
     record { readtables = same_readtables s t sound_s sound_t objects; current_package = in_package; current_readtable = in_readtable; read_base = base }
 
 -- the same third object of one version
-pub same_third : (version : ℕ) (s t : WorldState) (x : Object) → IsSound s → IsSound t
+pub same_third : (version : ℕ) (s t : WorldState) (x : Object) → IsSoundWorldState s → IsSoundWorldState t
     → tables_object_in version s ≡ Some x → tables_object_in version t ≡ Some x → HaveSameTables s t
 same_third version s t x sound_s sound_t in_s in_t = both (third_by version s x in_s) (third_by version t x in_t)
   where

@@ -4,7 +4,7 @@ use Rattle.lisp_object.specs.Object.{Object}
 use Rattle.package_table.specs.Table.{Table, common_lisp_user}
 use Rattle.canon_printer.specs.Printed.{printed}
 use Rattle.plist_state.specs.State.{WorldState}
-use Rattle.plist_state.specs.Sound.{IsSound}
+use Rattle.plist_state.specs.Sound.{IsSoundWorldState}
 use Rattle.world_text.specs.Snapshot.{packages_object, properties_object, snapshot_in, snapshot_with}
 use Rattle.world_text.proofs.Versions.{text_with}
 use Rattle.world_text.proofs.PlainObjects.{IsPlain, plain_printed}
@@ -29,7 +29,7 @@ later t s x = text_of t (properties_object s) ++ 10 ∷ (text_of t x ++ 10 ∷ [
 lines : (s : WorldState) (x : Object) → snapshot_with s x ≡ text_of s.packages (packages_object s.packages) ++ 10 ∷ later s.packages s x
 lines s x = in_turn (text_of s.packages (packages_object s.packages)) (text_of s.packages (properties_object s)) (text_of s.packages x)
 
-module _ (s t : WorldState) (sound_s : IsSound s) (sound_t : IsSound t) (x y : Object) where
+module _ (s t : WorldState) (sound_s : IsSoundWorldState s) (sound_t : IsSoundWorldState t) (x y : Object) where
   -- the first lines are printed alike with the packages of either state
   first_lines : snapshot_with s x ≡ snapshot_with t y → (packages_object s.packages ≡ packages_object t.packages) × (later s.packages s x ≡ later t.packages t y)
   first_lines e =
@@ -52,7 +52,7 @@ module _ (s t : WorldState) (sound_s : IsSound s) (sound_t : IsSound t) (x y : O
       [] [] second.1 in
       (second.0, third.0)
 
-pub one_state : (version : ℕ) (s t : WorldState) (text : List ℕ) → IsSound s → IsSound t → snapshot_in version s ≡ Some text → snapshot_in version t ≡ Some text → s ≡ t
+pub one_state : (version : ℕ) (s t : WorldState) (text : List ℕ) → IsSoundWorldState s → IsSoundWorldState t → snapshot_in version s ≡ Some text → snapshot_in version t ≡ Some text → s ≡ t
 one_state version s t text sound_s sound_t in_s in_t =
     let of_s = text_with version s text in_s in
     let of_t = text_with version t text in_t in

@@ -15,7 +15,7 @@ use Rattle.token_scan.specs.Marks.{character_count}
 use Rattle.token_scan.specs.Tokens.{TypedByte, kind, typed, typed_text, token, token_in, in_bytes}
 use Rattle.token_scan.specs.Spelling.{Spells, nothing, plain, between, escaped, bar, may_end}
 use Rattle.token_scan.proofs.Spelled.{spelled_gives}
-use Rattle.canon_printer.specs.Names.{is_escaped_in_bars, printed_name, escaped as escaped_text}
+use Rattle.canon_printer.specs.Names.{is_escaped_in_bars, printed_name, with_backslashes as escaped_text}
 use Rattle.canon_printer.specs.Names as names
 use Rattle.world_text.proofs.Marked.{plain_marks, quoted_marks, name_marks}
 use Rattle.world_text.proofs.Characters.{is_kept, is_bare, is_constituent, constituent_plain, plain_kept, kept_in_bars}

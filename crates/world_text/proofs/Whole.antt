@@ -20,10 +20,10 @@ use Rattle.token_scan.specs.Tokens.{token_in}
 use Rattle.token_meaning.specs.Numerals.{is_empty}
 use Rattle.token_meaning.specs.Folding.{in_upper_case}
 use Rattle.token_meaning.specs.Meanings.{is_package_marker}
-use Rattle.package_table.specs.Table.{Name, Table as Packages, IsSound}
+use Rattle.package_table.specs.Table.{Name, Table as Packages, AreSoundPackages}
 use Rattle.std_macros.specs.Values.{Value, marked, letters, character_of, character_or_refused, uninterned_of, is_own_name, given}
 use Rattle.std_macros.specs.declared.kind.Standard.TheVariants.{String, Char, Uninterned}
-use Rattle.canon_printer.specs.Names.{escaped, printed_name}
+use Rattle.canon_printer.specs.Names.{with_backslashes, printed_name}
 use Rattle.canon_printer.specs.Written.{is_escaped_in_text, character_name, printed_character, printed_text, printed_uninterned, written, written_atom, written_rest, written_elements}
 use Rattle.canon_printer.specs.Printed.{printed, printed_prefix}
 use Rattle.canon_printer.specs.Symbols.{HasAllSymbols}
@@ -75,7 +75,7 @@ character_is (c ∷ []) = refl
 character_is (c ∷ d ∷ ds) = refl
 
 module _ (limits : Limits) (packages : Packages) (current : Name) (functions : Functions)
-    (sound : IsSound packages) (room : 0 < limits.token) where
+    (sound : AreSoundPackages packages) (room : 0 < limits.token) where
   abbrev pub s : Setting
   s = under limits packages current functions
 
@@ -149,7 +149,7 @@ module _ (limits : Limits) (packages : Packages) (current : Name) (functions : F
   pub text_good : (bytes : List ℕ) → IsAscii bytes → Attempted (o.text bytes) (printed_text bytes)
   unfolding run
   text_good bytes ascii d at rest deep fits ends =
-      let body = escaped is_escaped_in_text bytes in
+      let body = with_backslashes is_escaped_in_text bytes in
       let size : length (printed_text bytes) ≡ 2 + length body = omega (arith, length-append (codes "\"" ++ body) (codes "\""), length-append (codes "\"") body) in
       let next : ℕ = at + 1 + length body + 1 in
       let after = λ (cs : List ℕ). completed s (limits.nesting - d) (plain_call limits packages current functions 34 String) false false (letters cs) in

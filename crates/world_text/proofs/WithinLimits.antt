@@ -12,7 +12,7 @@ use Rattle.lisp_object.specs.Object as o
 use Rattle.lisp_object.specs.Object.{Object, AllAtoms, IsSound, object_depth, depth_along, list_of}
 use Rattle.readtable_core.specs.Tables as readtable
 use Rattle.readtable_core.specs.Tables.{CharacterEntry, entry_at, standard}
-use Rattle.readtable_core.specs.Named.{same_entry}
+use Rattle.readtable_core.specs.NamedFunctions.{same_entry}
 use Rattle.package_table.specs.Table as packages
 use Rattle.package_table.specs.Table.{Name, Table, keyword, common_lisp}
 use Rattle.package_table.specs.Lookup.{is_symbol, is_external}
@@ -58,7 +58,7 @@ prefix_short false true e h = omega arith
 prefix_short false false true h = omega arith
 prefix_short false false false h = omega arith
 
-module _ (t : Table) (current : Name) (sound : packages.IsSound t) where
+module _ (t : Table) (current : Name) (sound : packages.AreSoundPackages t) where
   symbol_short : (home name : Name) → packages.IsPresent t home name home → token_length t current (o.symbol home name) ≤ 8192
   symbol_short home name there =
       let home_short : length home ≤ 256 = (sound.within.package_names home (home_there t home name sound there)).short in
@@ -124,7 +124,7 @@ flat_values : (t : Table) (ps : Plist) → All (λ p. IsValue t p.1) ps → AreD
 flat_values t [] vs = tt
 flat_values t (p ∷ ps) vs = (omega arith, ((vs 0 p (omega arith)).depth, flat_values t ps (λ k q lt. vs (suc k) q (omega arith))))
 
-module _ (s : WorldState) (sound : state.IsSound s) where
+module _ (s : WorldState) (sound : state.IsSoundWorldState s) where
   plist_values : (x : Symbol) → AreDeep 100 (flat_map (λ p. symbol_object p.0 ∷ p.1 ∷ []) (plist s x))
   plist_values x =
       elim (finite.get s.properties x) as (λ ps. finite.get s.properties x ≡ ps → AreDeep 100 (flat_map (λ p. symbol_object p.0 ∷ p.1 ∷ []) (unwrap_or ps []))) [

@@ -14,7 +14,7 @@ use Rattle.plist_state.specs.Properties.{Symbol, Plist}
 use Rattle.plist_state.specs.State.{WorldState}
 use Rattle.plist_state.specs.Changes.{plist}
 use Rattle.plist_state.specs.Readers.{readtable_names, symbols_with_properties}
-use Rattle.plist_state.specs.Sound.{IsSound, IsSymbol}
+use Rattle.plist_state.specs.Sound.{IsSoundWorldState, IsSymbol}
 use Rattle.plist_state.proofs.Orders.{symbol_tied, name_tied}
 use Rattle.world_text.proofs.Ascii.{is_ascii_name, ascii_all, package_ascii, are_ascii_names}
 
@@ -38,17 +38,17 @@ are_ascii_symbols xs = list_all is_ascii_symbol xs
 abbrev pub are_ascii_indicators : Plist → Bool
 are_ascii_indicators ps = list_all (λ p. is_ascii_symbol p.0) ps
 
-pub symbol_ascii : (t : packages.Table) → packages.IsSound t → (x : Symbol) → IsSymbol t x → is_ascii_symbol x ≡ true
+pub symbol_ascii : (t : packages.Table) → packages.AreSoundPackages t → (x : Symbol) → IsSymbol t x → is_ascii_symbol x ≡ true
 symbol_ascii t sound x there =
     and_from (is_ascii_name x.0) (is_ascii_name x.1) (package_ascii t sound x.0 (home_there t x.0 x.1 sound there))
     (ascii_all x.1 (sound.within.symbol_names x.0 x.1 x.0 there).ascii)
 
-indicators_ascii : (t : packages.Table) → packages.IsSound t → (ps : Plist) → All (λ p. IsSymbol t p.0) ps → are_ascii_indicators ps ≡ true
+indicators_ascii : (t : packages.Table) → packages.AreSoundPackages t → (ps : Plist) → All (λ p. IsSymbol t p.0) ps → are_ascii_indicators ps ≡ true
 indicators_ascii t sound [] h = refl
 indicators_ascii t sound (p ∷ ps) h =
     and_from (is_ascii_symbol p.0) (are_ascii_indicators ps) (symbol_ascii t sound p.0 (h 0 p (omega arith))) (indicators_ascii t sound ps (λ k q lt. h (suc k) q (omega arith)))
 
-module _ (s : WorldState) (sound : IsSound s) where
+module _ (s : WorldState) (sound : IsSoundWorldState s) where
   pub symbols_ascii : are_ascii_symbols (symbols_with_properties s) ≡ true
   symbols_ascii = keys_all symbol_tied s.properties is_ascii_symbol (λ x there. symbol_ascii s.packages sound.packages x (sound.symbols x there))
 

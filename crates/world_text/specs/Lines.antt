@@ -6,7 +6,7 @@ use Rattle.canon_printer.specs.Printed.{printed}
 use Rattle.lisp_reading.specs.declared.limits.Limits.{Limits}
 use Rattle.lisp_reading.specs.Setting.{Setting}
 use Rattle.lisp_reading.specs.Reading.{form, reads}
-use Rattle.world_text.specs.Snapshot.{line}
+use Rattle.world_text.specs.Snapshot.{snapshot_line}
 
 -- the limits under which a snapshot is read
 abbrev pub snapshot_limits : Limits
@@ -16,4 +16,4 @@ snapshot_limits = record { text = 4294967295; token = 8192; nesting = 104 }
 -- the newline.
 abbrev pub IsLineRead : Setting → Table → Object → List ℕ → Type 0
 IsLineRead setting packages x rest =
-    (next : ℕ) × (reads setting (line packages x ++ rest) ≡ form x 0 (length (printed packages common_lisp_user x)) next)
+    (next : ℕ) × (reads setting (snapshot_line packages x ++ rest) ≡ form x 0 (length (printed packages common_lisp_user x)) next)

@@ -10,7 +10,7 @@ use Rattle.std.specs.FinMap as finite
 use Rattle.lisp_object.specs.Object.{Object, integer, text, symbol, pair, list_of}
 use Rattle.readtable_core.specs.Characters.{syntax_number}
 use Rattle.readtable_core.specs.Cases.{case_name}
-use Rattle.readtable_core.specs.Named.{same_entry}
+use Rattle.readtable_core.specs.NamedFunctions.{same_entry}
 use Rattle.readtable_core.specs.Tables as readtable
 use Rattle.readtable_core.specs.Tables.{CharacterEntry, entry_at, standard}
 use Rattle.package_table.specs.Table.{Name, Table, common_lisp, common_lisp_user, keyword, initial as initial_packages}
@@ -120,12 +120,12 @@ tables_object_in version s =
 
 -- ---- the text
 
-abbrev pub line : Table → Object → List ℕ
-line packages x = printed packages common_lisp_user x ++ 10 ∷ []
+abbrev pub snapshot_line : Table → Object → List ℕ
+snapshot_line packages x = printed packages common_lisp_user x ++ 10 ∷ []
 
 -- the lines of a state, with these for the first object and the third
 abbrev pub lines_with : WorldState → Object → Object → List ℕ
-lines_with s first third = line s.packages first ++ line s.packages (properties_object s) ++ line s.packages third
+lines_with s first third = snapshot_line s.packages first ++ snapshot_line s.packages (properties_object s) ++ snapshot_line s.packages third
 
 -- with this for the third object
 abbrev pub snapshot_with : WorldState → Object → List ℕ

@@ -6,14 +6,14 @@ ghost use Rattle.token_scan.specs.Spelling.{may_end};
 ghost use Rattle.token_scan.specs.Tokens.{typed_text};
 ghost use Rattle.user_macros.specs.declared.call.Gather.{Gather};
 ghost use Rattle.user_macros.specs.Calls.{MacroCall, MacroAnswer};
-ghost use Rattle.package_table.specs.Table.{Name, Table as Packages, IsSound, common_lisp_user};
+ghost use Rattle.package_table.specs.Table.{Name, Table as Packages, AreSoundPackages, common_lisp_user};
 ghost use Rattle.canon_printer.specs.Printed.{printed};
 ghost use Rattle.canon_printer.specs.Symbols.{HasAllSymbols};
 ghost use Rattle.lisp_reading.specs.declared.limits.Limits.{Limits};
 ghost use Rattle.lisp_reading.specs.Setting.{setting_of};
 ghost use Rattle.lisp_reading.specs.Reading.{form, space_at, reads};
 ghost use Rattle.plist_state.specs.State.{WorldState};
-ghost use Rattle.plist_state.specs.Sound.{IsSound as IsSoundState};
+ghost use Rattle.plist_state.specs.Sound.{IsSoundWorldState as IsSoundState};
 ghost use Rattle.world_text.specs.Lines.{snapshot_limits, IsLineRead};
 ghost use Rattle.world_text.specs.Snapshot.{packages_object, properties_object, tables_object_in, snapshot_in};
 ghost use Rattle.world_text.specs.Tokens.{AreTokensWithin, ends_with_token};
@@ -27,7 +27,7 @@ ghost use Rattle.user_macros.specs.Functions.{Functions};
 pub fn printed_objects_read_back()
     ensures { (limits : Limits) (packages : Packages) (current : Name) (functions : Functions)
         (x : Object) (rest : List ℕ)
-        → IsSound packages → IsSoundObject x → HasAllSymbols packages x
+        → AreSoundPackages packages → IsSoundObject x → HasAllSymbols packages x
         → object_depth x ≤ limits.nesting → length (printed packages current x) ≤ limits.text
         → 0 < limits.token → AreTokensWithin packages current limits.token x
         → IsTrue (may_end (typed_text standard rest))
@@ -48,7 +48,7 @@ pub fn one_text_one_state()
 /// its newline and whatever follows. The first is read with any packages, and the others with those of the state.
 pub fn snapshot_lines_are_read()
     ensures packages { (s : WorldState) (first : Packages) (functions : Functions) (rest : List ℕ)
-        → IsSoundState s → IsSound first
+        → IsSoundState s → AreSoundPackages first
         → length (printed s.packages common_lisp_user (packages_object s.packages)) ≤ 4294967295
         → IsLineRead (setting_of snapshot_limits standard 10 first common_lisp_user functions)
         s.packages (packages_object s.packages) rest }

@@ -6,7 +6,7 @@ ghost use Rattle.lisp_object.specs.Datum.{object_of, is_proper};
 ghost use Rattle.lisp_object.specs.Ascii.{is_ascii};
 ghost use Rattle.readtable_core.specs.Cases.{case_name};
 ghost use Rattle.readtable_core.specs.Characters.{syntax_number};
-ghost use Rattle.readtable_core.specs.Named.{same_entry};
+ghost use Rattle.readtable_core.specs.NamedFunctions.{same_entry};
 ghost use Rattle.readtable_core.specs.Tables.{entry_at, standard};
 ghost use Rattle.plist_state.specs.State.{standard_name};
 ghost use Rattle.world_text.specs.Snapshot.{table_named, readtables_object, tables_object, tables_object_1, number, dispatch_object, dispatch_objects, entry_object, entry_objects, readtable_object};

@@ -3,7 +3,7 @@ ghost use Rattle.std.specs.Prelude.{◌≡◌, [], ◌∷◌, ◌++◌, true, If
 ghost use Rattle.std.specs.Option.{option_map};
 ghost use Rattle.lisp_object.specs.Datum.{object_of, is_proper};
 ghost use Rattle.world_text.specs.KeptNames.{kept_names, kept_snapshot};
-ghost use Rattle.world_text.specs.Snapshot.{line, packages_with, properties_object, tables_object_1};
+ghost use Rattle.world_text.specs.Snapshot.{snapshot_line, packages_with, properties_object, tables_object_1};
 ghost use Rattle.world_text.specs.Snapshot.{snapshot, snapshot_in, snapshot_with};
 
 use crate::name_test::{EveryName, NameTest};
@@ -33,7 +33,7 @@ fn push_line(
 ) -> Result<(), AllocError>
     requires { is_proper datum ≡ true }
     ensures { OnOk result (text.new.items
-        ≡ text.old.items ++ line packages.now.0 (object_of datum)) }
+        ≡ text.old.items ++ snapshot_line packages.now.0 (object_of datum)) }
 {
     push_printed(alloc, text, datum, packages)?;
     end_line(text)
@@ -47,7 +47,7 @@ fn push_package_line<T: NameTest>(
     test: &T,
 ) -> Result<(), AllocError>
     ensures { let t = packages.now.0 in OnOk result (text.new.items
-        ≡ text.old.items ++ line t (packages_with t (kept_names (T.keeps test.now) t))) }
+        ≡ text.old.items ++ snapshot_line t (packages_with t (kept_names (T.keeps test.now) t))) }
 {
     push_packages(alloc, text, packages, test)?;
     end_line(text)
@@ -56,7 +56,7 @@ fn push_package_line<T: NameTest>(
 // Adds the line of the property lists.
 fn push_property_line(alloc: Global, text: &mut Vec<u8>, world: &World) -> Result<(), AllocError>
     ensures { OnOk result (text.new.items
-        ≡ text.old.items ++ line world.now.0.packages (properties_object world.now.0)) }
+        ≡ text.old.items ++ snapshot_line world.now.0.packages (properties_object world.now.0)) }
 {
     push_properties(alloc, text, world)?;
     end_line(text)
@@ -65,8 +65,8 @@ fn push_property_line(alloc: Global, text: &mut Vec<u8>, world: &World) -> Resul
 // The lines of the packages, with the names that a test keeps, and of the property lists.
 fn first_lines<T: NameTest>(alloc: Global, world: &World, test: &T) -> Result<Vec<u8>, AllocError>
     ensures { let s = world.now.0 in IfOk result (λ text. text.items
-        ≡ line s.packages (packages_with s.packages (kept_names (T.keeps test.now) s.packages))
-        ++ line s.packages (properties_object s)) }
+        ≡ snapshot_line s.packages (packages_with s.packages (kept_names (T.keeps test.now) s.packages))
+        ++ snapshot_line s.packages (properties_object s)) }
 {
     let mut text = Vec::new(alloc);
     push_package_line(alloc, &mut text, world.packages(), test)?;

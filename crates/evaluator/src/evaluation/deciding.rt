@@ -8,9 +8,9 @@ ghost use Rattle.lisp_operators.specs.Readtables.{AreFunctionNames};
 ghost use Rattle.lisp_operators.specs.Evaluated.{Answers, done, IsProper, IsProperValue, AreArgumentsOf};
 ghost use Rattle.lisp_operators.specs.Evaluation.{Evaluation};
 ghost use Rattle.evaluator.specs.Value.{choice, sought, guarded, has_truth};
-ghost use Rattle.evaluator.specs.Gathered.{first_value, conditional, asserted, arguments_in, operation_value, HasValue};
-ghost use Rattle.evaluator.specs.Operations.{IsCounted};
-ghost use Rattle.evaluator.specs.Wanted.{seen};
+ghost use Rattle.evaluator.specs.ArgumentValues.{first_value, conditional, asserted, arguments_in, operation_value, HasValue};
+ghost use Rattle.evaluator.specs.Operations.{HasRightCount};
+ghost use Rattle.evaluator.specs.StandIns.{seen};
 ghost use Rattle.evaluator.specs.declared.operation.Operation.TheVariants.{Decides};
 ghost use Rattle.evaluator.specs.declared.wanted.Wanted.TheVariants.{Truth};
 
@@ -37,7 +37,7 @@ pub(crate) fn decided(
     items: &[Datum],
     wanted: Wanted,
 ) -> Result<Evaluated, EvaluationError>
-    requires counted { IsCounted (Decides decision) (length items.now) }
+    requires counted { HasRightCount (Decides decision) (length items.now) }
     requires names { AreFunctionNames names.now }
     requires items { AreArgumentsOf world.old items.now }
     ensures gives { Answers done result world.new.0

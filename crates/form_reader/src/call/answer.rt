@@ -39,7 +39,8 @@ pub(crate) fn may_be_answered(packages: &Packages, room: u64, datum: &Datum) -> 
 /// Whether a datum fits, where so many parts are left.
 #[cycle(fitting)]
 fn fits(packages: &Packages, room: u64, left: &mut u64, datum: &Datum) -> bool
-    ensures fits { IsTrue result → Fits packages.now.0 room datum.now × (left.new + size datum.now ≡ left.old) }
+    ensures fits { IsTrue result → Fits packages.now.0 room datum.now
+        × (left.new + size datum.now ≡ left.old) }
     ensures others { Fits packages.now.0 room datum.now → size datum.now ≤ left.old → IsTrue result }
     ensures sound { IsTrue result → IsSound (object_of datum.now) }
 {
@@ -155,7 +156,8 @@ fn next_fits(
 ) -> bool
     requires { IfSome last (λ l. Fits packages.now.0 room l.0.now × (size l.0.now ≡ l.1)
         × IsSound (object_of l.0.now)) }
-    ensures fits { IsTrue result → Fits packages.now.0 room datum.now × (left.new + size datum.now ≡ left.old) }
+    ensures fits { IsTrue result → Fits packages.now.0 room datum.now
+        × (left.new + size datum.now ≡ left.old) }
     ensures others { Fits packages.now.0 room datum.now → size datum.now ≤ left.old → IsTrue result }
     ensures sound { IsTrue result → IsSound (object_of datum.now) }
 {

@@ -5,7 +5,7 @@ ghost use Rattle.package_table.specs.Table.{IsPackage};
 ghost use Rattle.lisp_reading.specs.Setting.{setting_of};
 ghost use Rattle.lisp_reading.specs.Reading.{is_whitespace};
 ghost use Rattle.form_reader.specs.declared.reader.Advance.TheVariants.{More as AdvanceMore, Refused as AdvanceRefused};
-ghost use Rattle.form_reader.specs.Reader.{limits_of, fed, begun, HasNoMemory, HasRefused, IsBetween, LeavesBetween, IsAfter, HasBegun, StepsBegun, IsSoundStep, FeedsReader, Advances, is_more};
+ghost use Rattle.form_reader.specs.Reader.{limits_of, fed, begun, RanOutOfMemory, HasRefused, IsBetween, LeavesBetween, IsAfterBytes, HasBegun, StepsBegun, IsSoundStep, FeedsReader, AdvancesFed, is_more};
 
 use crate::reader::{Advance, FormReader};
 use package_table::Packages;
@@ -48,7 +48,7 @@ impl FormReader {
 
         // What the bytes come to is what so many steps come to: up to the first that answers something else than
         // `More`.
-        ensures feeds { (before : List ℕ) → IsAfter
+        ensures feeds { (before : List ℕ) → IsAfterBytes
             (setting_of (limits_of self.old) readtable.now base packages.now.0 current.now
             (R.functions macros.now))
             self.old before → IfOk result (λ got. FeedsReader
@@ -59,17 +59,17 @@ impl FormReader {
         ensures within { IfOk result (λ got. got.0 ≤ length bytes.now) }
         ensures whole { IfOk result (λ got. got.1 ≡ AdvanceMore → got.0 ≡ length bytes.now) }
 
-        // How many bytes the reader has, and from where on they are still needed.
+        // It counts the bytes that it takes, and keeps its limits; a form that it gives is sound.
         ensures limits { limits_of self.new ≡ limits_of self.old }
         ensures fed { fed self.new ≤ fed self.old + length bytes.now }
-        ensures advances { IfOk result (λ got. Advances self.old self.new got.0 got.1) }
+        ensures advances { IfOk result (λ got. AdvancesFed self.old self.new got.0 got.1) }
         ensures sound { IfOk result (λ got. IsSoundStep got.1) }
 
         // After a refusal, and after it ran out of memory, it answers the same again.
         ensures refused { (number offset : ℕ) → HasRefused self.old number offset
             → (result ≡ Ok (1, AdvanceRefused number offset)) × (self.new ≡ self.old) }
-        ensures memory { OnErr result (HasNoMemory self.new) }
-        ensures spent { HasNoMemory self.old → IsErr result }
+        ensures memory { OnErr result (RanOutOfMemory self.new) }
+        ensures spent { RanOutOfMemory self.old → IsErr result }
 
         // Between forms whitespace leaves the reader there.
         ensures between { IsBetween self.old → list_all (is_whitespace readtable.now) bytes.now ≡ true
@@ -78,8 +78,8 @@ impl FormReader {
         ensures nothing_open { IfOk result (λ got. got.1 ≡ AdvanceMore
             → begun self.new ≡ fed self.new → IsBetween self.new) }
 
-        // Where the form that is open began.
-        ensures has_begun { (before : List ℕ) → IsAfter
+        // If it knew where the form began that is open, it still does.
+        ensures has_begun { (before : List ℕ) → IsAfterBytes
             (setting_of (limits_of self.old) readtable.now base packages.now.0 current.now
             (R.functions macros.now))
             self.old before → HasBegun

@@ -1,7 +1,7 @@
 -- What steps one after the other come to.
 use Rattle.std.proofs.Common.{◌≡◌, ℕ, ◌+◌, ◌==◌, Bool, true, false, List, [], ◌∷◌, ◌++◌, length, Option, None, Some, Result, Ok, Err, IsTrue, refl, sym, ap, ap₂, subst, ◌∙◌, inl, inr, append-nil, arith, Bor}
 use Rattle.std.proofs.lemmas.Bool.{eq-eqb, ne_eqb}
-use Rattle.disk_trait.specs.Disk.{State, IsHonest, IsSound}
+use Rattle.disk_trait.specs.Disk.{State, IsHonest, IsSoundDisk}
 use Rattle.gate_log.specs.Layout.{LogRecord}
 use Rattle.lisp_object.specs.declared.refusal.TheConstants.{DEVICE, REOPEN}
 use Rattle.plist_state.specs.State.{WorldState}
@@ -77,7 +77,7 @@ module _ (functions : Functions) {D R : Type 0} (state : D → State) where
 
   -- ---- what a crash leaves
 
-  module _ (sound : (d : D) → IsHonest (state d) → IsSound (state d)) where
+  module _ (sound : (d : D) → IsHonest (state d) → IsSoundDisk (state d)) where
     -- a step that left a world, and steps after it
     then_more : (old mid new : StoreView D R) (w v : WorldState) (xs ys : List LogRecord) (n : ℕ) → SurvivesAs functions state old mid w xs (length xs) → mid.world ≡ Some v
         → SurvivesAs functions state mid new v ys n → SurvivesAs functions state old new w (xs ++ ys) (length xs + n)

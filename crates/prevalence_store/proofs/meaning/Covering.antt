@@ -11,7 +11,7 @@ use Rattle.std.specs.FinMap.{contains_key-keys, get-empty, get-insert}
 use Rattle.std.proofs.lemmas.Bool.{false≢true, or_cases, and_parts}
 use Rattle.gate_log.specs.Layout.{Contents, LogRecord}
 use Rattle.lisp_object.specs.Object.{Object}
-use Rattle.readtable_core.specs.Named.{functions_of as named_by}
+use Rattle.readtable_core.specs.NamedFunctions.{functions_of as named_by}
 use Rattle.readtable_core.specs.Names.{is_among, is_dispatch_name, is_standard}
 use Rattle.readtable_core.specs.Tables.{Table, standard}
 use Rattle.package_table.specs.Table.{Name, name_cmp}

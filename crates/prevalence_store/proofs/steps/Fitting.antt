@@ -31,7 +31,7 @@ is_form t x sound fitting =
     record { object = sound; depth = fitting.depth; symbols = atoms_weaker (reader.FitsPackages t) (evaluator.FitsTable t) (fits t) x fitting.symbols }
 
 -- a form that was read in a sound world fits its packages
-pub fits_in : (functions : Functions) (w : WorldState) (mode : Mode) (text : List ℕ) (x : Object) (start «end» next : ℕ) → world.IsSound w
+pub fits_in : (functions : Functions) (w : WorldState) (mode : Mode) (text : List ℕ) (x : Object) (start «end» next : ℕ) → world.IsSoundWorldState w
     → read_in functions w mode text ≡ form x start «end» next → IsFitting w.packages x
 fits_in functions w mode text x start «end» next sound is = form_fits (setting_in functions w mode) text x start «end» next sound.packages (omega arith) (omega arith) is
 

@@ -2,7 +2,7 @@
 use Rattle.std.proofs.Common.{◌≡◌, ℕ, ◌+◌, Bool, true, false, List, [], ◌∷◌, ◌++◌, length, length-append, Some, Result, Ok, Err, OnOk, refl, ap, ◌∙◌, arith}
 use Rattle.std.specs.List.{AllByRecursion, flat_map}
 use Rattle.std.proofs.lemmas.List.{length-map, map-append}
-use Rattle.disk_trait.specs.Disk.{State, IsHonest, IsSound}
+use Rattle.disk_trait.specs.Disk.{State, IsHonest, IsSoundDisk}
 use Rattle.gate_log.specs.Layout.{IsLogRecord, open_record}
 use Rattle.lisp_object.specs.Object.{Object}
 use Rattle.lisp_operators.specs.Evaluated.{done}
@@ -47,7 +47,7 @@ module _ (functions : Functions) where
       → transacted functions.names w x ≡ Ok (done e v) → (after functions w (records_of e.wrote mode text) ≡ Some v) × AllByRecursion IsLogRecord (records_of e.wrote mode text)
   one_record mode w v text x e whole valued = let is = of_value functions mode w text x (Ok (done e v)) valued whole in (is.again, is.fit)
 
-  module _ {D R : Type 0} (state : D → State) (sound : (d : D) → IsHonest (state d) → IsSound (state d)) (old new : StoreView D R) where
+  module _ {D R : Type 0} (state : D → State) (sound : (d : D) → IsHonest (state d) → IsSoundDisk (state d)) (old new : StoreView D R) where
     -- ---- one form
 
     module _ (mode : Mode) (text : List ℕ) where

@@ -1,7 +1,7 @@
 -- What became of a turn: of a text that was to be one form, of many, of a form that was read, and of those that stand whole after it.
 use Rattle.std.proofs.Common.{◌≡◌, ℕ, ◌+◌, ◌<◌, ◌≤◌, Bool, true, false, List, [], length, Some, Result, Ok, Err, refl, sym, ap, subst, ◌∙◌, inl, inr, arith, Bor, ◌∷◌}
 use Rattle.std.specs.List.{All, AllByRecursion, flat_map}
-use Rattle.disk_trait.specs.Disk.{State, IsHonest, IsSound}
+use Rattle.disk_trait.specs.Disk.{State, IsHonest, IsSoundDisk}
 use Rattle.gate_log.specs.Layout.{IsLogRecord, LogRecord, open_record}
 use Rattle.lisp_object.specs.Datum.{object_of}
 use Rattle.lisp_object.specs.Object.{Object}
@@ -50,7 +50,7 @@ module _ (functions : Functions) (mode : Mode) (w : WorldState) (text : List ℕ
   pub text_fit : (v : WorldState) (records : List LogRecord) (outcome : Outcome) → IsTurn mode (accepts functions w mode text) w v [] records outcome → AllByRecursion IsLogRecord records
   text_fit v records outcome turn = subst (λ (es : List LogRecord). AllByRecursion IsLogRecord es) (sym turn.entries) (one_replayed functions mode w text).fit
 
-  module _ {D R : Type 0} (state : D → State) (sound : (d : D) → IsHonest (state d) → IsSound (state d)) (old new : StoreView D R) where
+  module _ {D R : Type 0} (state : D → State) (sound : (d : D) → IsHonest (state d) → IsSoundDisk (state d)) (old new : StoreView D R) where
     -- what was made of it
     abbrev MakesText : Outcome → WorldState → List LogRecord → Type 0
     MakesText outcome left records = IsTurn mode (accepts functions w mode text) w left [] records outcome × IsProperOutcome outcome × IsValueIn left outcome

@@ -114,6 +114,7 @@ module _ (functions : Functions) {D R : Type 0} (state : D → State) (old new :
       pub unchanged : new ≡ old
       pub survives : SurvivesAs world [] 0
 
+    -- what `execute` answers, each answer with its cause
     abbrev pub Executes : Outcome → Type 0
     Executes (Accepted value) = IsAccepted (object_of value)
     Executes Snapshotted = ⊥

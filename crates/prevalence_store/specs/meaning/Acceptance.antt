@@ -47,6 +47,7 @@ rules_in_force = record { text_limit = form_limit; based = true; operators = ope
 abbrev pub limits_by : Rules → Limits
 limits_by by = record { text = by.text_limit; token = 4096; nesting = 100 }
 
+-- these limits, by the rules in force
 abbrev pub form_limits : Limits
 form_limits = limits_by rules_in_force
 
@@ -71,6 +72,7 @@ abbrev pub setting_by : Rules → Functions → WorldState → Mode → Setting
 setting_by by functions world mode =
     setting_of (limits_by by) (table_in world mode) (base_in world mode) world.packages (package_in world mode) functions
 
+-- the same, by the rules in force
 abbrev pub setting_in : Functions → WorldState → Mode → Setting
 setting_in functions world mode = setting_by rules_in_force functions world mode
 
@@ -78,6 +80,7 @@ setting_in functions world mode = setting_by rules_in_force functions world mode
 abbrev pub read_by : Rules → Functions → WorldState → Mode → List ℕ → Reading
 read_by by functions world mode text = reads (setting_by by functions world mode) text
 
+-- the same, by the rules in force
 abbrev pub read_in : Functions → WorldState → Mode → List ℕ → Reading
 read_in functions world mode text = read_by rules_in_force functions world mode text
 
@@ -91,6 +94,7 @@ abbrev pub transacted_by : Rules → List Name → WorldState → Object → Eva
 transacted_by by names world x =
     if by.forgets && is_forgetting x then forgetting world else accept_over by.based (by.operators names) world x
 
+-- the same, by the rules in force
 abbrev pub transacted : List Name → WorldState → Object → Evaluation Object
 transacted = transacted_by rules_in_force
 
@@ -107,6 +111,7 @@ accepted_reading by functions world text (form object start end next) =
 accepted_reading by functions world text empty = Err END_OF_FILE
 accepted_reading by functions world text (refused number at) = Err number
 
+-- the same, by the rules in force
 abbrev pub accepted_of : Functions → WorldState → List ℕ → Reading → Result Acceptance ℕ
 accepted_of functions world text read = accepted_reading rules_in_force functions world text read
 
@@ -114,6 +119,7 @@ accepted_of functions world text read = accepted_reading rules_in_force function
 abbrev pub accepts_by : Rules → Functions → WorldState → Mode → List ℕ → Result Acceptance ℕ
 accepts_by by functions world mode text = accepted_reading by functions world text (read_by by functions world mode text)
 
+-- the same, by the rules in force
 abbrev pub accepts : Functions → WorldState → Mode → List ℕ → Result Acceptance ℕ
 accepts functions world mode text = accepts_by rules_in_force functions world mode text
 
@@ -131,6 +137,7 @@ after_by by functions world [] = Some world
 after_by by functions world (entry ∷ entries) =
     elim (accepts_by by functions world (mode_of entry.kind) entry.text) [ Ok given ↦ after_by by functions given.world entries | Err number ↦ None ]
 
+-- the same, by the rules in force
 abbrev pub after : Functions → WorldState → List LogRecord → Option WorldState
 after functions world entries = after_by rules_in_force functions world entries
 

@@ -17,10 +17,12 @@ held_symbols = (common_lisp_user, codes "position") ∷ []
 abbrev pub forget_names : Object
 forget_names = symbol pazturrok (codes "FORGET-NAMES")
 
+-- whether an object is that symbol
 abbrev pub is_forget_names : Object → Bool
 is_forget_names (symbol home name) = bytes_eq home pazturrok && bytes_eq name (codes "FORGET-NAMES")
 is_forget_names _ = false
 
+-- whether an object is NIL
 abbrev pub is_nothing : Object → Bool
 is_nothing (symbol home name) = is_nil home name
 is_nothing _ = false

@@ -8,13 +8,14 @@ use Rattle.gate_log.specs.Layout.{Contents, LogRecord}
 use Rattle.gate_log.specs.Log as gated
 use Rattle.evaluator.specs.Operators.{standard_operator_of}
 use Rattle.plist_state.specs.State.{WorldState, initial}
-use Rattle.plist_state.specs.Sound.{IsSound}
+use Rattle.plist_state.specs.Sound.{IsSoundWorldState}
 use Rattle.snapshot_text.specs.Covered.{are_covered}
 use Rattle.world_text.specs.Snapshot.{snapshot_in}
 use Rattle.user_macros.specs.Functions.{Functions}
 use Rattle.session_words.specs.declared.mode.Mode.{Mode}
 use Rattle.prevalence_store.specs.meaning.Acceptance.{Acceptance, Rules, accepts_by, after_by}
 
+-- the rules of version 1
 abbrev pub rules1 : Rules
 rules1 = record { text_limit = 65536; based = false; operators = standard_operator_of; forgets = false }
 
@@ -22,6 +23,7 @@ rules1 = record { text_limit = 65536; based = false; operators = standard_operat
 abbrev pub accepts1 : Functions → WorldState → Mode → List ℕ → Result Acceptance ℕ
 accepts1 functions world mode text = accepts_by rules1 functions world mode text
 
+-- the world after these records
 abbrev pub after1 : Functions → WorldState → List LogRecord → Option WorldState
 after1 functions world entries = after_by rules1 functions world entries
 
@@ -35,11 +37,12 @@ pub record ContentsMean1 (functions : Functions) (k : Contents) (world : WorldSt
   pub version : k.version ≡ 1
   pub entries : AllByRecursion IsLogRecord1 k.entries
   pub first : WorldState
-  pub sound : IsSound first
+  pub sound : IsSoundWorldState first
   pub covered : are_covered functions.names first ≡ true
   pub snapshot : snapshot_in 1 first ≡ Some k.snapshot
   pub records : after1 functions first k.entries ≡ Some world
 
+-- the world of what the log holds; if no half is open it is the initial one
 abbrev pub IsWorldOf1 : Functions → Option Contents → WorldState → Type 0
 IsWorldOf1 functions None world = world ≡ initial
 IsWorldOf1 functions (Some k) world = ContentsMean1 functions k world

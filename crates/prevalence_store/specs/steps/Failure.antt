@@ -17,12 +17,13 @@ failure_number unlogged.Full = LOG_FULL
 failure_number unlogged.DeviceFault = DEVICE
 failure_number unlogged.OutOfMemory = NO_MEMORY
 
+-- whether the device failed
 abbrev pub is_device_failure : Unlogged → Bool
 is_device_failure unlogged.Full = false
 is_device_failure unlogged.DeviceFault = true
 is_device_failure unlogged.OutOfMemory = false
 
--- so the call ended
+-- the call ended with a fault of the device
 abbrev pub is_fault : {T : Type 0} → Result T Unlogged → Bool
 is_fault (Ok value) = false
 is_fault (Err cause) = is_device_failure cause

@@ -33,7 +33,7 @@ use Rattle.prevalence_store.specs.calls.Store.{StoreView}
 use Rattle.sessions.specs.Streams.{Writes, WritesPart}
 use Rattle.prevalence_store.specs.steps.Batch.{entries_in, IsEmpty}
 use Rattle.sessions.specs.steps.Course.{Course}
-use Rattle.sessions.specs.steps.Output.{IsLine}
+use Rattle.sessions.specs.steps.Output.{IsAnswerLine}
 use Rattle.plist_state.specs.State.{WorldState}
 use Rattle.user_macros.specs.Functions.{Functions}
 
@@ -76,6 +76,7 @@ MayBeHeard functions left (Accepted logged) read = Unit {0}
 MayBeHeard functions left (Refused number) read =
     (world : WorldState) → left ≡ Some world → MayEvaluate world.packages read × (accept functions.names world (object_of read.datum) ≡ Err number)
 
+-- whether a record of the form was logged
 abbrev pub was_logged : Answered → Bool
 was_logged (Accepted logged) = logged
 was_logged (Refused number) = false
@@ -113,7 +114,7 @@ module _ (functions : Functions) {D R : Type 0} (state : D → State) (old new :
   pub record TakesReply (reply : Reply) : Type 0 where
     pub answer : Result Evaluated Failure
     pub takes : TakesForm functions state old new mode own object answer
-    pub line : IsLine new answer reply.line.items
+    pub line : IsAnswerLine new answer reply.line.items
     pub told : reply.answered ≡ answered_of answer
 
   -- a form was not taken, and there is no reply
@@ -178,6 +179,7 @@ module _ (functions : Functions) {D R : Type 0} (state : D → State) (old new :
 -- Of a form that was read: it was answered, and takes so many bytes; or the session has ended in it, at once or, if it is strict, as
 -- it was refused.
 module _ (functions : Functions) {D R : Type 0} (state : D → State) (course later : Course) (old new : StoreView D R) (world : WorldState) (wanted : Wanted) (text : List ℕ) (held written : Option (List ℕ)) (start next : ℕ) where
+  -- one form was answered, counted, and followed by a snapshot if one was due; and these refusals are its
   pub record PassesForm (refusals : List ℕ) : Type 0 where
     pub far : Progress
     pub advances : Advances functions state old new world wanted.mode text held written 1 far
@@ -186,6 +188,7 @@ module _ (functions : Functions) {D R : Type 0} (state : D → State) (course la
     pub bytes : later.bytes ≡ course.bytes + next
     pub refused_are : far.refused ≡ refusals
 
+  -- what the answer to a form that was read comes to: the session goes on, and in a strict one the form was accepted; or it has ended
   abbrev pub AnswersRead : Result Unit Ended → Type 0
   AnswersRead (Ok done) = (refusals : List ℕ) × PassesForm refusals × (wanted.strict ≡ true → refusals ≡ [])
   AnswersRead (Err ways.End) = ⊥

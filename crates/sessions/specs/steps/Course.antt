@@ -10,6 +10,7 @@ pub record Course : Type 0 where
   pub forms : ℕ
   pub bytes : ℕ
 
+-- how far a session has come, as the code keeps it
 abbrev pub course_of : CourseOf → Course
 course_of course = record { pace = pace_of course.schedule; forms = course.forms; bytes = course.bytes }
 

@@ -29,6 +29,7 @@ pub data Failure : Type 0 where
   DeviceFault : Failure
   OutOfMemory : Failure
 
+-- whether the device failed
 abbrev pub is_device : Failure → Bool
 is_device (Refused number) = false
 is_device Full = false
@@ -63,6 +64,7 @@ taken_in mode text (Err (Refused number)) = []
 taken_in mode text (Err Full) = []
 taken_in mode text (Err OutOfMemory) = []
 
+-- how many records are acknowledged: that of an accepted form that wrote, and none of another
 abbrev pub acknowledged_in : Mode → List ℕ → Result Evaluated Failure → ℕ
 acknowledged_in mode text (Ok evaluated) = length (records_of evaluated.wrote mode text)
 acknowledged_in mode text (Err failure) = 0

@@ -53,7 +53,7 @@ pub record HoldsNone (gathered : GatheredForms) : Type 0 where
 
 -- There are some, of which no more wrote than the limit says, and their records take no more bytes. The first takes so many bytes of the
 -- input, and the others are among so many.
-pub record IsCounted (next many : ℕ) (limit : GroupLimit) (gathered : GatheredForms) : Type 0 where
+pub record AreWithinLimit (next many : ℕ) (limit : GroupLimit) (gathered : GatheredForms) : Type 0 where
   pub some : 0 < gathered.forms
   pub forms : gathered.forms ≤ gathered.bytes
   pub first : next ≤ gathered.bytes
@@ -86,7 +86,7 @@ module _ (functions : Functions) (wanted : Wanted) where
     pub record_bytes : new.record_bytes ≡ old.record_bytes + room_of (evaluated before wanted.mode own [] given).taken
 
   -- the form that these bytes begin with was added, which takes so many of them
-  pub record IsNext (piece : List ℕ) (before after : WorldState) (had has : Batch) (old new : GatheredForms) (count : ℕ) : Type 0 where
+  pub record AddsNextForm (piece : List ℕ) (before after : WorldState) (had has : Batch) (old new : GatheredForms) (count : ℕ) : Type 0 where
     pub object : Object
     pub own : List ℕ
     pub begins : BeginsWhole functions before wanted.mode piece object own count
@@ -141,5 +141,5 @@ module _ (functions : Functions) (wanted : Wanted) where
 pub record AreTaken (functions : Functions) (turn : WholeForms) (world left : WorldState) (records : List LogRecord) (made : Option GatheredForms) : Type 0 where
   pub gathers : (text : List ℕ) → BeginsWhole functions world turn.wanted.mode text (object_of turn.first.now.read.datum) turn.first.now.own.items turn.first.now.next
       → drop turn.first.now.next text ≡ turn.rest.now → IfSome made (IsGathered functions turn.wanted world text left records)
-  pub counts : IfSome made (IsCounted turn.first.now.next (length turn.rest.now) turn.limit)
+  pub counts : IfSome made (AreWithinLimit turn.first.now.next (length turn.rest.now) turn.limit)
   pub none : made ≡ None → (left ≡ world) × (records ≡ [])

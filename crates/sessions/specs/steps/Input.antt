@@ -4,7 +4,7 @@ use Rattle.lisp_object.specs.Object.{Object, IsSound}
 use Rattle.lisp_object.specs.Datum.{object_of, is_proper}
 use Rattle.package_table.specs.Symbols.{are_there}
 use Rattle.plist_state.specs.State.{WorldState}
-use Rattle.form_reader.specs.Reader.{begun, fed, limits_of, BeginsAt, HasBegun, IsAfter, IsDecidedFrom, MayGoOn}
+use Rattle.form_reader.specs.Reader.{begun, fed, limits_of, BeginsAt, HasBegun, IsAfterBytes, IsDecidedFrom, MayGoOn}
 use Rattle.lisp_reading.specs.Deciding.{decided_from}
 use Rattle.lisp_reading.specs.Reading.{form, empty, refused}
 use Rattle.sessions.specs.declared.input.Pending.{Pending}
@@ -19,7 +19,7 @@ use Rattle.user_macros.specs.Functions.{Functions}
 -- them those are kept since what the reader has open began, and no more.
 pub record IsPending (functions : Functions) (world : WorldState) (mode : Mode) (pending : Pending) (bytes : List ℕ) : Type 0 where
   pub limits : limits_of pending.reader ≡ form_limits
-  pub after : IsAfter (setting_in functions world mode) pending.reader bytes
+  pub after : IsAfterBytes (setting_in functions world mode) pending.reader bytes
   pub count : fed pending.reader ≡ length bytes
   pub kept : pending.text.items ≡ drop pending.dropped bytes
   pub only : pending.dropped ≡ begun pending.reader

@@ -16,7 +16,7 @@ IsLineOf world (Err DeviceFault) line = ⊥
 IsLineOf world (Err OutOfMemory) line = ⊥
 
 -- the line that answers a form, in the world that the store has after it, if any
-pub record IsLine {D R : Type 0} (new : StoreView D R) (answer : Result Evaluated Failure) (line : List ℕ) : Type 0 where
+pub record IsAnswerLine {D R : Type 0} (new : StoreView D R) (answer : Result Evaluated Failure) (line : List ℕ) : Type 0 where
   pub world : WorldState
   pub one : (v : WorldState) → new.world ≡ Some v → v ≡ world
   pub line_of : IsLineOf world answer line

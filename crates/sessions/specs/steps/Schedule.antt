@@ -2,7 +2,7 @@
 use Rattle.std.specs.Prelude.{◌≡◌, ◌⊎◌, ℕ, zero, suc, ◌+◌, ◌<◌, ◌≤◌, Bool, true, false, Option, None, Some, Ok, Err, Result}
 use Rattle.disk_trait.specs.Disk.{State}
 use Rattle.sessions.specs.declared.schedule.Schedule.{Schedule}
-use Rattle.sessions.specs.Pace.{Counts, Fill, HasGrown, IsDue, IsDueByCount, Pace, fill_of}
+use Rattle.sessions.specs.Pace.{CountsLoggedForm, Fill, HasGrown, IsDue, IsDueByCount, Pace, fill_of}
 use Rattle.prevalence_store.specs.calls.Store.{StoreView}
 use Rattle.prevalence_store.specs.calls.Snapshot.{HasNoHalf, HasNoSnapshotMemory, IsSnapshotFault, IsSnapshotted, IsTooLarge}
 use Rattle.plist_state.specs.State.{WorldState}
@@ -25,7 +25,7 @@ IsBeforeGrown ratio fill more = 0 < more → HasGrown ratio (fill.size + more) f
 -- they were counted
 abbrev pub CountsAll : ℕ → Pace → Pace → Type 0
 CountsAll zero pace later = later ≡ pace
-CountsAll (suc count) pace later = (counted : Pace) × Counts pace counted × (IsDueByCount pace → ⊥) × CountsAll count counted later
+CountsAll (suc count) pace later = (counted : Pace) × CountsLoggedForm pace counted × (IsDueByCount pace → ⊥) × CountsAll count counted later
 
 -- ---- a snapshot in a session
 
@@ -46,6 +46,6 @@ module _ (functions : Functions) {D R : Type 0} (state : D → State) (old new :
   -- session, with this number.
   abbrev pub RenewsAfterForm : Bool → (pace later : Pace) → Option ℕ → Type 0
   RenewsAfterForm wrote pace later None =
-      ((wrote ≡ false) × (later ≡ pace) × (new ≡ old)) ⊎ ((wrote ≡ true) × Counts pace later × RenewsIfDue pace)
+      ((wrote ≡ false) × (later ≡ pace) × (new ≡ old)) ⊎ ((wrote ≡ true) × CountsLoggedForm pace later × RenewsIfDue pace)
   RenewsAfterForm wrote pace later (Some number) =
       (wrote ≡ true) × IsDue pace (fill_of old) × (IsSnapshotFault functions state old new world number ⊎ HasNoSnapshotMemory functions state old new world number)

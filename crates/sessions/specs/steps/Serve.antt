@@ -96,19 +96,19 @@ module _ (functions : Functions) {D R : Type 0} (state : D → State) (wanted : 
 
 module _ (functions : Functions) {D R : Type 0} (state : D → State) (wanted : Wanted) (course later : Course) (old new : StoreView D R) (world : WorldState) (mode : Mode) (text : List ℕ) (held written : Option (List ℕ)) (pending : Pending) where
   -- The session goes on; or it has ended, whatever follows the text.
-  abbrev pub Answers : Option Ended → Type 0
-  Answers None = GoesOn functions state wanted.strict course later old new world mode text held written pending []
-  Answers (Some ended) = (more : List ℕ) → HasEndedAt functions state wanted course old new world mode (text ++ more) held written ended
+  abbrev pub AnswersPiece : Option Ended → Type 0
+  AnswersPiece None = GoesOn functions state wanted.strict course later old new world mode text held written pending []
+  AnswersPiece (Some ended) = (more : List ℕ) → HasEndedAt functions state wanted course old new world mode (text ++ more) held written ended
 
   -- What a piece comes to, if the text ends with it: so many bytes of it are done with, and those after them are left; or the
   -- session has ended.
-  abbrev pub ComesTo : List ℕ → Result ℕ Ended → Type 0
-  ComesTo piece (Ok count) = GoesOn functions state wanted.strict course later old new world mode text held written pending (drop count piece)
-  ComesTo piece (Err ended) = Answers (Some ended)
+  abbrev pub PieceComesTo : List ℕ → Result ℕ Ended → Type 0
+  PieceComesTo piece (Ok count) = GoesOn functions state wanted.strict course later old new world mode text held written pending (drop count piece)
+  PieceComesTo piece (Err ended) = AnswersPiece (Some ended)
 
 -- Of so many bytes some are done with; or none, if what was pending before them is a form, and the first of them follows it. Before
 -- and after it so many bytes are pending.
-abbrev pub MovesOn : (before after many : ℕ) → Result ℕ Ended → Type 0
-MovesOn before after many (Ok count) =
+abbrev pub PassesBytes : (before after many : ℕ) → Result ℕ Ended → Type 0
+PassesBytes before after many (Ok count) =
     (count ≤ many) × (after ≤ before + count) × ((0 < count) ⊎ ((0 < before) × (after ≡ 0)))
-MovesOn before after many (Err ended) = Unit {0}
+PassesBytes before after many (Err ended) = Unit {0}

@@ -17,7 +17,7 @@ use Rattle.lisp_reading.specs.Reading.{refused}
 use Rattle.user_macros.specs.Functions.{Functions}
 
 -- the account of the same session, after more forms: by two counts of them so many as these are apart
-pub record Follows {D : Type 0} (from to : ℕ) (account later : Account D) : Type 0 where
+pub record IsLaterAccount {D : Type 0} (from to : ℕ) (account later : Account D) : Type 0 where
   pub first : later.first ≡ account.first
   pub mode : later.mode ≡ account.mode
   pub input : later.input ≡ account.input
@@ -31,7 +31,7 @@ module _ (functions : Functions) {D R : Type 0} (state : D → State) where
     pub since : IsHonest (state account.disk) → Survives functions (state account.disk) (state store.disk) world [] 0 (Some world)
 
   -- The lines of all forms before these bytes were handed on: what was read goes on with them.
-  pub record Stands (account : Account D) (store : StoreView D R) (world : WorldState) (mode : Mode) (bytes : List ℕ) : Type 0 where
+  pub record StandsAfterLines (account : Account D) (store : StoreView D R) (world : WorldState) (mode : Mode) (bytes : List ℕ) : Type 0 where
     pub text : List ℕ
     pub of_input : (all : List ℕ) → account.input ≡ Some all → (left : List ℕ) × (all ≡ text ++ left)
     pub far : Progress
@@ -42,14 +42,14 @@ module _ (functions : Functions) {D R : Type 0} (state : D → State) where
     pub rest_is : far.rest ≡ bytes
     pub at_rest : IsAtRest account store world
 
-  -- so it is for a recipient that keeps account
+  -- a recipient that keeps account was handed the lines of all forms before these bytes
   abbrev pub StandsBefore : Option (Account D) → StoreView D R → WorldState → Mode → List ℕ → Type 0
-  StandsBefore told store world mode bytes = (account : Account D) → told ≡ Some account → Stands account store world mode bytes
+  StandsBefore told store world mode bytes = (account : Account D) → told ≡ Some account → StandsAfterLines account store world mode bytes
 
   -- and the bytes are all that is left of the input, also of what was not read yet
   abbrev pub StandsBeforeAll : Option (Account D) → StoreView D R → WorldState → Mode → List ℕ → Type 0
   StandsBeforeAll told store world mode bytes = (account : Account D) → told ≡ Some account
-      → (stands : Stands account store world mode bytes) × ((all : List ℕ) → account.input ≡ Some all → stands.text ≡ all)
+      → (stands : StandsAfterLines account store world mode bytes) × ((all : List ℕ) → account.input ≡ Some all → stands.text ≡ all)
 
   -- before these bytes that are pending, and a piece
   abbrev pub StandsInPiece : Option (Account D) → StoreView D R → Mode → Pending → List ℕ → Type 0
@@ -79,7 +79,7 @@ module _ (functions : Functions) {D R : Type 0} (state : D → State) where
   -- The lines of so many forms more were handed on, and since the last of them were no form was taken.
   abbrev pub HandsOn : (from to : ℕ) (told now : Option (Account D)) → StoreView D R → Type 0
   HandsOn from to told now store = (later : Account D) → now ≡ Some later → (world : WorldState) → store.world ≡ Some world
-      → (account : Account D) × (told ≡ Some account) × Follows from to account later × IsAtRest later store world
+      → (account : Account D) × (told ≡ Some account) × IsLaterAccount from to account later × IsAtRest later store world
 
   -- what was done since they were handed on acknowledges none
   abbrev pub AcknowledgesNone : Option (Account D) → StoreView D R → Type 0

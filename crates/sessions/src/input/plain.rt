@@ -36,8 +36,9 @@ impl Pending {
         requires dropped { self.old.dropped ≤ fed self.old.reader }
         requires count { fed self.old.reader + length piece.now ≤ 2 ^ 63 }
 
-        // A form that was found.
-        ensures feeds { (functions : Functions) (bytes : List ℕ) → IsPending functions world.now.0 mode self.old bytes
+        // A form that was found is the one that the pending bytes and the piece begin with; it is sound, and its symbols are there if it says so.
+        ensures feeds { (functions : Functions) (bytes : List ℕ)
+            → IsPending functions world.now.0 mode self.old bytes
             → IfOk result (λ found. IfSome found (λ form. Feeds functions world.now.0 mode self.new
             (bytes ++ take (length form.own.items) piece.now) (Fed.Form form false))) }
         ensures sound { IfOk result (λ found. IfSome found
@@ -49,7 +50,7 @@ impl Pending {
         ensures some { IfOk result (λ found. IfSome found
             (λ form. (0 < length form.own.items) × (length form.own.items ≤ length piece.now))) }
 
-        // Where none was found, and how many bytes are pending.
+        // Where none was found nothing has changed, and no more bytes are pending than were.
         ensures none { IfOk result (λ found. found ≡ None → self.new ≡ self.old) }
         ensures count { fed self.new.reader ≤ fed self.old.reader }
     {

@@ -2,7 +2,7 @@ use Rattle.std.proofs.Common.{codes, sym, subst}
 use Rattle.lisp_object.specs.Object.{symbol}
 use Rattle.lisp_object.specs.Datum.{object_of}
 use Rattle.package_table.specs.Table.{common_lisp}
-use Rattle.plist_state.specs.Shown.{symbol_named}
+use Rattle.plist_state.specs.Views.{symbol_named}
 use Rattle.plist_state.specs.Sound.{IsValue}
 use Rattle.lisp_operators.specs.Effects.{Leaves}
 use Rattle.evaluator.proofs.QuotedKeys.{key_symbols, setf_given}

@@ -7,15 +7,15 @@ use Rattle.lisp_object.proofs.Objects.{object_of-Symbol, object_of-List}
 use Rattle.lisp_object.specs.declared.datum.Datum.TheViews.{sized-List, the_lemmas}
 use Rattle.lisp_object.proofs.datum.Datum.TheLaws.{the_size}
 use Rattle.lisp_operators.specs.Kinds.{is_pair}
-use Rattle.evaluator.specs.Gathered.{arguments_of, operation_value, followed, subforms, sequence_value, asserted}
+use Rattle.evaluator.specs.ArgumentValues.{arguments_of, operation_value, followed, subforms, sequence_value, asserted}
 use Rattle.evaluator.specs.declared.wanted.Wanted.TheVariants.{Value, Nothing}
-use Rattle.evaluator.specs.Wanted.{stand_in, seen}
+use Rattle.evaluator.specs.StandIns.{stand_in, seen}
 use Rattle.evaluator.proofs.ListItems.{held_so}
 use Rattle.evaluator.proofs.Seen.{seen_value, refused_seen, refused_so, evaluated_so, evaluated_good}
 use Rattle.evaluator.proofs.Sequences.{same_last, sequence_step, sequence_stops, sequence_last, no_forms, answered, refused_after, step_after}
 use Rattle.evaluator.specs.Value.{value, values, sought, selected, has_truth}
 use Rattle.lisp_operators.specs.Properties.{list}
-use Rattle.plist_state.specs.Shown.{symbol_named}
+use Rattle.plist_state.specs.Views.{symbol_named}
 use Rattle.std.specs.Prelude.{◌==◌}
 use Rattle.std.proofs.lemmas.Bool.{and_parts}
 use Rattle.lisp_object.specs.declared.refusal.TheConstants.{ARGUMENT_KIND}

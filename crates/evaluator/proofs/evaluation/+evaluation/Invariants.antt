@@ -4,7 +4,7 @@ use Rattle.lisp_object.specs.Datum.{object_of}
 use Rattle.lisp_operators.specs.Evaluation.{also}
 use Rattle.lisp_operators.specs.ListBuilder.{HoldsList}
 use Rattle.evaluator.specs.Value.{sought, selected, are_clauses}
-use Rattle.evaluator.specs.Gathered.{followed, arguments_of, sequence_value}
+use Rattle.evaluator.specs.ArgumentValues.{followed, arguments_of, sequence_value}
 use Rattle.lisp_operators.specs.Evaluated.{IsArgument, KeepsArguments}
 use Rattle.evaluator.proofs.evaluation.+evaluation.Given as goal
 

@@ -4,7 +4,7 @@ use Rattle.lisp_object.specs.Object.{Object}
 use Rattle.package_table.specs.Numbers.{numbered}
 use Rattle.package_table.specs.Symbols.{symbols}
 use Rattle.plist_state.specs.Properties.{Plist, Symbol}
-use Rattle.plist_state.specs.Shown.{property_of}
+use Rattle.plist_state.specs.Views.{property_of}
 use Rattle.forgotten_names.specs.Marks.{AddsMarks}
 use Rattle.forgotten_names.proofs.Marking.{marked_more}
 use Rattle.forgotten_names.proofs.unneeded.mark_plist.Goals as goal

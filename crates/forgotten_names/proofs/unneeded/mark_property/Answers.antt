@@ -2,7 +2,7 @@ use Rattle.std.proofs.Common.{◌∷◌, []}
 use Rattle.package_table.specs.Numbers.{numbered}
 use Rattle.package_table.specs.Symbols.{symbols}
 use Rattle.package_table.proofs.Undoing.{on_ok}
-use Rattle.plist_state.specs.Shown.{property_of}
+use Rattle.plist_state.specs.Views.{property_of}
 use Rattle.forgotten_names.proofs.Marking.{marked_both}
 use Rattle.forgotten_names.proofs.unneeded.mark_property.Goals as goal
 

@@ -1,7 +1,7 @@
 use Rattle.std.proofs.Common.{[], IfOk, sym, subst, ◌∙◌}
 use Rattle.lisp_reading.specs.declared.limits.Limits.{Limits}
 use Rattle.lisp_reading.specs.Setting.{Setting, setting_of}
-use Rattle.form_reader.specs.Reader.{HasBegun, IsAfter}
+use Rattle.form_reader.specs.Reader.{HasBegun, IsAfterBytes}
 use Rattle.form_check.specs.Checking.{IsBeginning}
 use Rattle.form_check.specs.declared.begin.Beginning.TheVariants as begins
 use Rattle.form_check.proofs.Beginnings.{form_begins, refusal_begins, whole_begun, whole_fed}
@@ -32,8 +32,8 @@ returns-in-More g c =
     let under : Limits → Setting = λ limits. setting_of limits c.args.under.now.readtable.now c.args.under.now.base c.args.under.now.packages.now.0
     c.args.under.now.current.now (g.M.MacroFunctions.functions c.args.macros.now) in
     let setting : Setting = under c.new-reader.result.limits in
-    let fed : IsAfter (under c.feed.new.self.limits) c.feed.new.self c.args.text.now =
-    subst (λ (l : Limits). IsAfter (under l) c.feed.new.self c.args.text.now) (sym c.in_ok-advance.ensures.limits)
+    let fed : IsAfterBytes (under c.feed.new.self.limits) c.feed.new.self c.args.text.now =
+    subst (λ (l : Limits). IsAfterBytes (under l) c.feed.new.self c.args.text.now) (sym c.in_ok-advance.ensures.limits)
     (whole_fed setting c.feed.new.self c.args.text.now _ _ (c.in_ok-advance.ensures.feeds [] (c.new-reader.ensures.after setting)) c.in-More.is (c.in_ok-advance.ensures.whole c.in-More.is)) in
     let has : HasBegun (under c.feed.new.self.limits) c.feed.new.self c.args.text.now =
     subst (λ (l : Limits). HasBegun (under l) c.feed.new.self c.args.text.now) (sym c.in_ok-advance.ensures.limits)

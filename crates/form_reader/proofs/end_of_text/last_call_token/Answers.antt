@@ -1,5 +1,5 @@
 use Rattle.std.proofs.Common.{[], ap, ◌∙◌}
-use Rattle.token_scan.specs.Scans.{Scan}
+use Rattle.token_scan.specs.ByteByByte.{Scan}
 use Rattle.form_reader.specs.Context.{setting}
 use Rattle.form_reader.proofs.EndOfText.{token_last, token_stopped}
 use Rattle.form_reader.proofs.end_of_text.last_call_token.Goals as goal

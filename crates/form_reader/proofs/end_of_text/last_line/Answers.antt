@@ -1,4 +1,4 @@
-use Rattle.lisp_reading.specs.Calls.{keep_of}
+use Rattle.lisp_reading.specs.InvokedCalls.{keep_of}
 use Rattle.std.proofs.Common.{[]}
 use Rattle.form_reader.specs.Context.{setting}
 use Rattle.lisp_reading.specs.Reading.{line_after}

@@ -1,7 +1,7 @@
 use Rattle.std.proofs.Common.{◌<◌, List, [], length, ap, sym, subst, ◌∙◌, None, Some}
 use Rattle.token_scan.specs.declared.mark.Mark.{Mark}
 use Rattle.token_scan.proofs.Forwards.{begun_has_mark}
-use Rattle.token_scan.specs.Scans.{Scan}
+use Rattle.token_scan.specs.ByteByByte.{Scan}
 use Rattle.form_reader.specs.Context.{setting}
 use Rattle.form_reader.specs.EndOfText.{TokenStops}
 use Rattle.form_reader.proofs.EndOfText.{token_last, token_stopped}

@@ -1,5 +1,5 @@
 use Rattle.std.proofs.Common.{◌≡◌, Bool, Ok, Err, sym, ap, subst, ◌∙◌, arith}
-use Rattle.package_table.specs.Changes.{after_import, import_changes, Gives}
+use Rattle.package_table.specs.Changes.{after_import, import_changes, AnswersPackages}
 use Rattle.plist_state.specs.State.{Worlds}
 use Rattle.plist_state.specs.Changes.{with_packages}
 use Rattle.plist_state.specs.Sound.{IsSymbol}
@@ -32,7 +32,7 @@ returns-in-Err-clause-gives c =
     let u = c.loop-symbol.world.0.packages in
     let v = c.import.new.self.0.packages in
     stops (λ t y. after_import t owner y.0 y.1) (λ t y. import_changes t owner y.1) symbol_of_member {B = Bool} (λ _. v) c.in-Err.error c.args.world.now.0.packages u v c.loop-symbol.wrote c.args.symbols.now c.loop-symbol.symbol-index c.symbol-item.result c.loop-symbol-test.true c.symbol-item.is c.loop-symbol.invariant.so_far
-    (subst (λ y. Gives {A = Bool} (λ _. v) (Err c.in-Err.error) (after_import u owner y.0 y.1)) c.symbol_in.ensures c.in-Err.ensures.gives)
+    (subst (λ y. AnswersPackages {A = Bool} (λ _. v) (Err c.in-Err.error) (after_import u owner y.0 y.1)) c.symbol_in.ensures c.in-Err.ensures.gives)
 
 pub returns-clause-gives : goal.returns-clause-gives
 returns-clause-gives c =

@@ -1,6 +1,6 @@
 use Rattle.std.proofs.Common.{◌≡◌, Bool, Ok, Err, sym, ap, subst, ◌∙◌, arith}
 use Rattle.package_table.specs.Table.{full_name}
-use Rattle.package_table.specs.Changes.{after_use, use_changes, Gives}
+use Rattle.package_table.specs.Changes.{after_use, use_changes, AnswersPackages}
 use Rattle.plist_state.specs.State.{Worlds}
 use Rattle.plist_state.specs.Changes.{with_packages}
 use Rattle.lisp_operators.specs.Members.{name_in}
@@ -27,7 +27,7 @@ returns-in-Err-clause-gives c =
     let v = c.use_package.new.self.0.packages in
     let same : c.full_name.result.now ≡ full_name (name_in c.package-item.result) = c.full_name.ensures ∙ ap full_name c.name_in.ensures in
     stops (λ t q. after_use t owner q) (λ t q. use_changes t owner q) (λ d. full_name (name_in d)) {B = Bool} (λ _. v) c.in-Err.error c.args.world.now.0.packages u v c.loop-package.wrote c.args.used.now c.loop-package.package-index c.package-item.result c.loop-package-test.true c.package-item.is c.loop-package.invariant.so_far
-    (subst (λ q. Gives {A = Bool} (λ _. v) (Err c.in-Err.error) (after_use u owner q)) same c.in-Err.ensures.gives)
+    (subst (λ q. AnswersPackages {A = Bool} (λ _. v) (Err c.in-Err.error) (after_use u owner q)) same c.in-Err.ensures.gives)
 
 pub returns-clause-gives : goal.returns-clause-gives
 returns-clause-gives c =

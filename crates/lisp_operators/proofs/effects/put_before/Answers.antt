@@ -2,7 +2,7 @@ use Rattle.std.proofs.Common.{◌≡◌, true, Ok, nat_lt, refl, sym, ap, ◌∙
 use Rattle.std.proofs.lemmas.Bool.Decides.{nat_tests}
 use Rattle.lisp_object.specs.Object.{object_depth, object_size}
 use Rattle.lisp_object.specs.Datum.{object_of}
-use Rattle.plist_state.specs.Shown.{symbol_of}
+use Rattle.plist_state.specs.Views.{symbol_of}
 use Rattle.plist_state.specs.Changes.{property}
 use Rattle.plist_state.specs.State.{Worlds}
 use Rattle.plist_state.specs.Pushed.{pushed, with_pushed}

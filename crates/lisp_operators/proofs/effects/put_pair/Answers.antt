@@ -1,7 +1,7 @@
 use Rattle.std.proofs.Common.{◌≡◌, nat_lt, sym, ap, ◌∙◌}
 use Rattle.lisp_object.specs.Object.{pair, object_depth}
 use Rattle.lisp_object.specs.Datum.{object_of}
-use Rattle.plist_state.specs.Shown.{symbol_of}
+use Rattle.plist_state.specs.Views.{symbol_of}
 use Rattle.plist_state.specs.Changes.{property}
 use Rattle.lisp_operators.specs.Evaluated.{or_nil}
 use Rattle.lisp_operators.proofs.PropertyRows.{pushed_value}

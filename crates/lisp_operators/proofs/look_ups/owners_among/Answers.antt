@@ -1,6 +1,6 @@
 use Rattle.std.proofs.Common.{[], is_some}
 use Rattle.plist_state.specs.Changes.{property}
-use Rattle.plist_state.specs.Shown.{symbol_named}
+use Rattle.plist_state.specs.Views.{symbol_named}
 use Rattle.lisp_operators.proofs.LookUpSteps.{owners_more}
 use Rattle.lisp_operators.proofs.look_ups.owners_among.Goals as goal
 

@@ -4,7 +4,7 @@ use Rattle.lisp_object.specs.Object.{symbol}
 use Rattle.lisp_object.specs.Datum.{object_of, is_proper}
 use Rattle.package_table.specs.Readers.{names_of}
 use Rattle.plist_state.specs.Changes.{property}
-use Rattle.plist_state.specs.Shown.{symbol_named}
+use Rattle.plist_state.specs.Views.{symbol_named}
 use Rattle.lisp_operators.proofs.look_ups.owners_among.Given as goal
 
 -- the symbols so far

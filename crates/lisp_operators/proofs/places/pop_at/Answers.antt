@@ -2,7 +2,7 @@ use Rattle.std.proofs.Common.{◌≡◌, true, option_map, IfErr, Ok, sym, ap, s
 use Rattle.lisp_object.specs.Datum.{object_of}
 use Rattle.lisp_object.specs.Object.{Object}
 use Rattle.plist_state.specs.State.{Worlds}
-use Rattle.plist_state.specs.Shown.{symbol_of}
+use Rattle.plist_state.specs.Views.{symbol_of}
 use Rattle.plist_state.specs.Sound.{IsSymbol}
 use Rattle.lisp_operators.specs.declared.evaluated.Evaluated.{Evaluated}
 use Rattle.lisp_operators.specs.Evaluation.{Evaluation}

@@ -1,6 +1,6 @@
 use Rattle.std.proofs.Common.{sym, subst}
 use Rattle.lisp_object.specs.Datum.{object_of}
-use Rattle.plist_state.specs.Shown.{symbol_of}
+use Rattle.plist_state.specs.Views.{symbol_of}
 use Rattle.plist_state.specs.Sound.{IsValue}
 use Rattle.lisp_operators.proofs.PlaceLaws.{parted_values}
 use Rattle.lisp_operators.proofs.SoundProperties.{property_value}

@@ -1,7 +1,7 @@
 use Rattle.std.proofs.Common.{◌≡◌, ◌-◌, ◌^◌, min, Some, nat_lt, refl, sym, ap, ◌∙◌}
 use Rattle.lisp_object.specs.Object.{pair, object_depth, object_size}
 use Rattle.lisp_object.specs.Datum.{object_of}
-use Rattle.plist_state.specs.Shown.{symbol_of}
+use Rattle.plist_state.specs.Views.{symbol_of}
 use Rattle.plist_state.specs.Changes.{property}
 use Rattle.plist_state.specs.Pushed.{pushed}
 use Rattle.lisp_operators.specs.Evaluated.{or_nil}

@@ -1,6 +1,6 @@
 use Rattle.std.proofs.Common.{sym}
 use Rattle.lisp_object.specs.Datum.{object_of}
-use Rattle.plist_state.specs.Shown.{symbol_of}
+use Rattle.plist_state.specs.Views.{symbol_of}
 use Rattle.lisp_operators.proofs.Storable.{symbol_kind}
 use Rattle.lisp_operators.proofs.properties.set.Goals as goal
 

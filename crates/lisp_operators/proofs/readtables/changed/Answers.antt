@@ -1,6 +1,6 @@
 use Rattle.std.proofs.Common.{true, Result, refl, subst}
 use Rattle.plist_state.specs.declared.error.ReadtableError.{ReadtableError}
-use Rattle.plist_state.specs.Changes.{Gives as Tells}
+use Rattle.plist_state.specs.Changes.{AnswersReadtables as Tells}
 use Rattle.lisp_operators.proofs.ReadtableSteps.{told_made, told_refused}
 use Rattle.lisp_operators.proofs.readtables.changed.Goals as goal
 

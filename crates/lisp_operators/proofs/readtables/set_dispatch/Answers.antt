@@ -5,7 +5,7 @@ use Rattle.plist_state.specs.Sound.{IsSymbol}
 use Rattle.plist_state.specs.Changes.{with_dispatch, in_state}
 use Rattle.lisp_operators.specs.Kinds.{a_keyword, given_or}
 use Rattle.lisp_operators.specs.Properties.{t}
-use Rattle.lisp_operators.specs.Readtables.{after, set_dispatch}
+use Rattle.lisp_operators.specs.Readtables.{value_after, set_dispatch}
 use Rattle.lisp_operators.specs.Evaluated.{Answers, done}
 use Rattle.lisp_operators.proofs.ReadtableSteps.{dispatch_opens}
 use Rattle.lisp_operators.proofs.Storable.{character_kind, keyword_kind}
@@ -38,5 +38,5 @@ returns-clause-gives c =
     subst (λ vs. Answers done c.changed.result new (set_dispatch c.args.names.now (map object_of vs) s)) (sym c.in_ok-character.ensures.value)
     (dispatch_opens (Answers done c.changed.result new) s c.args.names.now (object_of c.in_ok-character.character.now) (object_of c.in_ok-character.sub.now) (object_of c.in_ok-character.function.now) rest c.in_ok-c.c c.in_ok-d.d c.in_ok-function.function.now n c.in_ok-table.table.now
     c.in_ok-c.ensures c.in_ok-d.ensures c.in_ok-function.ensures given c.in_ok-table.ensures c.in_ok-function-2.ensures.1
-    (subst (λ said. Answers done c.changed.result new (after s t said)) (λ i. in_state s (with_dispatch s.readtables (name_is i) c.in_ok-c.c c.in_ok-d.d (c.in_ok-function-2.ensures.0 i)))
+    (subst (λ said. Answers done c.changed.result new (value_after s t said)) (λ i. in_state s (with_dispatch s.readtables (name_is i) c.in_ok-c.c c.in_ok-d.d (c.in_ok-function-2.ensures.0 i)))
     (c.changed.ensures.gives s new (in_state s (with_dispatch s.readtables c.as_slice.result.now c.in_ok-c.c c.in_ok-d.d c.in_ok-function-2.function)) c.set_dispatch-made.ensures.gives)))

@@ -5,7 +5,7 @@ use Rattle.plist_state.specs.Sound.{IsSymbol}
 use Rattle.plist_state.specs.Changes.{with_macro, in_state}
 use Rattle.lisp_operators.specs.Kinds.{a_keyword, given_or}
 use Rattle.lisp_operators.specs.Properties.{t}
-use Rattle.lisp_operators.specs.Readtables.{after, after_first, set_macro}
+use Rattle.lisp_operators.specs.Readtables.{value_after, after_first, set_macro}
 use Rattle.lisp_operators.specs.Evaluated.{Answers, done}
 use Rattle.lisp_operators.proofs.ReadtableSteps.{macro_opens}
 use Rattle.lisp_operators.proofs.Storable.{character_kind, keyword_kind}
@@ -34,5 +34,5 @@ returns-clause-gives c =
     subst (λ vs. Answers done c.changed.result new (set_macro c.args.names.now (map object_of vs) s)) (sym c.in_ok-character.ensures.value)
     (macro_opens (Answers done c.changed.result new) s c.args.names.now (object_of c.in_ok-character.character.now) (object_of c.in_ok-character.function.now) rest c.in_ok-c.c c.in_ok-function.function.now n c.in_ok-writable.field-0.now
     c.in_ok-c.ensures c.in_ok-function.ensures given c.in_ok-writable.ensures c.in_ok-function-2.ensures.1
-    (subst (λ said. Answers done c.changed.result new (after s t said)) (λ i. in_state s (with_macro s.readtables (name_is i) c.in_ok-c.c (c.in_ok-function-2.ensures.0 i) (c.is_given.ensures i)))
+    (subst (λ said. Answers done c.changed.result new (value_after s t said)) (λ i. in_state s (with_macro s.readtables (name_is i) c.in_ok-c.c (c.in_ok-function-2.ensures.0 i) (c.is_given.ensures i)))
     (c.changed.ensures.gives s new (in_state s (with_macro s.readtables c.as_slice.result.now c.in_ok-c.c c.in_ok-function-2.function c.is_given.result)) c.set_macro-made.ensures.gives)))

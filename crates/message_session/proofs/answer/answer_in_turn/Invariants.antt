@@ -2,7 +2,7 @@ use Rattle.std.proofs.Common.{◌≡◌, Some, map, take, drop}
 use Rattle.message_frames.specs.Frames.{sent}
 use Rattle.message_session.specs.Answers.{answered_bytes}
 use Rattle.message_session.specs.Sessions.{AreFramesAnswered}
-use Rattle.message_session.specs.Standing.{AnswersMore, ComeNext, Rests}
+use Rattle.message_session.specs.Standing.{AnswersMore, ComeNext, RestsAt}
 use Rattle.plist_state.specs.State.{WorldState}
 use Rattle.message_session.proofs.answer.answer_in_turn.Given as goal
 
@@ -13,7 +13,7 @@ invariant-frames g l = record {
   answered : (w : WorldState) → l.fn.store.world ≡ Some w
       → AreFramesAnswered g.R.Meaning.Meaning.functions l.fn.course.last w g.D.Disk.state l.store (g.O.AnswerRecipient.contents l.fn.output) (g.O.AnswerRecipient.contents l.output)
       (answered_bytes g.R.Meaning.Meaning.functions l.fn.course.last w) (map sent (take l.i l.frames)) l.course.last;
-  rests : Rests g.R.Meaning.Meaning.functions g.D.Disk.state (g.O.AnswerRecipient.account l.output) l.store l.course.last;
+  rests : RestsAt g.R.Meaning.Meaning.functions g.D.Disk.state (g.O.AnswerRecipient.account l.output) l.store l.course.last;
   next : ComeNext (g.O.AnswerRecipient.account l.output) (map sent (drop l.i l.frames));
   more : AnswersMore (g.O.AnswerRecipient.account l.fn.output) (g.O.AnswerRecipient.account l.output) (map sent (take l.i l.frames));
   input : g.O.AnswerRecipient.input l.output ≡ g.O.AnswerRecipient.input l.fn.output;

@@ -6,9 +6,9 @@ use Rattle.disk_trait.specs.Disk.{IsHonest}
 use Rattle.message_frames.specs.Frames.{Sent, answer_bytes, sent}
 use Rattle.message_laws.proofs.Tidy.{sound_tidy}
 use Rattle.message_session.specs.Answers.{AskAlike, answered_bytes, answers_to}
-use Rattle.message_session.specs.Account.{Account, AreStored, with_frames}
+use Rattle.message_session.specs.Account.{MessageAccount, AnswersAreStored, with_frames}
 use Rattle.message_session.specs.Sessions.{AreFramesAnswered, HasCarriedOut}
-use Rattle.message_session.specs.Standing.{ComeNext, Rests}
+use Rattle.message_session.specs.Standing.{ComeNext, RestsAt}
 use Rattle.message_session.specs.Steps.{Breaks}
 use Rattle.message_session.specs.declared.ended.Ended.TheVariants.{Fault}
 use Rattle.message_session.proofs.Causes.{breaks_silent, breaks_unrenewed, breaks_unwritten}
@@ -146,27 +146,27 @@ pub write_answers-requires : goal.write_answers-requires
 write_answers-requires g c =
     let here = (goal.at.write_answers-requires g c).In-Ok-bytes_of in
     record {
-      stored = subst (λ fs. (account : Account g.row.D.Denot) → g.O.AnswerRecipient.account c.args.output.now ≡ Some account
-          → AreStored g.R.Meaning.Meaning.functions g.D.Disk.state account c.answer_first_requests.new.store fs c.as_slice-3.result.now) (sym (as_taken g here))
+      stored = subst (λ fs. (account : MessageAccount g.row.D.Denot) → g.O.AnswerRecipient.account c.args.output.now ≡ Some account
+          → AnswersAreStored g.R.Meaning.Meaning.functions g.D.Disk.state account c.answer_first_requests.new.store fs c.as_slice-3.result.now) (sym (as_taken g here))
           (answers_stored g.R.Meaning.Meaning.functions g.D.Disk.state g.met.D.Disk.sound (g.O.AnswerRecipient.account c.args.output.now) c.args.store.now c.answer_first_requests.new.store c.args.course.now.last
           c.requires.rests (taken g here) (come g here) c.in-Ok-answer_first_requests.replies (given g here) c.as_slice-3.result.now
           (λ w known. c.as_slice-3.ensures.value ∙ bytes_made g here w known));
     }
 
 -- where it stands once the answers were handed on
-kept : (g : Over) (c : In-Ok-bytes_of g) (now : Option (Account g.row.D.Denot))
-    → ((later : Account g.row.D.Denot) → now ≡ Some later
+kept : (g : Over) (c : In-Ok-bytes_of g) (now : Option (MessageAccount g.row.D.Denot))
+    → ((later : MessageAccount g.row.D.Denot) → now ≡ Some later
     → option_map (with_frames g.R.Meaning.Meaning.functions (map sent (take (count_of g c) c.args.frames.now)) c.answer_first_requests.new.store) (g.O.AnswerRecipient.account c.args.output.now) ≡ Some later)
-    → (later : Account g.row.D.Denot) → now ≡ Some later
+    → (later : MessageAccount g.row.D.Denot) → now ≡ Some later
     → option_map (with_frames g.R.Meaning.Meaning.functions (taken g c) c.answer_first_requests.new.store) (g.O.AnswerRecipient.account c.args.output.now) ≡ Some later
 kept g c now handed later is =
     subst (λ fs. option_map (with_frames g.R.Meaning.Meaning.functions fs c.answer_first_requests.new.store) (g.O.AnswerRecipient.account c.args.output.now) ≡ Some later) (as_taken g c) (handed later is)
 
-handed : (g : Over) (c : In-Ok-bytes_of g) (now : Option (Account g.row.D.Denot))
-    → ((later : Account g.row.D.Denot) → now ≡ Some later
+handed : (g : Over) (c : In-Ok-bytes_of g) (now : Option (MessageAccount g.row.D.Denot))
+    → ((later : MessageAccount g.row.D.Denot) → now ≡ Some later
     → option_map (with_frames g.R.Meaning.Meaning.functions (map sent (take (count_of g c) c.args.frames.now)) c.answer_first_requests.new.store) (g.O.AnswerRecipient.account c.args.output.now) ≡ Some later)
     → ((w : WorldState) → c.answer_first_requests.new.store.world ≡ Some w → IsHonest (g.D.Disk.state c.answer_first_requests.new.store.disk) → Keeps g.R.Meaning.Meaning.functions (g.D.Disk.state c.answer_first_requests.new.store.disk) w)
-    → Rests g.R.Meaning.Meaning.functions g.D.Disk.state now c.answer_first_requests.new.store c.in-Ok-answer_first_requests.replies.last
+    → RestsAt g.R.Meaning.Meaning.functions g.D.Disk.state now c.answer_first_requests.new.store c.in-Ok-answer_first_requests.replies.last
 handed g c now hands keeps =
     rests_handed g.R.Meaning.Meaning.functions g.D.Disk.state g.met.D.Disk.sound (g.O.AnswerRecipient.account c.args.output.now) c.args.store.now c.answer_first_requests.new.store c.args.course.now.last
     c.requires.rests (taken g c) (come g c) c.in-Ok-answer_first_requests.replies (given g c) now (kept g c now hands) keeps
@@ -196,7 +196,7 @@ returns-in-Err-write_answers-clause-rests g c =
 pub returns-in-Ok-renew_if_due-clause-rests : goal.returns-in-Ok-renew_if_due-clause-rests
 returns-in-Ok-renew_if_due-clause-rests g c =
     let now = g.O.AnswerRecipient.account c.write_answers.new.self in
-    subst (λ n. Rests g.R.Meaning.Meaning.functions g.D.Disk.state now c.renew_if_due.new.store n) (sym c.in-Ok-renew_if_due.ensures.last)
+    subst (λ n. RestsAt g.R.Meaning.Meaning.functions g.D.Disk.state now c.renew_if_due.new.store n) (sym c.in-Ok-renew_if_due.ensures.last)
     (rests_further g.R.Meaning.Meaning.functions g.D.Disk.state g.met.D.Disk.sound now c.answer_first_requests.new.store c.renew_if_due.new.store c.in-Ok-answer_first_requests.replies.last
     (handed g (goal.at.returns-in-Ok-renew_if_due-clause-rests g c).In-Ok-bytes_of now c.write_answers.ensures.kept c.keeps_its_world.ensures)
     (λ w known. (c.in-Ok-renew_if_due.ensures.renews w known).0) (λ w known. (c.in-Ok-renew_if_due.ensures.renews w known).1))

@@ -4,7 +4,7 @@ use Rattle.lisp_object.specs.declared.refusal.TheConstants.{LOG_FULL}
 use Rattle.message_frames.specs.Frames.{sent}
 use Rattle.message_frames.specs.declared.frame.MessageFrame.{MessageFrame}
 use Rattle.message_laws.proofs.Tidy.{sound_tidy}
-use Rattle.message_session.specs.Standing.{AnswersMore, Rests, RestsOrStops}
+use Rattle.message_session.specs.Standing.{AnswersMore, RestsAt, RestsOrStops}
 use Rattle.message_session.specs.Steps.{RefusesFirst, TakesFrames}
 use Rattle.message_session.specs.declared.answer.Stop.{Stop}
 use Rattle.message_session.proofs.Causes.{breaks_roomless}
@@ -27,7 +27,7 @@ left g c full w known =
     (g.O.AnswerRecipient.contents c.args.output.now) (g.O.AnswerRecipient.contents c.take_frames.new.output) c.take_frames.new.course.last (map sent c.args.frames.now) c.in-Err.stop c.in-Untaken.why
     c.in-Untaken.is full (c.in-Err.ensures.takes w known)
 
-rested : (g : Over) (c : In-Untaken g) → Rests g.R.Meaning.Meaning.functions g.D.Disk.state (g.O.AnswerRecipient.account c.take_frames.new.output) c.take_frames.new.store c.take_frames.new.course.last
+rested : (g : Over) (c : In-Untaken g) → RestsAt g.R.Meaning.Meaning.functions g.D.Disk.state (g.O.AnswerRecipient.account c.take_frames.new.output) c.take_frames.new.store c.take_frames.new.course.last
 rested g c =
     untaken_rests g.R.Meaning.Meaning.functions g.D.Disk.state g.met.D.Disk.sound (g.O.AnswerRecipient.account c.take_frames.new.output) c.take_frames.new.store c.take_frames.new.course.last
     c.in-Err.stop c.in-Untaken.why c.in-Untaken.is c.in-Err.ensures.rests

@@ -2,7 +2,7 @@ use Rattle.std.proofs.Common.{◌≡◌, ◌≤◌, ◌*◌, ◌-◌, Some, leng
 use Rattle.std.specs.Prelude.{◌^◌}
 use Rattle.message_frames.specs.Frames.{IsBegunFrame}
 use Rattle.message_session.specs.Sessions.{text_limit}
-use Rattle.message_session.specs.Standing.{IsReadIn, Rests}
+use Rattle.message_session.specs.Standing.{IsReadIn, RestsAt}
 use Rattle.message_session.proofs.Pieces.{HasCome}
 use Rattle.plist_state.specs.State.{WorldState}
 use Rattle.message_session.proofs.serve.serve_frames.Given as goal
@@ -18,7 +18,7 @@ invariant-pieces g l = record {
       → HasCome g.R.Meaning.Meaning.functions l.fn.course.last w g.D.Disk.state (g.I.Read.remaining l.fn.input) (g.I.Read.remaining l.input)
       (g.O.AnswerRecipient.contents l.fn.output) (g.O.AnswerRecipient.contents l.output) l.store l.session.course.last l.session.held l.came
       × IsBegunFrame text_limit l.session.held;
-  rests : Rests g.R.Meaning.Meaning.functions g.D.Disk.state (g.O.AnswerRecipient.account l.output) l.store l.session.course.last;
+  rests : RestsAt g.R.Meaning.Meaning.functions g.D.Disk.state (g.O.AnswerRecipient.account l.output) l.store l.session.course.last;
   read : IsReadIn (g.O.AnswerRecipient.account l.output) (g.I.Read.remaining l.input) l.session.held;
   input : g.O.AnswerRecipient.input l.output ≡ g.O.AnswerRecipient.input l.fn.output;
 }

@@ -1,6 +1,6 @@
 use Rattle.std.proofs.Common.{inl, inr, ◌++◌, refl, sym, ap, subst, ◌∙◌}
 use Rattle.message_frames.specs.Frames.{position_bytes}
-use Rattle.message_session.specs.Account.{Account}
+use Rattle.message_session.specs.Account.{MessageAccount}
 use Rattle.message_session.specs.Answers.{answered_bytes}
 use Rattle.message_session.proofs.Next.{read_begun}
 use Rattle.message_session.proofs.Standing.{none_at_rest, rests_begun}
@@ -80,5 +80,5 @@ returns-clause-serves g c = λ w known.
 pub serve_frames-requires-clause-read : goal.serve_frames-requires-clause-read
 serve_frames-requires-clause-read g c = λ account is.
     let first = c.write_position.ensures.kept account is in
-    read_begun account (g.I.Read.remaining c.args.input.now) (ap (λ (a : Account g.row.D.Denot). a.answered) first.2)
-    (λ all told. c.requires.of_input all (sym (ap (λ (a : Account g.row.D.Denot). a.input) first.2) ∙ told))
+    read_begun account (g.I.Read.remaining c.args.input.now) (ap (λ (a : MessageAccount g.row.D.Denot). a.answered) first.2)
+    (λ all told. c.requires.of_input all (sym (ap (λ (a : MessageAccount g.row.D.Denot). a.input) first.2) ∙ told))

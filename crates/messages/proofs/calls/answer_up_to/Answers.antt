@@ -2,7 +2,7 @@ use Rattle.std.proofs.Common.{rules, Err, IsSome, sym, subst}
 use Rattle.std.proofs.lemmas.Result.{IfErr-weaker}
 use Rattle.messages.specs.declared.first_requests.FirstRequests.{FirstRequests}
 use Rattle.messages.specs.Calls.{AnswersRequests}
-use Rattle.messages.specs.Turn.{front}
+use Rattle.messages.specs.Turn.{front_requests}
 use Rattle.prevalence_store.proofs.calls.Executing.{known_world}
 use Rattle.messages.proofs.Owned.{no_device}
 use Rattle.messages.proofs.Settling.{refused_unchanged, replies_logged, replies_unlogged}
@@ -25,7 +25,7 @@ pub returns-in-Err-clause-answer : goal.returns-in-Err-clause-answer
 returns-in-Err-clause-answer g c = λ world known.
     let functions = g.R.Meaning.Meaning.functions in
     let turn : FirstRequests = record { last = c.args.last; requests = c.args.requests; most = c.args.most } in
-    subst (λ n. AnswersRequests functions g.D.Disk.state c.args.store.now c.together.new.self world c.args.last (front functions turn world) (Err n)) (sym c.number.ensures)
+    subst (λ n. AnswersRequests functions g.D.Disk.state c.args.store.now c.together.new.self world c.args.last (front_requests functions turn world) (Err n)) (sym c.number.ensures)
     (replies_unlogged functions turn world g.D.Disk.state c.args.store.now c.together.new.self c.in-Err.cause (c.in-Err.ensures.left world known))
 
 pub returns-in-Err-clause-unchanged : goal.returns-in-Err-clause-unchanged

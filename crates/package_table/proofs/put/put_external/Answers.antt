@@ -2,7 +2,7 @@ use Rattle.std.proofs.Common.{◌∙◌, false, is_some, bytes_eq, refl, sym, ap
 use Rattle.std.proofs.lemmas.Bool.{false≢true}
 use Rattle.std.specs.Option.{option_map_or}
 use Rattle.package_sets.specs.Kept.{Kept}
-use Rattle.package_sets.specs.Good.{IsGood}
+use Rattle.package_sets.specs.Consistent.{IsGood}
 use Rattle.package_table.specs.Numbers.{Numbered}
 use Rattle.package_table.specs.Meaning.{numbered_of, number_in}
 use Rattle.package_table.specs.Adds.{AddsNoSymbol}

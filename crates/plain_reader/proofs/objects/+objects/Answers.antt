@@ -3,7 +3,7 @@ use Rattle.lisp_object.specs.Object.{Object}
 use Rattle.lisp_reading.specs.declared.found.Found.TheVariants.{One as one}
 use Rattle.lisp_reading.specs.Plans.{gives}
 use Rattle.lisp_reading.specs.Reading.{attempt}
-use Rattle.plain_reader.specs.Coming.{ComesTo}
+use Rattle.plain_reader.specs.Coming.{ReadsOnAs}
 use Rattle.plain_reader.specs.Plain.{setting, Puts, TakesList, Gathers, items_from, AllAreThere, IfStill}
 use Rattle.plain_reader.proofs.Coming.{here, onward}
 use Rattle.plain_reader.proofs.Fronts.{front}
@@ -77,7 +77,7 @@ put_list-returns-in_ok-push-in-Some-clause-puts t c = record {
   items = c.in_ok-push-in-Some.ensures;
   takes = λ functions.
       let setting = setting c.args.with.now functions in
-      subst (λ (x : Object). ComesTo setting (attempt setting c.args.room) (40 ∷ c.args.text.now) (gives (one false x)) c.in-Some.gathered.rest.now) (sym c.in_ok-list-in-Some.ensures)
+      subst (λ (x : Object). ReadsOnAs setting (attempt setting c.args.room) (40 ∷ c.args.text.now) (gives (one false x)) c.in-Some.gathered.rest.now) (sym c.in_ok-list-in-Some.ensures)
       (subst (λ o. IfSome o (λ g. TakesList c.args.with.now c.args.room c.args.text.now g.items g.rest.now)) c.in-Some.is c.in_ok-list.ensures.takes functions);
 }
 

@@ -2,7 +2,7 @@ use Rattle.std.proofs.Common.{true, take, sym, subst, arith, IfSome}
 use Rattle.lisp_reading.specs.declared.found.Found.TheVariants.{One as one}
 use Rattle.lisp_reading.specs.Plans.{gives}
 use Rattle.lisp_reading.specs.Reading.{attempt}
-use Rattle.plain_reader.specs.Coming.{ComesTo}
+use Rattle.plain_reader.specs.Coming.{ReadsOnAs}
 use Rattle.plain_reader.specs.Plain.{setting, AreThere, IfStill}
 use Rattle.plain_reader.specs.Tokens.{IsToken}
 use Rattle.plain_reader.proofs.Fronts.{rest_is}
@@ -23,7 +23,7 @@ returns-in_ok-push-in-Some-2-clause-puts c = λ room.
       items = c.in_ok-push-in-Some-2.ensures;
       takes = λ functions.
           let setting = setting c.args.with.now functions in
-          subst (λ rest. ComesTo setting (attempt setting room) text (gives (one true c.in-Some-2.object)) rest) (sym (rest_is count text))
+          subst (λ rest. ReadsOnAs setting (attempt setting room) text (gives (one true c.in-Some-2.object)) rest) (sym (rest_is count text))
           (token_taken setting room count text c.in-Some-2.object c.in-Some.ensures.run (omega arith) c.in-Some.ensures.within c.if-count-with.false
           (subst (λ o. IfSome o (IsToken c.args.with.now (take count text))) c.in-Some-2.is c.in_ok-meaning.ensures.token));
     }

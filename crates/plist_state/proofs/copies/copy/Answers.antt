@@ -1,4 +1,4 @@
-use Rattle.plist_state.specs.Shown.{readtables_of}
+use Rattle.plist_state.specs.Views.{readtables_of}
 use Rattle.std.proofs.Common.{◌≡◌, true, List, IsTrue, is_some, sym, ap, subst, ◌∙◌}
 use Rattle.std.specs.Global.{Vec}
 use Rattle.std.specs.FinMap as finite

@@ -2,7 +2,7 @@ use Rattle.std.proofs.Common.{length, sym, ap, ◌∙◌}
 use Rattle.std.proofs.lemmas.List.{length-map}
 use Rattle.std.specs.FinMap as finite
 use Rattle.package_table.proofs.Seen.{entries-as_map}
-use Rattle.plist_state.specs.Shown.{readtables_of}
+use Rattle.plist_state.specs.Views.{readtables_of}
 use Rattle.plist_state.proofs.copies.count.Goals as goal
 
 pub returns : goal.returns

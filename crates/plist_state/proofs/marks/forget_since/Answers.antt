@@ -1,6 +1,6 @@
 use Rattle.std.proofs.Common.{sym, subst, ◌∙◌}
 use Rattle.package_table.proofs.Names.{same_some}
-use Rattle.plist_state.specs.Shown.{NumberedRest}
+use Rattle.plist_state.specs.Views.{NumberedRest}
 use Rattle.plist_state.specs.Sizes.{AreSizes}
 use Rattle.plist_state.proofs.Sized.{no_sizes}
 use Rattle.plist_state.proofs.marks.forget_since.Goals as goal

@@ -4,7 +4,7 @@ use Rattle.property_rows.specs.declared.property.NumberedProperty.{NumberedPrope
 use Rattle.plist_state.specs.declared.note.PropertyChange.{PropertyChange}
 use Rattle.plist_state.specs.declared.note.PropertyChange.TheVariants.{Removed}
 use Rattle.plist_state.specs.Journal.{marks_of}
-use Rattle.plist_state.specs.Overwritten.{LeadsBackAs}
+use Rattle.plist_state.specs.OverwrittenValues.{LeadsBackAs}
 use Rattle.plist_state.proofs.Unnoted.{removed_noted}
 use Rattle.plist_state.proofs.overwritten.as_noted.Goals as goal
 

@@ -1,6 +1,6 @@
 use Rattle.std.proofs.Common.{◌≡◌, None, List, length, slice_range, subst, arith}
 use Rattle.plist_state.specs.declared.note.Note.{Note}
-use Rattle.plist_state.specs.Overwritten.{before_notes}
+use Rattle.plist_state.specs.OverwrittenValues.{before_notes}
 use Rattle.plist_state.proofs.Unnoted.{overwritten_since}
 use Rattle.plist_state.proofs.overwritten.is_overwritten.Goals as goal
 

@@ -1,5 +1,5 @@
 use Rattle.std.proofs.Common.{◌-◌, sym, ap, ◌∙◌, arith}
-use Rattle.plist_state.specs.Overwritten.{before_note}
+use Rattle.plist_state.specs.OverwrittenValues.{before_note}
 use Rattle.plist_state.proofs.Unnoted.{passed, earlier_notes}
 use Rattle.plist_state.proofs.overwritten.overwrites.Goals as goal
 

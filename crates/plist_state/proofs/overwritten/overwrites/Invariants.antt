@@ -1,5 +1,5 @@
 use Rattle.std.proofs.Common.{◌≡◌, ◌≤◌, Some, length, drop}
-use Rattle.plist_state.specs.Overwritten.{before_notes}
+use Rattle.plist_state.specs.OverwrittenValues.{before_notes}
 use Rattle.plist_state.proofs.overwritten.overwrites.Given as goal
 
 -- where the property was before the notes that were looked at

@@ -1,7 +1,7 @@
 use Rattle.std.proofs.Common.{◌<◌, ◌≤◌, [], unwrap_or, refl, sym, ap, subst, ◌∙◌, arith, Some}
 use Rattle.std.specs.Vec.{vec_capacity}
 use Rattle.lisp_object.specs.Object.{nil}
-use Rattle.plist_state.specs.Properties.{value_by}
+use Rattle.plist_state.specs.Properties.{value_beside}
 use Rattle.plist_state.specs.Lists.{NumberedPlist, same_number}
 use Rattle.plist_state.specs.Popped.{with_popped_by}
 use Rattle.plist_state.specs.Undoing.{list_before, element_count}
@@ -11,17 +11,17 @@ use Rattle.plist_state.proofs.pops.pop.Goals as goal
 
 pub unreachable-requires : goal.unreachable-requires
 unreachable-requires c =
-    let few : 1 < element_count (unwrap_or (value_by same_number [] c.args.indicator) nil) =
-    subst (λ (ps : NumberedPlist). 1 < element_count (unwrap_or (value_by same_number ps c.args.indicator) nil)) (none_lent c.args.rows.now.items c.args.number c.in_default.ensures.item) c.requires.more in
+    let few : 1 < element_count (unwrap_or (value_beside same_number [] c.args.indicator) nil) =
+    subst (λ (ps : NumberedPlist). 1 < element_count (unwrap_or (value_beside same_number ps c.args.indicator) nil)) (none_lent c.args.rows.now.items c.args.number c.in_default.ensures.item) c.requires.more in
     absurd (omega (arith, few))
 
 pub write_rest-requires-clause-more : goal.write_rest-requires-clause-more
 write_rest-requires-clause-more c =
-    subst (λ (ps : NumberedPlist). 1 < element_count (unwrap_or (value_by same_number ps c.args.indicator) nil)) (lent_shown c.args.rows.now.items c.args.number c.in-Some.row c.in-Some.ensures.item) c.requires.more
+    subst (λ (ps : NumberedPlist). 1 < element_count (unwrap_or (value_beside same_number ps c.args.indicator) nil)) (lent_shown c.args.rows.now.items c.args.number c.in-Some.row c.in-Some.ensures.item) c.requires.more
 
 pub write_rest-requires-clause-space : goal.write_rest-requires-clause-space
 write_rest-requires-clause-space c =
-    subst (λ (ps : NumberedPlist). element_count (unwrap_or (value_by same_number ps c.args.indicator) nil) ≤ vec_capacity c.args.space) (lent_shown c.args.rows.now.items c.args.number c.in-Some.row c.in-Some.ensures.item) c.requires.space
+    subst (λ (ps : NumberedPlist). element_count (unwrap_or (value_beside same_number ps c.args.indicator) nil) ≤ vec_capacity c.args.space) (lent_shown c.args.rows.now.items c.args.number c.in-Some.row c.in-Some.ensures.item) c.requires.space
 
 pub write_rest-requires-clause-indexed : goal.write_rest-requires-clause-indexed
 write_rest-requires-clause-indexed c = c.requires.indexed c.args.number c.in-Some.row.now (sym (lent_mut c.args.rows.now.items c.args.number (Some c.in-Some.row) c.in-Some.ensures.item))

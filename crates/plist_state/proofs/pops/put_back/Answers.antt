@@ -5,9 +5,9 @@ use Rattle.lisp_object.specs.declared.datum.Datum.TheVariants.{Integer}
 use Rattle.lisp_object.specs.Datum.{object_of, is_proper}
 use Rattle.property_rows.specs.declared.property.NumberedProperty.{NumberedProperty}
 use Rattle.property_rows.specs.Slots.{no_property, with_value}
-use Rattle.plist_state.specs.Shown.{numbered_property, plist_of}
+use Rattle.plist_state.specs.Views.{numbered_property, plist_of}
 use Rattle.plist_state.specs.Undoing.{with_items}
-use Rattle.plist_state.specs.Indexed.{IsIndexedIn}
+use Rattle.plist_state.specs.RowIndexes.{IsIndexedIn}
 use Rattle.plist_state.proofs.Indices.{item_at, item_is, put_back, shown-changed, with_changed_at-past}
 use Rattle.plist_state.proofs.Noted.{indexed_set}
 use Rattle.plist_state.proofs.pops.put_back.Goals as goal

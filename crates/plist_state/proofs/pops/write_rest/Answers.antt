@@ -7,9 +7,9 @@ use Rattle.lisp_object.specs.Object.{Object, nil}
 use Rattle.lisp_object.specs.Datum.{object_of, is_proper}
 use Rattle.property_rows.specs.declared.property.NumberedProperty.{NumberedProperty}
 use Rattle.property_rows.specs.Slots.{no_property, with_value}
-use Rattle.plist_state.specs.Shown.{numbered_property}
+use Rattle.plist_state.specs.Views.{numbered_property}
 use Rattle.plist_state.specs.Undoing.{without_first, element_count, with_changed_at, with_items}
-use Rattle.plist_state.specs.Indexed.{IsIndexedIn}
+use Rattle.plist_state.specs.RowIndexes.{IsIndexedIn}
 use Rattle.plist_state.proofs.Indices.{item_at, item_is, put_back, first_at, absent, stands_at, popped_at, changed_back}
 use Rattle.plist_state.proofs.Noted.{indexed_set}
 use Rattle.plist_state.proofs.pops.write_rest.Goals as goal

@@ -3,7 +3,7 @@ use Rattle.std.specs.Option.{option_map, option_and_then}
 use Rattle.std.specs.FinMap as finite
 use Rattle.package_table.specs.Numbers.{numbered}
 use Rattle.plist_state.specs.Lists.{named_plist}
-use Rattle.plist_state.specs.Shown.{lists_of}
+use Rattle.plist_state.specs.Views.{lists_of}
 use Rattle.plist_state.proofs.ListRows.{has_counted}
 use Rattle.plist_state.proofs.Named.{some_named}
 use Rattle.plist_state.proofs.readers.has_properties.Goals as goal

@@ -5,7 +5,7 @@ use Rattle.package_table.specs.Numbers.{numbered}
 use Rattle.package_table.specs.Readers.{own_names}
 use Rattle.plist_state.specs.Properties.{Symbol}
 use Rattle.plist_state.specs.Lists.{property_list_of}
-use Rattle.plist_state.specs.Shown.{lists_of}
+use Rattle.plist_state.specs.Views.{lists_of}
 use Rattle.plist_state.proofs.Listed.{lists_keys}
 use Rattle.plist_state.proofs.readers.owners.Goals as goal
 

@@ -3,7 +3,7 @@ use Rattle.std.specs.List.{flat_map}
 use Rattle.package_table.specs.Numbers.{numbered}
 use Rattle.package_table.specs.Readers.{own_names}
 use Rattle.plist_state.specs.Lists.{symbols, property_list_of}
-use Rattle.plist_state.specs.Shown.{lists_in}
+use Rattle.plist_state.specs.Views.{lists_in}
 use Rattle.plist_state.proofs.readers.owners.Given as goal
 
 -- the symbols so far, and those to come

@@ -3,7 +3,7 @@ use Rattle.package_table.specs.Table.{Name}
 use Rattle.package_table.specs.Numbers.{numbered}
 use Rattle.plist_state.specs.Properties.{Symbol}
 use Rattle.plist_state.specs.Lists.{property_list_of}
-use Rattle.plist_state.specs.Shown.{lists_of}
+use Rattle.plist_state.specs.Views.{lists_of}
 use Rattle.plist_state.proofs.readers.push_owners.Goals as goal
 
 pub loop-name-init : goal.loop-name-init

@@ -2,7 +2,7 @@ use Rattle.std.proofs.Common.{◌≡◌, ◌++◌, map, filter, is_some}
 use Rattle.package_table.specs.Numbers.{numbered}
 use Rattle.package_table.specs.Readers.{own_names}
 use Rattle.plist_state.specs.Lists.{property_list_of}
-use Rattle.plist_state.specs.Shown.{lists_in}
+use Rattle.plist_state.specs.Views.{lists_in}
 use Rattle.plist_state.proofs.readers.push_owners.Given as goal
 
 -- the symbols so far, and those to come

@@ -1,6 +1,6 @@
 use Rattle.std.proofs.Common.{◌≡◌, ◌+◌, ◌-◌, ◌/◌, ◌<◌, ℕ, length, sym, ap, ◌∙◌, arith}
 use Rattle.std.proofs.lemmas.List.{length-map}
-use Rattle.plist_state.specs.Indexed.{order_of, orders, nth}
+use Rattle.plist_state.specs.RowIndexes.{order_of, orders, nth}
 use Rattle.plist_state.proofs.Indexing.{nth_is}
 use Rattle.plist_state.proofs.row_index.by_order.Goals as goal
 

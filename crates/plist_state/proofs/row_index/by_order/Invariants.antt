@@ -1,5 +1,5 @@
 use Rattle.std.proofs.Common.{◌<◌, ◌≤◌, ◌-◌, ℕ, length}
-use Rattle.plist_state.specs.Indexed.{orders, nth}
+use Rattle.plist_state.specs.RowIndexes.{orders, nth}
 use Rattle.plist_state.proofs.row_index.by_order.Given as goal
 
 -- the order is neither before `first` nor from `end` on

@@ -1,6 +1,6 @@
 use Rattle.std.proofs.Common.{◌≡◌, ◌<◌, ◌≤◌, length, sym, subst, ◌∙◌, arith}
 use Rattle.std.proofs.lemmas.List.{length-map}
-use Rattle.plist_state.specs.Indexed.{order_of, orders, nth, IsIndexed}
+use Rattle.plist_state.specs.RowIndexes.{order_of, orders, nth, IsIndexed}
 use Rattle.plist_state.proofs.Placing.{inserted}
 use Rattle.plist_state.proofs.Indexing.{nth_read, IsIndexed-next, below_next, passed}
 use Rattle.plist_state.proofs.row_index.index_of.Goals as goal

@@ -1,5 +1,5 @@
 use Rattle.std.proofs.Common.{◌<◌, ◌-◌, ℕ, take}
-use Rattle.plist_state.specs.Indexed.{orders, nth, IsIndexed}
+use Rattle.plist_state.specs.RowIndexes.{orders, nth, IsIndexed}
 use Rattle.plist_state.proofs.row_index.index_of.Given as goal
 
 -- the index has the properties passed, whose orders are below the next

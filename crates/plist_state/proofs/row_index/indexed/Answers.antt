@@ -1,5 +1,5 @@
 use Rattle.std.proofs.Common.{◌≡◌, ℕ, refl, sym, ap, ◌∙◌}
-use Rattle.plist_state.specs.Indexed.{orders, nth}
+use Rattle.plist_state.specs.RowIndexes.{orders, nth}
 use Rattle.plist_state.proofs.Indexing.{nth_is, unknown, unmatched, mismatched, matched}
 use Rattle.plist_state.proofs.row_index.indexed.Goals as goal
 

@@ -1,6 +1,6 @@
 use Rattle.std.proofs.Common.{Some, None, length, sym, ap, ◌∙◌}
 use Rattle.std.proofs.lemmas.List.{length-map}
-use Rattle.plist_state.specs.Shown.{numbered_property}
+use Rattle.plist_state.specs.Views.{numbered_property}
 use Rattle.plist_state.proofs.ListRows.{lent, row_shown, none_shown}
 use Rattle.plist_state.proofs.rows.count.Goals as goal
 

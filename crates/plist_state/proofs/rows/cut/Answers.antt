@@ -2,7 +2,7 @@ use Rattle.std.proofs.Common.{◌≡◌, suc, true, is_some, map, sym, ap, ◌�
 use Rattle.std.proofs.lemmas.List.Elements.{All-append, All-take, All-drop, All-same}
 use Rattle.lisp_object.specs.Datum.{is_proper}
 use Rattle.property_rows.specs.declared.property.NumberedProperty.{NumberedProperty}
-use Rattle.plist_state.specs.Shown.{numbered_property}
+use Rattle.plist_state.specs.Views.{numbered_property}
 use Rattle.plist_state.specs.Undoing.{with_inserted}
 use Rattle.plist_state.proofs.Indices.{IsFirstAt, IsAbsent, first_at, absent, inserted-removed}
 use Rattle.plist_state.proofs.Noted.{indexed_removed}

@@ -1,9 +1,9 @@
 use Rattle.std.proofs.Common.{sym, ap, ◌∙◌, refl, Some}
 use Rattle.std.proofs.lemmas.Bool.{false≢true}
 use Rattle.lisp_object.specs.Datum.{object_of}
-use Rattle.plist_state.specs.Properties.{value_by}
+use Rattle.plist_state.specs.Properties.{value_beside}
 use Rattle.plist_state.specs.Lists.{same_number}
-use Rattle.plist_state.specs.Shown.{plist_of}
+use Rattle.plist_state.specs.Views.{plist_of}
 use Rattle.plist_state.specs.Undoing.{list_before}
 use Rattle.plist_state.specs.Pushed.{holds_pair, with_pushed_by}
 use Rattle.plist_state.proofs.ListRows.{lent_mut, lent_shown, none_lent, put_lent, written, lists_made, list_now, written_same}
@@ -13,11 +13,11 @@ use Rattle.plist_state.proofs.rows.push.Goals as goal
 pub unreachable-requires : goal.unreachable-requires
 unreachable-requires c =
     absurd (false≢true
-    (ap (λ ps. holds_pair (value_by same_number ps c.args.indicator)) (sym (none_lent c.args.rows.now.items c.args.number c.in_default.ensures.item)) ∙ c.requires.list))
+    (ap (λ ps. holds_pair (value_beside same_number ps c.args.indicator)) (sym (none_lent c.args.rows.now.items c.args.number c.in_default.ensures.item)) ∙ c.requires.list))
 
 pub write_first-requires-clause-list : goal.write_first-requires-clause-list
 write_first-requires-clause-list c =
-    ap (λ ps. holds_pair (value_by same_number ps c.args.indicator)) (sym (lent_shown c.args.rows.now.items c.args.number c.in-Some.row c.in-Some.ensures.item))
+    ap (λ ps. holds_pair (value_beside same_number ps c.args.indicator)) (sym (lent_shown c.args.rows.now.items c.args.number c.in-Some.row c.in-Some.ensures.item))
     ∙ c.requires.list
 
 pub returns-in-Ok-clause-ok : goal.returns-in-Ok-clause-ok

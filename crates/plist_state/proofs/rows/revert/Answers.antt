@@ -8,11 +8,11 @@ use Rattle.lisp_object.specs.Datum.{object_of, is_proper}
 use Rattle.property_rows.specs.declared.property.NumberedProperty.{NumberedProperty}
 use Rattle.property_rows.specs.Slots.{no_property, with_value}
 use Rattle.property_rows.specs.Rows.{room}
-use Rattle.plist_state.specs.Shown.{numbered_property, plist_of}
+use Rattle.plist_state.specs.Views.{numbered_property, plist_of}
 use Rattle.plist_state.specs.Undoing.{list_before, without_first}
 use Rattle.plist_state.proofs.Indices.{item_at, item_is, put_back, shown-set, with_value_at-past, shown-changed, with_changed_at-past, shown-insert, length-inserted}
-use Rattle.plist_state.specs.Kept.{IsProperChange}
-use Rattle.plist_state.specs.Indexed.{IsIndexedIn}
+use Rattle.plist_state.specs.KeptRows.{IsProperChange}
+use Rattle.plist_state.specs.RowIndexes.{IsIndexedIn}
 use Rattle.plist_state.proofs.Noted.{indexed_set, indexed_taken}
 use Rattle.plist_state.proofs.rows.revert.Goals as goal
 

@@ -2,8 +2,8 @@ use Rattle.std.proofs.Common.{◌≡◌, Option, None, Some, ℕ, sym}
 use Rattle.std.specs.Option.{option_copied}
 use Rattle.std.specs.Borrow.{Bor}
 use Rattle.property_rows.specs.Rows.{PropertyRow}
-use Rattle.plist_state.specs.Shown.{Rows, row_at, items_in}
-use Rattle.plist_state.specs.Indexed.{Indexes, IsIndexedIn, AreIndexed}
+use Rattle.plist_state.specs.Views.{Rows, row_at, items_in}
+use Rattle.plist_state.specs.RowIndexes.{Indexes, IsIndexedIn, AreIndexed}
 use Rattle.plist_state.proofs.ListRows.{lent, list_found, proper_found}
 use Rattle.plist_state.proofs.Indexing.{IsIndexed-nil}
 use Rattle.plist_state.proofs.rows.row.Goals as goal

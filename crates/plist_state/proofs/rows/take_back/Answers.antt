@@ -1,7 +1,7 @@
 use Rattle.std.proofs.Common.{◌≡◌, ◌≤◌, [], ◌∷◌, length, refl, sym, ap, ◌∙◌, arith, Some, None}
 use Rattle.property_rows.specs.Rows.{room}
-use Rattle.plist_state.specs.Lists.{NumberedPlist, row_of}
-use Rattle.plist_state.specs.Shown.{plist_of, lists_in, room_at}
+use Rattle.plist_state.specs.Lists.{NumberedPlist, plist_of_number}
+use Rattle.plist_state.specs.Views.{plist_of, lists_in, room_at}
 use Rattle.plist_state.specs.Undoing.{list_before}
 use Rattle.plist_state.proofs.ListRows.{lent_mut, lent_shown, none_lent, put_lent, written, lists_made, room_shown, no_room, with_row_same, some_in}
 use Rattle.plist_state.proofs.Placing.{are_indexed}
@@ -11,10 +11,10 @@ pub revert-requires-clause-room : goal.revert-requires-clause-room
 revert-requires-clause-room c =
     let rows = c.args.rows.now.items in
     let x = c.args.number in
-    let list : length (list_before c.args.change (row_of (lists_in rows) x)) ≡ length (list_before c.args.change (plist_of c.in-Some.row.now)) =
+    let list : length (list_before c.args.change (plist_of_number (lists_in rows) x)) ≡ length (list_before c.args.change (plist_of c.in-Some.row.now)) =
     ap (λ ps. length (list_before c.args.change ps)) (lent_shown rows x c.in-Some.row c.in-Some.ensures.item) in
     let same : room_at rows x ≡ room c.in-Some.row.now = room_shown rows x c.in-Some.row.now (lent_mut rows x (Some c.in-Some.row) c.in-Some.ensures.item) in
-    let fits : length (list_before c.args.change (row_of (lists_in rows) x)) ≤ room_at rows x = c.requires.room in
+    let fits : length (list_before c.args.change (plist_of_number (lists_in rows) x)) ≤ room_at rows x = c.requires.room in
     omega (arith, list, same, fits)
 
 pub returns-in-Some-clause-after : goal.returns-in-Some-clause-after
@@ -30,10 +30,10 @@ pub returns-in_default-clause-after : goal.returns-in_default-clause-after
 returns-in_default-clause-after c =
     let rows = c.args.rows.now.items in
     let x = c.args.number in
-    let none : row_of (lists_in rows) x ≡ [] = none_lent rows x c.in_default.ensures.item in
+    let none : plist_of_number (lists_in rows) x ≡ [] = none_lent rows x c.in_default.ensures.item in
     let none_at : room_at rows x ≡ 0 = no_room rows x (lent_mut rows x None c.in_default.ensures.item) in
-    let fits : length (list_before c.args.change (row_of (lists_in rows) x)) ≤ room_at rows x = c.requires.room in
-    let empty : list_before c.args.change (row_of (lists_in rows) x) ≡ [] = no_items _ (omega (arith, none_at, fits)) in
+    let fits : length (list_before c.args.change (plist_of_number (lists_in rows) x)) ≤ room_at rows x = c.requires.room in
+    let empty : list_before c.args.change (plist_of_number (lists_in rows) x) ≡ [] = no_items _ (omega (arith, none_at, fits)) in
     sym (with_row_same (lists_in rows) x _ (some_in rows) (empty ∙ sym none))
   where
     no_items : (ps : NumberedPlist) → length ps ≤ 0 → ps ≡ []

@@ -3,9 +3,9 @@ use Rattle.std.specs.Prelude.{All}
 use Rattle.lisp_object.specs.Datum.{is_proper}
 use Rattle.property_rows.specs.declared.property.NumberedProperty.{NumberedProperty}
 use Rattle.property_rows.specs.Rows.{room}
-use Rattle.plist_state.specs.Shown.{numbered_property, plist_of}
-use Rattle.plist_state.specs.Kept.{IsProperRow}
-use Rattle.plist_state.specs.Indexed.{IsIndexedIn}
+use Rattle.plist_state.specs.Views.{numbered_property, plist_of}
+use Rattle.plist_state.specs.KeptRows.{IsProperRow}
+use Rattle.plist_state.specs.RowIndexes.{IsIndexedIn}
 use Rattle.plist_state.proofs.ListRows.{lent_mut, lent_shown, put_lent, written, written_same, wider_same}
 use Rattle.plist_state.proofs.Placing.{are_indexed}
 use Rattle.plist_state.proofs.rows.tidy.Goals as goal

@@ -4,10 +4,10 @@ use Rattle.std.proofs.lemmas.List.Elements.{All-set, All-get_or}
 use Rattle.lisp_object.specs.Datum.{object_of, is_proper}
 use Rattle.property_rows.specs.declared.property.NumberedProperty.{NumberedProperty}
 use Rattle.property_rows.specs.Slots.{no_property, with_value}
-use Rattle.plist_state.specs.Shown.{numbered_property, plist_of}
+use Rattle.plist_state.specs.Views.{numbered_property, plist_of}
 use Rattle.plist_state.specs.Undoing.{with_value_at}
 use Rattle.plist_state.proofs.Indices.{item_at, item_is, first_at, absent, shown-set, with_value_at-same, with_value_at-twice}
-use Rattle.plist_state.specs.Indexed.{IsIndexedIn}
+use Rattle.plist_state.specs.RowIndexes.{IsIndexedIn}
 use Rattle.plist_state.proofs.Noted.{indexed_set}
 use Rattle.plist_state.proofs.rows.write.Goals as goal
 

@@ -4,7 +4,7 @@ use Rattle.std.proofs.lemmas.Bool.{false≢true}
 use Rattle.lisp_object.specs.Datum.{object_of}
 use Rattle.plist_state.specs.Properties.{with_value_by}
 use Rattle.plist_state.specs.Lists.{same_number}
-use Rattle.plist_state.specs.Shown.{numbered_property, plist_of}
+use Rattle.plist_state.specs.Views.{numbered_property, plist_of}
 use Rattle.plist_state.specs.Undoing.{list_before}
 use Rattle.plist_state.proofs.ListRows.{lent_mut, lent_shown, put_lent, written, lists_made, list_now, written_same, proper_shown}
 use Rattle.plist_state.proofs.Placing.{are_indexed}

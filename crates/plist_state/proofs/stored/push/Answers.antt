@@ -1,4 +1,4 @@
-use Rattle.plist_state.specs.Shown.{rest_of}
+use Rattle.plist_state.specs.Views.{rest_of}
 use Rattle.plist_state.specs.Journal.{marks_of}
 use Rattle.plist_state.proofs.Notes.{property_noted}
 use Rattle.plist_state.proofs.stored.push.Goals as goal

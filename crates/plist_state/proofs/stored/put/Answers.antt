@@ -1,7 +1,7 @@
 use Rattle.std.proofs.Common.{List, subst}
 use Rattle.std.specs.Global.{Vec}
 use Rattle.plist_state.specs.declared.note.Note.{Note}
-use Rattle.plist_state.specs.Shown.{rest_of}
+use Rattle.plist_state.specs.Views.{rest_of}
 use Rattle.plist_state.specs.Journal.{marks_of, Continues}
 use Rattle.plist_state.proofs.Notes.{property_noted}
 use Rattle.plist_state.proofs.Unnoted.{property_unnoted}

@@ -2,10 +2,10 @@ use Rattle.std.proofs.Common.{◌≡◌, ℕ, false, is_some, List, rules, ap, s
 use Rattle.std.specs.Global.{Vec}
 use Rattle.plist_state.specs.declared.note.Note.{Note}
 use Rattle.plist_state.specs.Properties.{without_value_by}
-use Rattle.plist_state.specs.Lists.{NumberedLists, same_number, row_of}
-use Rattle.plist_state.specs.Shown.{NumberedRest, Rows, rest_of, lists_in}
+use Rattle.plist_state.specs.Lists.{NumberedLists, same_number, plist_of_number}
+use Rattle.plist_state.specs.Views.{NumberedRest, Rows, rest_of, lists_in}
 use Rattle.plist_state.specs.Journal.{marks_of, Continues}
-use Rattle.plist_state.specs.Overwritten.{LeadsBackAs}
+use Rattle.plist_state.specs.OverwrittenValues.{LeadsBackAs}
 use Rattle.plist_state.proofs.Unnoted.{property_noted_as}
 use Rattle.plist_state.proofs.Lists.{without-absent, none_shown_as}
 use Rattle.plist_state.proofs.ListRows.{with_row_same, some_in, wider_both}
@@ -18,8 +18,8 @@ returns-then-is_none-clause-ok c =
     let i : ℕ = c.args.indicator in
     let none : is_some c.value.result ≡ false = search rules in
     ap (λ (m : NumberedLists). record (rest_of c.args.stored.now) { properties = m })
-    (sym (with_row_same (lists_in rows) x (without_value_by same_number (row_of (lists_in rows) x) i) (some_in rows)
-    (without-absent same_number (row_of (lists_in rows) x) i (none_shown_as _ c.value.result _ c.value.ensures.value none))))
+    (sym (with_row_same (lists_in rows) x (without_value_by same_number (plist_of_number (lists_in rows) x) i) (some_in rows)
+    (without-absent same_number (plist_of_number (lists_in rows) x) i (none_shown_as _ c.value.result _ c.value.ensures.value none))))
 
 pub returns-clause-marked : goal.returns-clause-marked
 returns-clause-marked c =

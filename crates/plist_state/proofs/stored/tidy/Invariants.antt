@@ -1,7 +1,7 @@
 use Rattle.std.proofs.Common.{◌≡◌}
-use Rattle.plist_state.specs.Shown.{rest_of}
-use Rattle.plist_state.specs.Indexed.{AreIndexed}
-use Rattle.plist_state.specs.Kept.{IsWider}
+use Rattle.plist_state.specs.Views.{rest_of}
+use Rattle.plist_state.specs.RowIndexes.{AreIndexed}
+use Rattle.plist_state.specs.KeptRows.{IsWider}
 use Rattle.plist_state.proofs.stored.tidy.Given as goal
 
 -- the same properties, in rows with as much memory

@@ -1,9 +1,9 @@
 use Rattle.std.proofs.Common.{◌≡◌, sym, ap, subst, ◌∙◌}
 use Rattle.plist_state.specs.declared.stored.Stored.{Stored}
 use Rattle.plist_state.specs.Lists.{NumberedLists}
-use Rattle.plist_state.specs.Shown.{rest_of}
-use Rattle.plist_state.specs.Indexed.{AreIndexed}
-use Rattle.plist_state.specs.Kept.{IsWider}
+use Rattle.plist_state.specs.Views.{rest_of}
+use Rattle.plist_state.specs.RowIndexes.{AreIndexed}
+use Rattle.plist_state.specs.KeptRows.{IsWider}
 use Rattle.plist_state.proofs.ListRows.{wider_both}
 use Rattle.plist_state.proofs.stored.tidy_noted.Goals.{in-Some, in_default}
 use Rattle.plist_state.proofs.stored.tidy_noted.Goals as goal

@@ -1,7 +1,7 @@
 use Rattle.std.proofs.Common.{Ok, sym, ap}
 use Rattle.readtable_core.specs.Tables.{Table}
-use Rattle.readtable_core.specs.Changes.{with_entry, dispatching_entry}
-use Rattle.plist_state.specs.Shown.{readtables_of}
+use Rattle.readtable_core.specs.Changes.{with_character_entry, dispatching_entry}
+use Rattle.plist_state.specs.Views.{readtables_of}
 use Rattle.plist_state.proofs.ByName.{written_there, changed_there, same_there, change_ok, tables_same, entry_noted}
 use Rattle.plist_state.specs.Journal.{marks_of}
 use Rattle.plist_state.proofs.tables.make_dispatch.Goals as goal
@@ -11,7 +11,7 @@ unreachable-requires c = written_there c.args.tables.now.entries c.args.name.now
 
 pub returns-clause-gives : goal.returns-clause-gives
 returns-clause-gives c =
-    changed_there c.args.tables.now.entries _ c.args.name.now c.in-Some.table.now c.make_dispatch.new.self (λ (t : Table). Ok (with_entry t c.args.c (dispatching_entry c.args.non_terminating)))
+    changed_there c.args.tables.now.entries _ c.args.name.now c.in-Some.table.now c.make_dispatch.new.self (λ (t : Table). Ok (with_character_entry t c.args.c (dispatching_entry c.args.non_terminating)))
     c.in-Some.ensures.value c.in_ok-check_writable.ensures (c.get_mut.follows.holds c.make_dispatch.new.self).0 (ap Ok (sym c.in_default-make_dispatch.ensures))
 
 pub returns-in-Err-clause-unchanged : goal.returns-in-Err-clause-unchanged
@@ -20,7 +20,7 @@ returns-in-Err-clause-unchanged c =
 
 pub returns-in-Err-clause-gives : goal.returns-in-Err-clause-gives
 returns-in-Err-clause-gives c =
-    change_ok (readtables_of c.args.tables.now) c.args.name.now (λ (t : Table). with_entry t c.args.c (dispatching_entry c.args.non_terminating)) c.in_ok-check_writable.ensures
+    change_ok (readtables_of c.args.tables.now) c.args.name.now (λ (t : Table). with_character_entry t c.args.c (dispatching_entry c.args.non_terminating)) c.in_ok-check_writable.ensures
 
 pub returns-clause-marked : goal.returns-clause-marked
 returns-clause-marked c =

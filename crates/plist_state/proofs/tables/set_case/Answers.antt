@@ -2,7 +2,7 @@ use Rattle.std.proofs.Common.{◌≡◌, Ok, refl, sym, ap, ◌∙◌}
 use Rattle.readtable_core.specs.Tables.{Table}
 use Rattle.plist_state.specs.declared.note.TableChange.TheVariants.{Letters}
 use Rattle.plist_state.specs.declared.note.Note.TheVariants.{Changed}
-use Rattle.plist_state.specs.Shown.{readtables_of}
+use Rattle.plist_state.specs.Views.{readtables_of}
 use Rattle.plist_state.specs.Undoing.{table_before}
 use Rattle.plist_state.specs.Journal.{marks_of}
 use Rattle.plist_state.proofs.ByName.{written_there, changed_there, change_noted, put_there, got_table}

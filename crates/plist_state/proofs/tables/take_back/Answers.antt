@@ -1,6 +1,6 @@
 use Rattle.std.proofs.Common.{sym, ap, ◌∙◌}
 use Rattle.std.specs.FinMap as finite
-use Rattle.plist_state.specs.Shown.{readtables_of}
+use Rattle.plist_state.specs.Views.{readtables_of}
 use Rattle.plist_state.proofs.ByName.{put_there, before_some, before_none}
 use Rattle.plist_state.proofs.tables.take_back.Goals as goal
 

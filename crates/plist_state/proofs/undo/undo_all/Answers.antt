@@ -1,5 +1,5 @@
 use Rattle.std.proofs.Common.{ap, sym, subst, ◌∙◌}
-use Rattle.plist_state.specs.Shown.{NumberedRest, Rows, rest_of}
+use Rattle.plist_state.specs.Views.{NumberedRest, Rows, rest_of}
 use Rattle.plist_state.specs.Undoing.{undone, all_undone}
 use Rattle.plist_state.specs.Journal.{IsNoted, FitsRows, LeadsBack}
 use Rattle.plist_state.proofs.ListRows.{wider_both}

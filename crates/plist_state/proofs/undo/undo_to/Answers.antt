@@ -2,7 +2,7 @@ use Rattle.std.proofs.Common.{◌≡◌, ◌∷◌, [], ◌+◌, List, length, r
 use Rattle.std.proofs.lemmas.List.{length-append}
 use Rattle.std.specs.Global.{Vec}
 use Rattle.plist_state.specs.declared.note.Note.{Note}
-use Rattle.plist_state.specs.Shown.{NumberedRest, Rows, rest_of}
+use Rattle.plist_state.specs.Views.{NumberedRest, Rows, rest_of}
 use Rattle.plist_state.specs.Undoing.{all_undone}
 use Rattle.plist_state.specs.Journal.{marks_of}
 use Rattle.plist_state.proofs.ListRows.{wider_both}

@@ -1,7 +1,7 @@
 use Rattle.std.proofs.Common.{◌≡◌, ◌<◌, ◌++◌, List, length}
-use Rattle.plist_state.specs.Shown.{NumberedRest, rest_of}
-use Rattle.plist_state.specs.Indexed.{AreIndexed}
-use Rattle.plist_state.specs.Kept.{IsWider}
+use Rattle.plist_state.specs.Views.{NumberedRest, rest_of}
+use Rattle.plist_state.specs.RowIndexes.{AreIndexed}
+use Rattle.plist_state.specs.KeptRows.{IsWider}
 use Rattle.plist_state.specs.Undoing.{rests_at}
 use Rattle.plist_state.specs.Journal.{marks_of, IsJournal}
 use Rattle.plist_state.proofs.undo.undo_to.Given as goal

@@ -4,7 +4,7 @@ use Rattle.lisp_object.specs.Datum.{object_of}
 use Rattle.package_table.specs.Symbols.{symbols}
 use Rattle.lisp_operators.specs.Evaluated.{Answers, done}
 use Rattle.lisp_operators.specs.Evaluation.{Evaluation}
-use Rattle.evaluator.specs.DecidingForms.{if_form, progn_form}
+use Rattle.evaluator.specs.FormObjects.{if_form, progn_form}
 use Rattle.evaluator.specs.Value.{value}
 use Rattle.form_eval.specs.Acceptance.{with_symbols}
 use Rattle.form_eval.specs.PlaceForms.{get_form, setf_form, incf_form, car_form, cdr_form, prog1_form}

@@ -5,7 +5,7 @@ use Rattle.package_table.specs.Lookup.{found, is_used}
 use Rattle.package_table.specs.Readers.{imports}
 use Rattle.package_table.specs.Table.{symbol_count}
 use Rattle.plist_state.specs.Readers.{borrowed_symbols}
-use Rattle.plist_state.specs.Sound.{IsSound}
+use Rattle.plist_state.specs.Sound.{IsSoundWorldState}
 use Rattle.plist_state.specs.State.{WorldState, Worlds}
 use Rattle.program_tests.proofs.forgotten.without_unneeded.Goals as goal
 
@@ -17,7 +17,7 @@ returns g c =
     let sound = c.soundness.ensures.present in
     let is : left ≡ forgotten held s = ap (λ (w : Worlds). w.0) c.in_ok-left.ensures in
     record {
-      sound = subst IsSound (sym is) (c.forgotten_worlds_are_sound.ensures held s sound);
+      sound = subst IsSoundWorldState (sym is) (c.forgotten_worlds_are_sound.ensures held s sound);
       again = ap (forgotten held) is ∙ c.forgetting_again_changes_nothing.ensures held s ∙ sym is;
       count =
           ap (λ (w : WorldState). symbol_count w.packages + c.in_ok-count.count) is

@@ -1,5 +1,5 @@
 use Rattle.std.proofs.Common.{◌≡◌, map, drop}
-use Rattle.refused_part.specs.Near.{first_near}
+use Rattle.refused_part.specs.NearNames.{first_near}
 use Rattle.refused_part.proofs.near.first_near.Given as goal
 
 -- the name is among those that are left

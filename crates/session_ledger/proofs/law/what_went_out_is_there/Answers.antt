@@ -1,5 +1,5 @@
 use Rattle.session_ledger.proofs.Sending.{there_by_then}
-use Rattle.session_ledger.specs.Went.{handings_of}
+use Rattle.session_ledger.specs.OutgoingLines.{handings_of}
 use Rattle.session_ledger.proofs.law.what_went_out_is_there.Goals as goal
 
 pub returns : goal.returns

@@ -3,7 +3,7 @@ use Rattle.sessions.specs.Account.{first_account}
 use Rattle.sessions.specs.Serve.{ServesWanted}
 use Rattle.prevalence_store.specs.calls.Store.{StoreView}
 use Rattle.session_ledger.specs.Ledger.{Agrees, IsAccountOf, account_from}
-use Rattle.session_ledger.specs.Went.{Went}
+use Rattle.session_ledger.specs.OutgoingLines.{Went}
 use Rattle.session_ledger.proofs.Sending.{agrees_first, begins_so, kept_first, known_world, same_name, went_so}
 use Rattle.session_ledger.proofs.ledger.serve_from.Goals as goal
 

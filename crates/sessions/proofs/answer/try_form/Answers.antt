@@ -1,6 +1,6 @@
 use Rattle.std.proofs.Common.{[], Some, IsSome, Ok, Err, refl, subst, sym}
 use Rattle.lisp_object.specs.Datum.{object_of}
-use Rattle.plist_state.specs.Sound.{IsSound}
+use Rattle.plist_state.specs.Sound.{IsSoundWorldState}
 use Rattle.plist_state.specs.State.{WorldState}
 use Rattle.lisp_object.specs.declared.refusal.TheConstants.{OUTPUT}
 use Rattle.prevalence_store.specs.calls.Store.{StoreView}
@@ -25,7 +25,7 @@ take_reply-requires g c =
         may = λ w known.
             let same = c.open_world.ensures.one w known in
             may_evaluate functions w c.args.mode c.args.form.now.read.now c.args.form.now.own.now c.requires.form.proper c.requires.form.sound (c.requires.form.all_there w known)
-            (c.requires.form.begins w known) (subst (λ (v : WorldState). IsSound v) same c.soundness.ensures.present);
+            (c.requires.form.begins w known) (subst (λ (v : WorldState). IsSoundWorldState v) same c.soundness.ensures.present);
       };
     }
 
@@ -41,7 +41,7 @@ hand_on-requires g c =
       heard =
           let same = c.open_world.ensures.one here.0 here.1 in
           let may = may_evaluate functions here.0 c.args.mode read own c.requires.form.proper c.requires.form.sound (c.requires.form.all_there here.0 here.1)
-          (c.requires.form.begins here.0 here.1) (subst (λ (v : WorldState). IsSound v) same c.soundness.ensures.present) in
+          (c.requires.form.begins here.0 here.1) (subst (λ (v : WorldState). IsSoundWorldState v) same c.soundness.ensures.present) in
           subst (λ (a : Answered). MayBeHeard functions c.take_reply.new.store.world a read) (sym r.told)
           (form_heard functions g.D.Disk.state c.args.store.now c.take_reply.new.store here.0 c.args.mode own read r.answer r.takes here.1 may);
       stored = λ kept is.

@@ -13,7 +13,7 @@ use Rattle.sessions.specs.steps.Answer.{BeginsWith, IsFormOf}
 use Rattle.sessions.specs.steps.Standing.{HandsOn, StandsBeforeAll}
 use Rattle.sessions.proofs.Handing.{hands_nothing, none_standing, rest_of_input}
 use Rattle.sessions.specs.steps.Gather.{AnswersGroup}
-use Rattle.sessions.specs.steps.Serve.{Answers, GoesOn, ended_at}
+use Rattle.sessions.specs.steps.Serve.{AnswersPiece, GoesOn, ended_at}
 use Rattle.sessions.proofs.Answering.{answered_within, ended_within, form_answered, nothing_answered}
 use Rattle.sessions.proofs.EndedAt.{at_starts, fault_ended, memory_ended, read_ended, read_from}
 use Rattle.sessions.proofs.Pieces.{begins_here_start, begins_start, form_begins, form_begins_here, form_takes, moves_further, piece_whole_more, text_stays, whole_begins}
@@ -50,7 +50,7 @@ returns-in-Refused-clause-answers g c = λ w known bytes p.
     let f = c.in-Refused in
     let refuses = subst (λ (fed : Fed). Feeds functions w c.args.wanted.mode c.feed.new.pending text fed) f.is (c.in-Ok.ensures.feeds w known bytes p) in
     let place = c.place-place.ensures in
-    subst (λ ended. Answers functions g.D.Disk.state c.args.wanted course course c.args.store.now c.answer_fault.new.store w c.args.wanted.mode (bytes ++ piece) held written c.feed.new.pending (Some ended)) (sym c.at.ensures)
+    subst (λ ended. AnswersPiece functions g.D.Disk.state c.args.wanted course course c.args.store.now c.answer_fault.new.store w c.args.wanted.mode (bytes ++ piece) held written c.feed.new.pending (Some ended)) (sym c.at.ensures)
     (ended_within functions g.D.Disk.state c.args.wanted course course c.args.store.now c.answer_fault.new.store w c.args.wanted.mode held written c.feed.new.pending bytes piece n (ended_at c.place-place.result c.answer_fault.result)
     (fault_ended functions g.D.Disk.state g.met.D.Disk.sound c.args.wanted course course c.args.store.now c.answer_fault.new.store w c.args.wanted.mode text held written c.feed.new.pending f.number known
     refuses.0 c.answer_fault.ensures.same f.start c.place-place.result place.0 place.1 (place.2 ∙ ap (λ k. course.bytes + k) (sym refuses.1)) (refuses.2, refuses.3) c.answer_fault.result c.answer_fault.ensures.answers))

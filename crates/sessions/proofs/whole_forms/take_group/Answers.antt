@@ -1,6 +1,6 @@
 use Rattle.std.proofs.Common.{◌||◌, ap, subst, ◌∙◌}
 use Rattle.std.proofs.lemmas.Result.{IfOk-weaker}
-use Rattle.plist_state.specs.Sound.{IsSound}
+use Rattle.plist_state.specs.Sound.{IsSoundWorldState}
 use Rattle.plist_state.specs.State.{WorldState}
 use Rattle.prevalence_store.proofs.calls.Executing.{known_world}
 use Rattle.sessions.proofs.Pendings.{may_evaluate}
@@ -18,7 +18,7 @@ together-requires-clause-needs g c = λ w known.
     let same = c.open_world.ensures.one w known in
     record {
       may = may_evaluate g.R.Meaning.Meaning.functions w turn.wanted.mode turn.first.now.read turn.first.now.own.items form.proper form.sound (form.all_there w known) (form.begins w known)
-          (subst (λ (v : WorldState). IsSound v) same c.soundness.ensures.present);
+          (subst (λ (v : WorldState). IsSoundWorldState v) same c.soundness.ensures.present);
       some = c.requires.some;
       room = c.requires.room;
       most = c.requires.most;

@@ -2,7 +2,7 @@ use Rattle.std.proofs.Common.{◌≡◌, ◌≢◌, ℕ, List, length, sym, ap, 
 use Rattle.std.specs.Prelude.{All}
 use Rattle.std.specs.Borrow.{Bor}
 use Rattle.std.proofs.lemmas.List.Elements.{All-map}
-use Rattle.package_table.specs.Table.{Name, Table, keyword, IsExternal, IsPresent, IsSound}
+use Rattle.package_table.specs.Table.{Name, Table, keyword, IsExternal, IsPresent, AreSoundPackages}
 use Rattle.package_table.proofs.Frames.{name_cases}
 use Rattle.world_text.specs.Snapshot.{shown_names}
 use Rattle.snapshot_lines.specs.Texts.{unescaped}
@@ -23,7 +23,7 @@ each_shown s p = λ i d within.
     (key, each i d within)
 
 -- all of KEYWORD is external
-all_shown : (u s : Table) (p : Name) → IsSound u → HasSymbols u s p → All (λ n. IsExternal u p n) (shown_names s p) → HasExternals u s p
+all_shown : (u s : Table) (p : Name) → AreSoundPackages u → HasSymbols u s p → All (λ n. IsExternal u p n) (shown_names s p) → HasExternals u s p
 all_shown u s p sound has all = record {
   names = λ n shown.
       elim (name_cases p keyword) [

@@ -2,7 +2,7 @@ use Rattle.std.proofs.Common.{◌≡◌, true, sym, subst, ◌∙◌}
 use Rattle.std.specs.List.{list_all}
 use Rattle.std.proofs.lemmas.Result.{MatchResult-weaker}
 use Rattle.lisp_object.specs.Ascii.{is_ascii}
-use Rattle.package_table.specs.Table.{Name, Table, IsExternal, IsSound}
+use Rattle.package_table.specs.Table.{Name, Table, IsExternal, AreSoundPackages}
 use Rattle.world_text.proofs.Ascii.{ascii_all}
 use Rattle.snapshot_lines.specs.Texts.{unescaped}
 use Rattle.snapshot_text.proofs.Gave.{refused_same}
@@ -10,7 +10,7 @@ use Rattle.snapshot_text.proofs.PartFinds.{external_entry}
 use Rattle.snapshot_text.proofs.PartSteps.{entry_present}
 use Rattle.snapshot_text.proofs.package_parts.export_one.Goals as goal
 
-external_ascii : (s : Table) (p n : Name) → IsSound s → IsExternal s p n → list_all is_ascii n ≡ true
+external_ascii : (s : Table) (p n : Name) → AreSoundPackages s → IsExternal s p n → list_all is_ascii n ≡ true
 external_ascii s p n sound shown =
     let e = external_entry s p n shown in
     ascii_all n (sound.within.symbol_names p n e.0.home (entry_present s p n e.0 e.1)).ascii

@@ -8,14 +8,14 @@ use Rattle.package_table.specs.Growth.{Grows}
 use Rattle.package_table.specs.Readers.{imports}
 use Rattle.package_table.proofs.Frames.{name_cases}
 use Rattle.snapshot_lines.specs.Texts.{unescaped_pair}
-use Rattle.snapshot_text.specs.Phases.{IsImport, HasImport, HasSymbols, IsBegun}
+use Rattle.snapshot_text.specs.Phases.{IsImport, HasImport, HasSymbols, HasItsPackages}
 use Rattle.snapshot_text.proofs.PackageLists.{imports_are, import_among}
 use Rattle.snapshot_text.proofs.PartFinds.{present_package}
 use Rattle.snapshot_text.proofs.ReadRows.{of_mapped}
 use Rattle.snapshot_text.proofs.package_parts.import_each.Goals as goal
 
 -- all symbols are there, where the own ones were and all imports are
-all_there : (t u s : Table) (p : Name) → IsBegun t s → Grows t u → All (HasImport u p) (imports s p) → HasSymbols u s p
+all_there : (t u s : Table) (p : Name) → HasItsPackages t s → Grows t u → All (HasImport u p) (imports s p) → HasSymbols u s p
 all_there t u s p begun grows all = record {
   names = λ n h got.
       elim (name_cases h p) [

@@ -3,7 +3,7 @@ use Rattle.std.specs.Prelude.{Ok}
 use Rattle.package_table.specs.Table.{Name, Table, common_lisp, IsPresent}
 use Rattle.package_table.specs.Changes.{with_present, after_import}
 use Rattle.snapshot_text.specs.Part.{IsPartOf}
-use Rattle.snapshot_text.specs.Phases.{IsBegun}
+use Rattle.snapshot_text.specs.Phases.{HasItsPackages}
 use Rattle.snapshot_text.proofs.PartFinds.{present_package}
 use Rattle.snapshot_text.proofs.PartSteps.{not_locked, import_goes, import_part, import_there}
 use Rattle.snapshot_text.proofs.Gave.{same_ok}
@@ -11,12 +11,12 @@ use Rattle.snapshot_text.proofs.PartMakes.{refused_so}
 use Rattle.snapshot_text.proofs.package_parts.import_symbol.Goals as goal
 
 -- an import of s goes, where the packages are begun
-goes : (t s : Table) (p n h : Name) → IsBegun t s → p ≢ common_lisp → IsPresent s p n h → h ≢ p → after_import t p h n ≡ Ok (with_present t p h n)
+goes : (t s : Table) (p n h : Name) → HasItsPackages t s → p ≢ common_lisp → IsPresent s p n h → h ≢ p → after_import t p h n ≡ Ok (with_present t p h n)
 goes t s p n h begun lisp got other =
     import_goes t s begun.part begun.sound p n h (begun.own p (present_package s p n h got)).there got
     (not_locked p lisp (λ same. other (begun.sound.first.own n h (subst (λ (x : Name). IsPresent s x n h) same got) ∙ sym same)))
 
-imported : (t s u : Table) (p n h : Name) → IsBegun t s → p ≢ common_lisp → IsPresent s p n h → h ≢ p → after_import t p h n ≡ Ok u → IsPartOf u s × IsPresent u p n h
+imported : (t s u : Table) (p n h : Name) → HasItsPackages t s → p ≢ common_lisp → IsPresent s p n h → h ≢ p → after_import t p h n ≡ Ok u → IsPartOf u s × IsPresent u p n h
 imported t s u p n h begun lisp got other e =
     let is = same_ok (with_present t p h n) u (sym (goes t s p n h begun lisp got other) ∙ e) in
     let there = (begun.own p (present_package s p n h got)).there in

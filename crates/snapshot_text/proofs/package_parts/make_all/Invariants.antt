@@ -1,5 +1,5 @@
 use Rattle.std.proofs.Common.{All, take, ◌≡◌}
-use Rattle.package_table.specs.Table.{Table, IsSound}
+use Rattle.package_table.specs.Table.{Table, AreSoundPackages}
 use Rattle.package_table.specs.Growth.{Grows}
 use Rattle.plist_state.specs.Changes.{with_packages}
 use Rattle.snapshot_text.specs.Part.{IsPartOf}
@@ -9,7 +9,7 @@ use Rattle.snapshot_text.proofs.package_parts.make_all.Given as goal
 -- the packages so far are there, with their own symbols
 abbrev pub invariant-loop-row : goal.invariant-loop-row
 invariant-loop-row l = record {
-  made : (s : Table) → IsSound s → IsPartOf l.fn.world.0.packages s → AreRowsOf s l.rows
+  made : (s : Table) → AreSoundPackages s → IsPartOf l.fn.world.0.packages s → AreRowsOf s l.rows
       → IsPartOf l.world.0.packages s × All (HasOwn l.world.0.packages s) (take l.row-index (other_packages s));
   grows : Grows l.fn.world.0.packages l.world.0.packages;
   rest : l.world ≡ (with_packages l.fn.world.0 l.world.0.packages, l.fn.world.1);

@@ -1,17 +1,17 @@
 use Rattle.std.proofs.Common.{◌≡◌, ◌≢◌, Bool, sym, subst, ◌∙◌}
 use Rattle.std.specs.Prelude.{Ok}
-use Rattle.package_table.specs.Table.{Name, Table, common_lisp, Uses, IsSound}
+use Rattle.package_table.specs.Table.{Name, Table, common_lisp, Uses, AreSoundPackages}
 use Rattle.package_table.specs.Changes.{after_use}
 use Rattle.package_table.proofs.KeptSound.{used_is_package}
 use Rattle.snapshot_lines.specs.Texts.{unescaped}
 use Rattle.snapshot_text.specs.Part.{IsPartOf}
-use Rattle.snapshot_text.specs.Phases.{IsBegun}
+use Rattle.snapshot_text.specs.Phases.{HasItsPackages}
 use Rattle.snapshot_text.proofs.Gave.{same_ok}
 use Rattle.snapshot_text.proofs.PartMakes.{refused_so}
 use Rattle.snapshot_text.proofs.PartSteps.{not_locked, after_used, use_goes, use_part, use_there}
 use Rattle.snapshot_text.proofs.package_parts.use_one.Goals as goal
 
-module _ (t s : Table) (p q : Name) (begun : IsBegun t s) (lisp : p ≢ common_lisp) (uses : Uses s p q) (sound : IsSound t) where
+module _ (t s : Table) (p q : Name) (begun : HasItsPackages t s) (lisp : p ≢ common_lisp) (uses : Uses s p q) (sound : AreSoundPackages t) where
   abbrev after : Table
   after = after_used t s begun.part begun.sound p q (begun.own p (used_is_package s p q uses)).there (begun.own q (begun.sound.joined.used p q uses)).there uses sound
 

@@ -1,7 +1,7 @@
 use Rattle.std.proofs.Common.{◌≡◌, ◌<◌, ◌≤◌, ◌-◌, ℕ, List, ◌∷◌, ◌++◌, length, drop}
 use Rattle.plist_state.specs.State.{WorldState}
 use Rattle.plist_state.specs.Readers.{symbols_with_properties}
-use Rattle.plist_state.specs.Sound.{IsSound}
+use Rattle.plist_state.specs.Sound.{IsSoundWorldState}
 use Rattle.snapshot_text.specs.Built.{with_packages_of}
 use Rattle.snapshot_text.specs.Rows.{row_text, text_after}
 use Rattle.snapshot_text.proofs.PropertyLines.{IsAtRow}
@@ -10,7 +10,7 @@ use Rattle.snapshot_text.proofs.property_lines.read_rows.Given as goal
 -- the rows before this one are put
 abbrev pub invariant-rows : goal.invariant-rows
 invariant-rows g l =
-    (s : WorldState) (rest : List ℕ) → IsSound s → length l.source.bytes.now ≤ 4294967295 → 0 < length (symbols_with_properties s)
+    (s : WorldState) (rest : List ℕ) → IsSoundWorldState s → length l.source.bytes.now ≤ 4294967295 → 0 < length (symbols_with_properties s)
     → l.fn.world.0 ≡ with_packages_of s → drop l.fn.at l.source.bytes.now ≡ row_text s 0 ++ (text_after s 1 ++ 10 ∷ rest)
     → IsAtRow s l.source.bytes.now rest l.next_row l.world.0
 

@@ -2,7 +2,7 @@ use Rattle.std.proofs.Common.{◌≡◌, ◌-◌, rules, sym, subst, arith, leng
 use Rattle.lisp_object.specs.Datum.{object_of}
 use Rattle.plist_state.specs.State.{WorldState}
 use Rattle.plist_state.specs.Changes.{with_property}
-use Rattle.plist_state.specs.Shown.{symbol_of}
+use Rattle.plist_state.specs.Views.{symbol_of}
 use Rattle.plist_state.specs.Sound.{IsSymbol, IsValue}
 use Rattle.snapshot_text.specs.Built.{with_each}
 use Rattle.snapshot_lines.specs.declared.error.BuildError.TheVariants.{OutOfMemory}

@@ -2,7 +2,7 @@ use Rattle.std.proofs.Common.{◌≡◌, ◌∷◌, [], true, map, length}
 use Rattle.std.specs.List.{list_all, flat_map}
 use Rattle.lisp_object.specs.Datum.{object_of, is_proper}
 use Rattle.plist_state.specs.Properties.{Plist}
-use Rattle.plist_state.specs.Shown.{symbol_of}
+use Rattle.plist_state.specs.Views.{symbol_of}
 use Rattle.plist_state.specs.Sound.{IsSymbol, IsPlist}
 use Rattle.world_text.specs.Snapshot.{symbol_object}
 use Rattle.snapshot_text.specs.Built.{with_each}

@@ -1,7 +1,7 @@
 use Rattle.std.proofs.Common.{◌≡◌, rules, sym, ap, subst, ◌∙◌}
 use Rattle.std.proofs.lemmas.Bool.{both_ways}
 use Rattle.lisp_object.specs.Datum.{object_of, is_proper}
-use Rattle.plist_state.specs.Shown.{symbol_of}
+use Rattle.plist_state.specs.Views.{symbol_of}
 use Rattle.plist_state.specs.Sound.{IsSymbol, IsValue}
 use Rattle.snapshot_text.proofs.property_parts.put_one.Goals as goal
 use Rattle.snapshot_text.proofs.property_parts.put_one.Goals.{then-not-is_there-via-then-not-is_there, then-not-is_there-via-else-not-is_there+then-not-is_there-2, then-not-is_there-via-else-not-is_there+else-not-is_there-2+then-not-is_value}

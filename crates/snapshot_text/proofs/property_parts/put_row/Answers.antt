@@ -1,6 +1,6 @@
 use Rattle.std.proofs.Common.{◌≡◌, ◌∷◌, sym, ap, subst, ◌∙◌, MatchResult}
 use Rattle.plist_state.specs.State.{WorldState}
-use Rattle.plist_state.specs.Shown.{symbol_of}
+use Rattle.plist_state.specs.Views.{symbol_of}
 use Rattle.plist_state.specs.Sound.{IsSymbol}
 use Rattle.world_text.specs.Snapshot.{symbol_object}
 use Rattle.snapshot_text.specs.Built.{with_each}

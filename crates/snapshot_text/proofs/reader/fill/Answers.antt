@@ -2,23 +2,23 @@ use Rattle.std.proofs.Common.{◌≡◌, ℕ, List, [], ◌++◌, drop, append_a
 use Rattle.std.proofs.lemmas.List.{append-nil}
 use Rattle.lisp_object.specs.Object.{Object}
 use Rattle.plist_state.specs.State.{WorldState}
-use Rattle.world_text.specs.Snapshot.{packages_object, properties_object, line, snapshot_with}
+use Rattle.world_text.specs.Snapshot.{packages_object, properties_object, snapshot_line, snapshot_with}
 use Rattle.world_text.proofs.Versions.{text_with}
 use Rattle.snapshot_text.proofs.Gave.{refused_same}
 use Rattle.snapshot_text.proofs.reader.fill.Goals as goal
 
 -- what stands after the first line, and after the second, where the third is of this object
 abbrev third : WorldState → Object → List ℕ
-third s x = line s.packages x ++ []
+third s x = snapshot_line s.packages x ++ []
 
 abbrev second : WorldState → Object → List ℕ
-second s x = line s.packages (properties_object s) ++ third s x
+second s x = snapshot_line s.packages (properties_object s) ++ third s x
 
 three_lines : (a b c bytes : List ℕ) → (a ++ b) ++ c ≡ bytes → drop 0 bytes ≡ a ++ (b ++ (c ++ []))
 three_lines a b c bytes e = sym e ∙ append_assoc a b c ∙ ap (λ x. a ++ (b ++ x)) (sym (append-nil c))
 
-begins : (s : WorldState) (x : Object) (bytes : List ℕ) → snapshot_with s x ≡ bytes → drop 0 bytes ≡ line s.packages (packages_object s.packages) ++ second s x
-begins s x bytes e = three_lines (line s.packages (packages_object s.packages)) (line s.packages (properties_object s)) (line s.packages x) bytes e
+begins : (s : WorldState) (x : Object) (bytes : List ℕ) → snapshot_with s x ≡ bytes → drop 0 bytes ≡ snapshot_line s.packages (packages_object s.packages) ++ second s x
+begins s x bytes e = three_lines (snapshot_line s.packages (packages_object s.packages)) (snapshot_line s.packages (properties_object s)) (snapshot_line s.packages x) bytes e
 
 pub returns-in_err-at : goal.returns-in_err-at
 returns-in_err-at g c = λ s sound fits e new.

@@ -1,6 +1,6 @@
 use Rattle.std.proofs.Common.{◌≡◌, true, take}
 use Rattle.std.specs.List.{list_all}
-use Rattle.readtable_core.specs.Named.{functions_of}
+use Rattle.readtable_core.specs.NamedFunctions.{functions_of}
 use Rattle.user_macros.specs.Registry.{is_covered}
 use Rattle.plist_state.specs.Readers.{readtable_names}
 use Rattle.world_text.specs.Snapshot.{table_named}

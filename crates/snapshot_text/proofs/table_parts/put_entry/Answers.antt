@@ -3,7 +3,7 @@ use Rattle.std.specs.Prelude.{unwrap_or, nat_le}
 use Rattle.std.proofs.lemmas.Bool.{both_ways}
 use Rattle.lisp_object.specs.Object.{text, list_of}
 use Rattle.readtable_core.specs.Characters.{syntax_number}
-use Rattle.readtable_core.specs.Changes.{with_entry}
+use Rattle.readtable_core.specs.Changes.{with_character_entry}
 use Rattle.readtable_core.proofs.Named.{same_number, number_known}
 use Rattle.world_text.specs.Snapshot.{number, dispatch_objects}
 use Rattle.snapshot_text.specs.Built.{with_table}
@@ -43,5 +43,5 @@ returns c = λ proper t k e object small named w.
     let here : c.in_ok-c.c ≡ k = c.in_ok-c.ensures.read four.first_proper k four.first small in
     let coded : c.in_ok-character_in.field-0 ≡ syntax_number e.syntax = c.in_ok-character_in.ensures.read four.second_proper (syntax_number e.syntax) four.second (syntax_small e.syntax) in
     let typed : e.syntax ≡ c.in-Some.syntax = same_number e.syntax c.in-Some.syntax (sym (c.in-Some.ensures.some ∙ coded)) in
-    subst (λ k. MatchResult c.put_typed.result (λ _. c.put_typed.new.world.0 ≡ with_table c.args.world.now.0 c.args.table.now (with_entry t k e)) (λ e. e ≡ OutOfMemory))
+    subst (λ k. MatchResult c.put_typed.result (λ _. c.put_typed.new.world.0 ≡ with_table c.args.world.now.0 c.args.table.now (with_character_entry t k e)) (λ e. e ≡ OutOfMemory))
     here (c.put_typed.ensures four.third_proper four.fourth_proper t e four.third four.fourth typed named w)

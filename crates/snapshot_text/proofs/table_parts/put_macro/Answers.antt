@@ -2,7 +2,7 @@ use Rattle.std.proofs.Common.{◌≡◌, true, rules, sym, ap, ◌∙◌, arith}
 use Rattle.std.specs.Prelude.{Ok}
 use Rattle.lisp_object.specs.Object.{text}
 use Rattle.readtable_core.specs.Names.{is_dispatch_name}
-use Rattle.readtable_core.specs.Changes.{with_entry, dispatching_entry}
+use Rattle.readtable_core.specs.Changes.{with_character_entry, dispatching_entry}
 use Rattle.world_text.specs.Snapshot.{dispatch_objects}
 use Rattle.snapshot_lines.specs.declared.error.BuildError.TheVariants.{OutOfMemory}
 use Rattle.snapshot_text.proofs.TableParts.{same_ok, changed_to}
@@ -13,10 +13,10 @@ pub loop-pair-init : goal.loop-pair-init
 loop-pair-init c = λ proper t e object syntax named w dispatches.
     let s = c.args.world.now.0 in
     let read = c.in_ok-pair-items.ensures.read proper (dispatch_objects e) object in
-    let u = with_entry t c.args.c (dispatching_entry c.args.non_terminating) in
+    let u = with_character_entry t c.args.c (dispatching_entry c.args.non_terminating) in
     first_filling s c.args.table.now t c.args.c e c.args.non_terminating c.in_ok-pair-items.pair-items.now c.make_dispatch.new.self.0 named.entry syntax dispatches read.1 read.0
     (same_ok c.make_dispatch.new.self.0 _ _ c.in_ok-make_dispatch.ensures.gives
-    (changed_to s c.args.table.now t u (λ t. Ok (with_entry t c.args.c (dispatching_entry c.args.non_terminating))) w (let e : Ok u ≡ Ok u = λ i. Ok u in e)))
+    (changed_to s c.args.table.now t u (λ t. Ok (with_character_entry t c.args.c (dispatching_entry c.args.non_terminating))) w (let e : Ok u ≡ Ok u = λ i. Ok u in e)))
 
 pub loop-pair-preserved : goal.loop-pair-preserved
 loop-pair-preserved c = λ proper t e object syntax named w dispatches.

@@ -5,7 +5,7 @@ use Rattle.lisp_object.specs.Object.{IsSound}
 use Rattle.lisp_object.specs.Datum.{object_of, is_proper}
 use Rattle.lisp_object.proofs.Objects.{object_of-Vector}
 use Rattle.std_macros.specs.Values.{vector_of}
-use Rattle.std_macros.specs.Results.{Gives}
+use Rattle.std_macros.specs.Results.{AnswersWithValue}
 use Rattle.std_macros.proofs.Repeating.{vector_long, vector_even, vector_of_none, vector_repeats, all_proper}
 use Rattle.std_macros.proofs.SoundData.{vector_datum, all_repeated}
 use Rattle.std_macros.proofs.vectors.vector.Goals as goal
@@ -42,7 +42,7 @@ returns-clause-value c =
     let copies = c.from-length.result - c.len-count.result in
     let all : c.args.length ≡ length (c.pop.new.self.items ++ c.in-Some.last ∷ []) + copies = omega (arith, ap length items) in
     let some : 0 < copies = omega arith in
-    subst (Gives c.repeating.result)
+    subst (AnswersWithValue c.repeating.result)
     (sym (ap (λ xs. vector_of (Some c.args.length) (map object_of xs)) items
     ∙ vector_repeats c.pop.new.self.items c.in-Some.last c.args.length copies _ (ap (list_all is_proper) (sym items) ∙ c.requires.0) all some refl))
     c.repeating.ensures.value

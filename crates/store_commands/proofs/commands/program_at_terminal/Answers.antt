@@ -7,7 +7,7 @@ use Rattle.store_commands.specs.Status.{EndsAfter, IsAfterWords, IsCarriedOut, T
 use Rattle.store_commands.proofs.AtTerminal.{moved_there, nothing_there}
 use Rattle.command_words.proofs.FoundWords.{same_existing, same_folder, same_task}
 use Rattle.store_commands.proofs.FolderLaws.{moved_sitting}
-use Rattle.store_commands.specs.Told.{TellsFault}
+use Rattle.store_commands.specs.EndLines.{TellsFault}
 use Rattle.store_commands.specs.declared.status.Status.{Status}
 use Rattle.store_commands.specs.declared.told.Told.TheVariants.{Nothing}
 use Rattle.store_commands.proofs.Statuses.{ends_after, memory_at, only_memory, told_after_words, words_carry_out, words_open}

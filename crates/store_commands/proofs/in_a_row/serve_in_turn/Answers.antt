@@ -1,7 +1,7 @@
 use Rattle.std.proofs.Common.{◌∙◌, ℕ, List, Option, subst}
 use Rattle.sessions.specs.Account.{first_account}
 use Rattle.sessions.specs.Serve.{ServesWanted}
-use Rattle.session_ledger.specs.Went.{Went}
+use Rattle.session_ledger.specs.OutgoingLines.{Went}
 use Rattle.store_commands.proofs.Accounts.{known_world}
 use Rattle.store_commands.proofs.Turns.{ends_refused, first_turn, last_turn, left_open, no_more_turns, turn_after}
 use Rattle.store_commands.proofs.in_a_row.serve_in_turn.Goals as goal

@@ -1,6 +1,6 @@
 use Rattle.std.proofs.Common.{IsTrue, subst, sym}
 use Rattle.sessions.specs.Account.{first_account}
-use Rattle.session_ledger.specs.Went.{disk_at}
+use Rattle.session_ledger.specs.OutgoingLines.{disk_at}
 use Rattle.store_laws.proofs.Handings.{are_calls}
 use Rattle.store_commands.proofs.RowCalls.{rows_in_turn}
 use Rattle.store_commands.proofs.laws.what_a_session_wrote_is_there.Goals as goal

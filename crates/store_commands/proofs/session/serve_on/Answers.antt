@@ -2,7 +2,7 @@ use Rattle.std.proofs.Common.{◌∙◌, ℕ, List, Option, IsSome, refl, subst,
 use Rattle.sessions.specs.Account.{Account, first_account}
 use Rattle.sessions.specs.Serve.{ServesWanted}
 use Rattle.plist_state.specs.State.{WorldState}
-use Rattle.session_ledger.specs.Went.{Went}
+use Rattle.session_ledger.specs.OutgoingLines.{Went}
 use Rattle.store_commands.specs.Accounts.{BeginsAccount}
 use Rattle.store_commands.proofs.session.serve_on.Goals as goal
 

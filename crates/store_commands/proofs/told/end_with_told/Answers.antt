@@ -1,5 +1,5 @@
 use Rattle.std.proofs.Common.{subst, sym}
-use Rattle.store_commands.specs.Told.{TellsFault, WritesSome, unanswered_line}
+use Rattle.store_commands.specs.EndLines.{TellsFault, WritesSome, unanswered_line}
 use Rattle.store_commands.specs.declared.status.Status.{Status}
 use Rattle.diagnostics.proofs.Fronts.{either_part}
 use Rattle.store_commands.proofs.told.end_with_told.Goals as goal

@@ -1,6 +1,6 @@
 use Rattle.std.proofs.Common.{◌∙◌, ◌==◌, List, ap, length, subst}
 use Rattle.form_check.specs.declared.checking.Unreadable.{Unreadable}
-use Rattle.store_looks.specs.Checked.{FindsIn}
+use Rattle.store_looks.specs.CheckReports.{FindsIn}
 use Rattle.store_looks.proofs.CheckedTexts.{forms_told}
 use Rattle.store_looks.proofs.checking.check_asked.Goals as goal
 

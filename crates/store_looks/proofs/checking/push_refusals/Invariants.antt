@@ -1,7 +1,7 @@
 use Rattle.std.proofs.Common.{◌≡◌, ◌++◌, List, take}
 use Rattle.std.specs.List.{flat_map}
 use Rattle.diagnostics.specs.declared.refusal.Refusal.{Refusal}
-use Rattle.store_looks.specs.Checked.{AreRefusalsOf, unreadable_text}
+use Rattle.store_looks.specs.CheckReports.{AreRefusalsOf, unreadable_text}
 use Rattle.store_looks.proofs.checking.push_refusals.Given as goal
 
 -- what was told so far

@@ -1,6 +1,6 @@
 use Rattle.std.proofs.Common.{◌∙◌, sym}
-use Rattle.plist_state.specs.Shown.{property_of}
-use Rattle.store_reports.specs.Shown.{is_wanted_name}
+use Rattle.plist_state.specs.Views.{property_of}
+use Rattle.store_reports.specs.ShownProperties.{is_wanted_name}
 use Rattle.store_reports.proofs.Joined.{counted_no, counted_yes}
 use Rattle.store_reports.proofs.counting.taken_of.Goals as goal
 use Rattle.store_reports.proofs.counting.taken_of.Goals.{else-takes_indicator, then-takes_indicator}

@@ -1,6 +1,6 @@
 use Rattle.std.proofs.Common.{◌≡◌, take}
 use Rattle.std.specs.List.{count_by}
-use Rattle.store_reports.specs.Shown.{is_wanted_name}
+use Rattle.store_reports.specs.ShownProperties.{is_wanted_name}
 use Rattle.store_reports.proofs.counting.taken_of.Given as goal
 
 -- those of the properties so far

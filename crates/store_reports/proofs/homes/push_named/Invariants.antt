@@ -1,7 +1,7 @@
 use Rattle.std.proofs.Common.{◌≡◌, ◌++◌, take}
 use Rattle.std.specs.List.{flat_map}
 use Rattle.package_table.specs.Readers.{names_of}
-use Rattle.store_reports.specs.Shown.{shown_home}
+use Rattle.store_reports.specs.ShownProperties.{shown_home}
 use Rattle.store_reports.proofs.homes.push_named.Given as goal
 
 -- what the names so far have of it

@@ -1,7 +1,7 @@
 use Rattle.std.proofs.Common.{◌≡◌, ◌++◌, take}
 use Rattle.std.specs.List.{flat_map}
 use Rattle.plist_state.specs.Readers.{borrowed_symbols}
-use Rattle.store_reports.specs.Shown.{shown_list}
+use Rattle.store_reports.specs.ShownProperties.{shown_list}
 use Rattle.store_reports.proofs.showing.push_lists.Given as goal
 
 -- those of the symbols so far

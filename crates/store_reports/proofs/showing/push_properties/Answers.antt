@@ -1,5 +1,5 @@
-use Rattle.plist_state.specs.Shown.{property_of}
-use Rattle.store_reports.specs.Shown.{shown_property}
+use Rattle.plist_state.specs.Views.{property_of}
+use Rattle.store_reports.specs.ShownProperties.{shown_property}
 use Rattle.store_reports.proofs.Added.{item_added}
 use Rattle.store_reports.proofs.showing.push_properties.Goals as goal
 

@@ -1,6 +1,6 @@
 use Rattle.std.proofs.Common.{◌≡◌, ◌++◌, take}
 use Rattle.std.specs.List.{flat_map}
-use Rattle.store_reports.specs.Shown.{shown_property}
+use Rattle.store_reports.specs.ShownProperties.{shown_property}
 use Rattle.store_reports.proofs.showing.push_properties.Given as goal
 
 -- the properties so far

@@ -1,6 +1,6 @@
 use Rattle.std.proofs.Common.{◌≡◌, false, rules, tests, true}
 use Rattle.std.specs.Prelude.{is_some}
-use Rattle.store_reports.specs.Shown.{has_wanted}
+use Rattle.store_reports.specs.ShownProperties.{has_wanted}
 use Rattle.store_reports.specs.declared.showing.ShowError.TheVariants as showing
 use Rattle.store_reports.proofs.ShownTexts.{no_indicator, no_symbol, some_shown}
 use Rattle.store_reports.proofs.showing.show.Goals as goal

@@ -1,5 +1,5 @@
 use Rattle.std.proofs.Common.{Some, sym, ap, subst, ◌∙◌}
-use Rattle.token_meaning.specs.Numerals.{value}
+use Rattle.token_meaning.specs.Numerals.{numeral_value}
 use Rattle.token_meaning.specs.Leading.{codes_of, IsLeading}
 use Rattle.token_meaning.proofs.Decimals.{at_end, digits_known, point_float, point_integer, point_alone, point_exponent, point_none}
 use Rattle.token_meaning.proofs.numbers.after_point.Goals as goal
@@ -26,4 +26,4 @@ returns-then-whole-clause-gives c text after h g =
     let fraction = digits_known after _ c.args.fraction.some _ c.args.fraction.size ended c.if-fraction.false in
     let whole = digits_known text _ c.args.whole.some _ c.args.whole.size h c.if-whole.true in
     point_integer c.args.negative text after c.args.whole.size c.args.fraction.size whole fraction
-    ∙ ap Some (sym (c.integer.ensures.gives (value 10 whole.leads.digits) whole.leads.worth))
+    ∙ ap Some (sym (c.integer.ensures.gives (numeral_value 10 whole.leads.digits) whole.leads.worth))

@@ -1,5 +1,5 @@
 use Rattle.std.proofs.Common.{◌∷◌, Some, sym, ap, subst, ◌∙◌}
-use Rattle.token_meaning.specs.Numerals.{value}
+use Rattle.token_meaning.specs.Numerals.{numeral_value}
 use Rattle.token_meaning.specs.Leading.{codes_of, IsLeading}
 use Rattle.token_meaning.proofs.Rationals.{below_slash, rational_without, rational_whole, rational_over, rational_under, rational_other}
 use Rattle.token_meaning.proofs.numbers.rational_form.Goals as goal
@@ -23,4 +23,4 @@ returns-clause-gives c text h =
     let there = subst (λ xs. IsLeading c.args.base text c.args.whole.some c.args.whole.size xs) slash h in
     let whole = subst (λ b. IsLeading c.args.base text b c.args.whole.size (47 ∷ codes_of c.in_ok-below.below.now)) c.if-not-whole.false there in
     rational_over c.args.base c.args.negative text (codes_of c.in_ok-below.below.now) c.args.whole.size c.requires.highest_base whole c.in_ok-denominator.ensures.0
-    ∙ ap Some (sym (c.ratio.ensures.gives (value c.args.base whole.leads.digits) (value c.args.base (codes_of c.in_ok-below.below.now)) whole.leads.worth c.in_ok-denominator.ensures.1))
+    ∙ ap Some (sym (c.ratio.ensures.gives (numeral_value c.args.base whole.leads.digits) (numeral_value c.args.base (codes_of c.in_ok-below.below.now)) whole.leads.worth c.in_ok-denominator.ensures.1))

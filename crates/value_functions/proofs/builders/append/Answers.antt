@@ -5,7 +5,7 @@ use Rattle.std.proofs.lemmas.List.Sums.{list_all-from_AllPass}
 use Rattle.lisp_object.specs.Object.{pairs}
 use Rattle.lisp_object.specs.Datum.{object_of, is_proper}
 use Rattle.lisp_operators.specs.Evaluated.{IsProper, AreProper, objects}
-use Rattle.value_functions.specs.Answered.{then_value, if_within}
+use Rattle.value_functions.specs.FunctionAnswers.{then_value, if_within}
 use Rattle.value_functions.specs.Sequences.{items_of}
 use Rattle.value_functions.specs.Building.{appended}
 use Rattle.value_functions.proofs.Appended.{append_next, append_stops}

@@ -1,7 +1,7 @@
 use Rattle.std.proofs.Common.{◌≡◌, Ok, drop}
 use Rattle.lisp_object.specs.Object.{pairs}
 use Rattle.lisp_operators.specs.Evaluated.{AreProper, objects}
-use Rattle.value_functions.specs.Answered.{then_value}
+use Rattle.value_functions.specs.FunctionAnswers.{then_value}
 use Rattle.value_functions.specs.Building.{appended}
 use Rattle.value_functions.proofs.builders.append.Given as goal
 

@@ -1,7 +1,7 @@
 use Rattle.std.proofs.Common.{◌<◌, ◌^◌, length, SFits, to_z, of_z, to_z-of_z, Ok, sym, ap, subst, ◌∙◌, rules}
 use mir.Syntax.{w128}
 use Rattle.lisp_object.specs.Datum.{object_of}
-use Rattle.value_functions.specs.Answered.{AnswersValue}
+use Rattle.value_functions.specs.FunctionAnswers.{AnswersValue}
 use Rattle.value_functions.proofs.Ends.{nth_no_list, not_negative, nth_far, nth_beyond, nth_among}
 use Rattle.value_functions.proofs.lists.nth.Goals as goal
 

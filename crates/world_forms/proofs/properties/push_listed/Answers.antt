@@ -1,5 +1,5 @@
 use Rattle.plist_state.specs.Readers.{borrowed_symbol}
-use Rattle.plist_state.specs.Shown.{property_of}
+use Rattle.plist_state.specs.Views.{property_of}
 use Rattle.world_forms.specs.Properties.{property_line, left_out_line}
 use Rattle.world_forms.proofs.Added.{item_added}
 use Rattle.world_forms.proofs.properties.push_listed.Goals as goal

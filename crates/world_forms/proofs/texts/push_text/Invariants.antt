@@ -1,8 +1,8 @@
 use Rattle.std.proofs.Common.{◌≡◌, ◌++◌, take}
-use Rattle.canon_printer.specs.Names.{escaped}
+use Rattle.canon_printer.specs.Names.{with_backslashes}
 use Rattle.canon_printer.specs.Written.{is_escaped_in_text}
 use Rattle.world_forms.proofs.texts.push_text.Given as goal
 
 -- the characters so far
 abbrev pub invariant-loop-byte : goal.invariant-loop-byte
-invariant-loop-byte l = l.text.items ≡ l.initial.text.items ++ escaped is_escaped_in_text (take l.byte-index l.bytes)
+invariant-loop-byte l = l.text.items ≡ l.initial.text.items ++ with_backslashes is_escaped_in_text (take l.byte-index l.bytes)

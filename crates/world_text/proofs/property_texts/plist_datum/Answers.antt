@@ -13,7 +13,7 @@ use Rattle.lisp_object.proofs.Objects.{object_of-Symbol}
 use Rattle.lisp_object.proofs.Properness.{is_proper-Symbol}
 use Rattle.package_table.proofs.Names.{same_some}
 use Rattle.plist_state.specs.Properties.{Symbol, Plist}
-use Rattle.plist_state.specs.Shown.{property_of}
+use Rattle.plist_state.specs.Views.{property_of}
 use Rattle.world_text.specs.Snapshot.{symbol_object}
 use Rattle.world_text.proofs.property_texts.plist_datum.Goals as goal
 

@@ -1,7 +1,7 @@
 use Rattle.std.proofs.Common.{◌≡◌, true, not, map, filter}
 use Rattle.std.specs.List.{list_all, range_with_len}
 use Rattle.lisp_object.specs.Datum.{object_of, is_proper}
-use Rattle.readtable_core.specs.Named.{same_entry}
+use Rattle.readtable_core.specs.NamedFunctions.{same_entry}
 use Rattle.readtable_core.specs.Tables.{entry_at}
 use Rattle.world_text.specs.Snapshot.{entry_object}
 use Rattle.world_text.proofs.table_rows.entries_below.Given as goal

@@ -1,7 +1,7 @@
 use Rattle.std.proofs.Common.{◌≡◌, subst, not, map, filter, IfOk}
 use Rattle.std.specs.List.{range_with_len}
 use Rattle.lisp_object.specs.Datum.{object_of}
-use Rattle.readtable_core.specs.Named.{same_entry}
+use Rattle.readtable_core.specs.NamedFunctions.{same_entry}
 use Rattle.readtable_core.specs.Tables.{entry_at}
 use Rattle.world_text.specs.Snapshot.{entry_object, entry_objects}
 use Rattle.world_text.proofs.table_rows.entry_rows.Goals as goal

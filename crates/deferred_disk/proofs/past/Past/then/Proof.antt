@@ -29,7 +29,7 @@ use Rattle.deferred_disk.proofs.Walks.{none, none_made}
 use Rattle.deferred_disk.specs.contracts.past.Past as Past
 use Rattle.deferred_disk.specs.contracts.order.Order as Order
 use Rattle.deferred_disk.specs.Calls.{with_order}
-use Rattle.deferred_disk.specs.Noted.{order_value}
+use Rattle.deferred_disk.specs.NotedOrders.{order_value}
 use Rattle.deferred_disk.specs.contracts.past.Past.then as F
 use Rattle.deferred_disk.specs.contracts.past.Past.then.Key.{name as #self}
 use Rattle.deferred_disk.proofs.past.Past.then.Statement as stated

@@ -1,6 +1,6 @@
 use Rattle.std.proofs.Common.{sym, map, ◌∙◌}
 use Rattle.std.specs.List.{list_all}
-use Rattle.readtable_core.specs.Named.{functions_at}
+use Rattle.readtable_core.specs.NamedFunctions.{functions_at}
 use Rattle.readtable_core.proofs.Named.{all_functions}
 use Rattle.user_macros.specs.Registry.{is_covered}
 use Rattle.user_macros.proofs.Found.{each_but_one, each_in_all}

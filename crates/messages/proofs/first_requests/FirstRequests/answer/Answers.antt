@@ -1,10 +1,10 @@
 use Rattle.std.proofs.Common.{◌≡◌, [], ◌∷◌, length, length-append, refl, sym, ap, subst, ◌∙◌, arith}
 use Rattle.plist_state.specs.State.{Worlds}
 use Rattle.prevalence_store.specs.declared.failure.Unadded.{Unadded}
-use Rattle.messages.specs.Answers.{Round, answered, first_round}
+use Rattle.messages.specs.Answers.{Round, round_after_requests, first_round}
 use Rattle.messages.specs.Calls.{RefusesOwn}
 use Rattle.messages.specs.Fronts.{first_of}
-use Rattle.messages.specs.Rounds.{IfRefused, IsMade, round_in}
+use Rattle.messages.specs.Rounds.{IfRefused, MayBeLogged, round_in}
 use Rattle.messages.specs.Turn.{round_of}
 use Rattle.prevalence_store.specs.steps.Batch.{IsMarked, entries_of}
 use Rattle.messages.proofs.Settling.{replied_silent, replied_written}
@@ -68,8 +68,8 @@ returns-then-not-wrote-clause-made g c =
     let marked : IsMarked w c.answer_up_to.new.world.1 = c.answer_up_to.ensures.marks w ([], ap (λ (s : Worlds). s.1) c.in_ok-begun.ensures.marked) in
     let back : c.back_to-then-not-wrote.new.self ≡ w = c.back_to-then-not-wrote.ensures.whole w marked.0 marked.1 (sym c.mark_count-mark.ensures) in
     let first : round_in c.new-round.result c.begin.new.world.0 ≡ first_round turn.last w.0 = c.new-round.ensures ∙ ap (λ (s : Worlds). first_round turn.last s.0) c.in_ok-begun.ensures.marked in
-    let turned : round_in held v ≡ round_of functions turn w.0 = c.in-Ok.ensures.answered ∙ ap (λ (r : Round). answered functions r (first_of functions turn.most r turn.requests.now)) first in
-    let made = c.in-Ok.ensures.made w.0 (subst (IsMade functions w.0) (sym first) (record { again = refl; fit = tt })) in
+    let turned : round_in held v ≡ round_of functions turn w.0 = c.in-Ok.ensures.answered ∙ ap (λ (r : Round). round_after_requests functions r (first_of functions turn.most r turn.requests.now)) first in
+    let made = c.in-Ok.ensures.made w.0 (subst (MayBeLogged functions w.0) (sym first) (record { again = refl; fit = tt })) in
     replied_silent functions turn w.0 held v turned made c.into_parts-replies.result.0 c.into_parts-replies.ensures.answers c.into_parts-replies.ensures.last c.args.batch.now
     c.back_to-then-not-wrote.new.self.0 c.if-not-wrote.true (ap (λ (s : Worlds). s.0) back) c.requires.none
 
@@ -90,8 +90,8 @@ returns-clause-made g c =
     let held = c.answer_up_to.new.self in
     let v = c.answer_up_to.new.world.0 in
     let first : round_in c.new-round.result c.begin.new.world.0 ≡ first_round turn.last w.0 = c.new-round.ensures ∙ ap (λ (s : Worlds). first_round turn.last s.0) c.in_ok-begun.ensures.marked in
-    let turned : round_in held v ≡ round_of functions turn w.0 = c.in-Ok.ensures.answered ∙ ap (λ (r : Round). answered functions r (first_of functions turn.most r turn.requests.now)) first in
-    let made = c.in-Ok.ensures.made w.0 (subst (IsMade functions w.0) (sym first) (record { again = refl; fit = tt })) in
+    let turned : round_in held v ≡ round_of functions turn w.0 = c.in-Ok.ensures.answered ∙ ap (λ (r : Round). round_after_requests functions r (first_of functions turn.most r turn.requests.now)) first in
+    let made = c.in-Ok.ensures.made w.0 (subst (MayBeLogged functions w.0) (sym first) (record { again = refl; fit = tt })) in
     replied_written functions turn w.0 held v turned made c.into_parts-replies.result.0 c.into_parts-replies.ensures.answers c.into_parts-replies.ensures.last c.into_parts-replies.result.1 c.if-not-wrote.false c.into_parts-replies.ensures.batch
 
 pub returns-clause-marks : goal.returns-clause-marks

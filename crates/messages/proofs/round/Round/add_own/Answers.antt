@@ -1,5 +1,5 @@
 use Rattle.std.proofs.Common.{subst, sym}
-use Rattle.messages.specs.Rounds.{IsMade, round_in}
+use Rattle.messages.specs.Rounds.{MayBeLogged, round_in}
 use Rattle.messages.proofs.Making.{failed_on, done_on, own_made, own_added, own_round}
 use Rattle.messages.proofs.Owned.{form_left, form_taken}
 use Rattle.messages.proofs.round.Round.add_own.Goals as goal
@@ -27,7 +27,7 @@ returns-clause-made g c =
           let e = w1.in-Ok.field-0 in
           let same = own_round functions c.args.own held c.add.new.self w c.add.new.world.0 c.args.form.now c.args.text.now e c.requires.there c.requires.form w1.in-Ok.ensures.value w1.in-Ok.ensures.taken in
           let added = own_added functions c.args.own w c.add.new.world.0 c.args.form.now c.args.text.now e c.requires.there c.requires.form w1.in-Ok.ensures.value in
-          done_on c.match-add.result w1.result-is (λ first made. subst (IsMade functions first) (sym same) (own_made functions first (round_in held w) made c.args.own added.2 added.3))
+          done_on c.match-add.result w1.result-is (λ first made. subst (MayBeLogged functions first) (sym same) (own_made functions first (round_in held w) made c.args.own added.2 added.3))
       | in-Err w1 ↦ failed_on _ c.match-add.result w1.in-Err.failure w1.result-is
     ]
 

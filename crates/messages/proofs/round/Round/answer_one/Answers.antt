@@ -1,5 +1,5 @@
 use Rattle.std.proofs.Common.{subst, sym, ◌∙◌}
-use Rattle.messages.specs.Rounds.{IsMade, round_in}
+use Rattle.messages.specs.Rounds.{MayBeLogged, round_in}
 use Rattle.messages.proofs.Making.{old_request}
 use Rattle.messages.proofs.round.Round.answer_one.Goals as goal
 
@@ -10,4 +10,4 @@ returns-in-Ok-clause-answered g c =
 
 pub returns-in-Ok-clause-made : goal.returns-in-Ok-clause-made
 returns-in-Ok-clause-made g c = λ first made.
-    subst (IsMade g.R.Meaning.Meaning.functions first) (sym (c.in-Ok.ensures.answered c.args.world.now.0)) (record { again = made.again; fit = made.fit })
+    subst (MayBeLogged g.R.Meaning.Meaning.functions first) (sym (c.in-Ok.ensures.answered c.args.world.now.0)) (record { again = made.again; fit = made.fit })

@@ -1,6 +1,6 @@
 use Rattle.std.proofs.Common.{subst, sym, ◌∙◌, ap}
 use Rattle.plist_state.specs.State.{Worlds}
-use Rattle.messages.specs.Rounds.{IsMade, round_in}
+use Rattle.messages.specs.Rounds.{MayBeLogged, round_in}
 use Rattle.prevalence_store.specs.steps.Batch.{IsMarked}
 use Rattle.messages.proofs.Making.{asked_round, told_made}
 use Rattle.messages.proofs.round.Round.answer_question.Goals as goal
@@ -15,7 +15,7 @@ returns-in-Ok-push-clause-answered g c =
 pub returns-in-Ok-push-clause-made : goal.returns-in-Ok-push-clause-made
 returns-in-Ok-push-clause-made g c = λ first made.
     let functions = g.R.Meaning.Meaning.functions in
-    subst (IsMade functions first) (sym (c.in-Ok-push.ensures.pushed c.answer_question.new.world.0))
+    subst (MayBeLogged functions first) (sym (c.in-Ok-push.ensures.pushed c.answer_question.new.world.0))
     (told_made functions c.clear.new.self first c.clear.new.world.0 c.answer_question.new.world.0 c.in-Ok-answer_question.answer.items
     (ap (λ (s : Worlds). s.0) c.answer_question.ensures.same) (c.in-Ok.ensures.made first made))
 

@@ -1,6 +1,6 @@
 use Rattle.std.proofs.Common.{subst}
 use Rattle.std.specs.Prelude.{bytes_eq}
-use Rattle.package_sets.specs.Good.{AreDistinctNames}
+use Rattle.package_sets.specs.Consistent.{AreDistinctNames}
 use Rattle.package_sets.proofs.Places.{distinct-map}
 use Rattle.package_sets.proofs.names.Names.distinctness.Goals as goal
 

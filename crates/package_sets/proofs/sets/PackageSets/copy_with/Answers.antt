@@ -1,8 +1,8 @@
 use Rattle.std.proofs.Common.{◌≡◌, length, sym, ap, subst, ◌∙◌}
 use Rattle.package_sets.specs.Kept.{Kept}
-use Rattle.package_sets.specs.Good.{IsGood}
+use Rattle.package_sets.specs.Consistent.{IsGood}
 use Rattle.package_sets.specs.Chained.{external_name, AreChained}
-use Rattle.package_sets.specs.Shown.{kept_of}
+use Rattle.package_sets.specs.Views.{kept_of}
 use Rattle.package_sets.proofs.sets.PackageSets.copy_with.Goals as goal
 
 pub invariant_of-result : goal.invariant_of-result

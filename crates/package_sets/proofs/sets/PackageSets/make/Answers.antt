@@ -1,8 +1,8 @@
 use Rattle.std.proofs.Common.{List, position, sym, ap, subst, ◌∙◌}
 use Rattle.std.specs.Prelude.{bytes_eq}
 use Rattle.package_sets.specs.Kept.{Kept, Name}
-use Rattle.package_sets.specs.Good.{IsGood}
-use Rattle.package_sets.specs.Shown.{kept_of}
+use Rattle.package_sets.specs.Consistent.{IsGood}
+use Rattle.package_sets.specs.Views.{kept_of}
 use Rattle.package_sets.proofs.Growing.{good_package}
 use Rattle.package_sets.proofs.sets.PackageSets.make.Goals as goal
 

@@ -1,6 +1,6 @@
 use Rattle.std.proofs.Common.{◌≡◌, ℕ, List, [], length, sym, subst}
 use Rattle.package_sets.specs.Kept.{Kept, nothing}
-use Rattle.package_sets.specs.Good.{IsGood}
+use Rattle.package_sets.specs.Consistent.{IsGood}
 use Rattle.package_sets.specs.Chained.{external_name, AreChained}
 use Rattle.package_sets.proofs.Growing.{good_nothing}
 use Rattle.package_sets.proofs.sets.PackageSets.new.Goals as goal

@@ -1,7 +1,7 @@
 use Rattle.std.proofs.Common.{◌<◌, ℕ, List, length, position, sym, ap, subst, ◌∙◌}
 use Rattle.package_sets.specs.Kept.{Kept, pair_eq}
-use Rattle.package_sets.specs.Good.{IsGood}
-use Rattle.package_sets.specs.Shown.{kept_of}
+use Rattle.package_sets.specs.Consistent.{IsGood}
+use Rattle.package_sets.specs.Views.{kept_of}
 use Rattle.package_sets.proofs.Growing.{good_use}
 use Rattle.package_sets.proofs.sets.PackageSets.use_package.Goals as goal
 

@@ -3,10 +3,10 @@ use Rattle.std.specs.List.{AllByRecursion, slice_get}
 use Rattle.std.proofs.lemmas.List.{length-map}
 use Rattle.package_sets.specs.declared.sizes.Sizes.{Sizes}
 use Rattle.package_sets.specs.Kept.{Kept, cut}
-use Rattle.package_sets.specs.Good.{IsGood}
+use Rattle.package_sets.specs.Consistent.{IsGood}
 use Rattle.package_table.specs.Numbers.{Tables}
 use Rattle.package_table.specs.Meaning.{numbered_of}
-use Rattle.package_table.specs.Shown.{IsMark, IsState, IsRising, tables_at}
+use Rattle.package_table.specs.Views.{IsMark, IsState, IsRising, tables_at}
 use Rattle.package_table.proofs.Marking.{back}
 use Rattle.package_table.proofs.packages.Packages.back_to.Goals as goal
 

@@ -4,7 +4,7 @@ use Rattle.package_table.specs.Table.{Table}
 use Rattle.package_table.specs.Numbers.{Tables}
 use Rattle.package_table.specs.Meaning.{numbered_of}
 use Rattle.package_table.specs.Changes.{after_intern, intern_changes}
-use Rattle.package_table.specs.Growth.{Tells}
+use Rattle.package_table.specs.Growth.{TellsOfChange}
 use Rattle.package_table.proofs.KeptChanges.{kept_intern, found_after, told_after}
 use Rattle.package_table.proofs.Calls.{left_interned}
 use Rattle.package_table.proofs.packages.Packages.intern.Goals as goal
@@ -33,7 +33,7 @@ pub returns-clause-exactly : goal.returns-clause-exactly
 returns-clause-exactly c =
     let t : Table = (numbered_of c.self.inside.sets).0 in
     let u : Table = (numbered_of c.intern_symbol.new.sets).0 in
-    subst (λ (ts : Tables). IfOk c.intern_symbol.result (λ (x : Interned). Tells x.is_new ts.0 u)) c.self.view_is
+    subst (λ (ts : Tables). IfOk c.intern_symbol.result (λ (x : Interned). TellsOfChange x.is_new ts.0 u)) c.self.view_is
     (told_after t u (λ (x : Interned). (x.home, u)) (λ (x : Interned). x.is_new) (intern_changes t c.args.owner.now c.args.name.now) c.intern_symbol.result (after_intern t c.args.owner.now c.args.name.now)
     c.intern_symbol.ensures.gives c.intern_symbol.ensures.is_new
     (λ x is. (kept_intern t c.args.owner.now c.args.name.now c.self.invariant.state.sound x.home u c.requires is).kept.told))

@@ -5,7 +5,7 @@ use Rattle.package_sets.specs.declared.sizes.Sizes.{Sizes}
 use Rattle.package_sets.specs.Kept.{cut, sizes_of}
 use Rattle.package_table.specs.Numbers.{Tables, with_mark}
 use Rattle.package_table.specs.Meaning.{numbered_of}
-use Rattle.package_table.specs.Shown.{IsMark, IsRising, tables_at}
+use Rattle.package_table.specs.Views.{IsMark, IsRising, tables_at}
 use Rattle.package_table.proofs.Marking.{marked_push, rising_push, tables_push}
 use Rattle.package_table.proofs.packages.Packages.mark.Goals as goal
 

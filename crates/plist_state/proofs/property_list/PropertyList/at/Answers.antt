@@ -7,7 +7,7 @@ use Rattle.package_table.proofs.Names.{same_some}
 use Rattle.property_rows.specs.declared.property.NumberedProperty.{NumberedProperty}
 use Rattle.plist_state.specs.Properties.{Symbol}
 use Rattle.plist_state.specs.Lists.{IsNumber, numbered_symbol}
-use Rattle.plist_state.specs.Shown.{items_in}
+use Rattle.plist_state.specs.Views.{items_in}
 use Rattle.plist_state.proofs.Indices.{item_at, item_is}
 use Rattle.plist_state.proofs.Viewed.{within_row, property_at, number_at, value_proper}
 use Rattle.plist_state.proofs.property_list.PropertyList.at.Goals as goal

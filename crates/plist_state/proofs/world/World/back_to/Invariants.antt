@@ -1,5 +1,5 @@
 use Rattle.std.proofs.Common.{◌++◌, [], ◌∷◌, length}
-use Rattle.plist_state.specs.Marked.{IsWayBack}
+use Rattle.plist_state.specs.MarkedWorlds.{IsWayBack}
 use Rattle.plist_state.proofs.world.World.back_to.Given as goal
 
 -- on the way back from the world before, as if that were marked

@@ -3,8 +3,8 @@ use Rattle.package_table.specs.Table.{keyword}
 use Rattle.plist_state.specs.Sound.{IsSymbol}
 use Rattle.package_table.specs.Numbers.{numbered}
 use Rattle.plist_state.specs.State.{WorldState, Worlds}
-use Rattle.plist_state.specs.Marked.{state_in}
-use Rattle.plist_state.specs.Shown.{rest_of}
+use Rattle.plist_state.specs.MarkedWorlds.{state_in}
+use Rattle.plist_state.specs.Views.{rest_of}
 use Rattle.plist_state.proofs.KeptWorld.{sound_copied}
 use Rattle.plist_state.proofs.Left.{left_kept, left_marked, left_refused}
 use Rattle.plist_state.proofs.world.World.copy_readtable.Goals as goal

@@ -3,7 +3,7 @@ use Rattle.package_table.specs.Table.{symbol_count}
 use Rattle.package_table.specs.Numbers.{numbered, number_of}
 use Rattle.plist_state.specs.Properties as properties
 use Rattle.plist_state.specs.Properties.{value_at}
-use Rattle.plist_state.specs.Shown.{symbol_named}
+use Rattle.plist_state.specs.Views.{symbol_named}
 use Rattle.plist_state.proofs.InState.{none_seen, property_seen, no_property}
 use Rattle.plist_state.proofs.world.World.get_at.Goals as goal
 

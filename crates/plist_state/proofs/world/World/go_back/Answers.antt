@@ -6,10 +6,10 @@ use Rattle.package_table.specs.Numbers.{Numbered, numbered}
 use Rattle.plist_state.specs.declared.note.Note.{Note}
 use Rattle.plist_state.specs.declared.replaced.Replaced.{Replaced}
 use Rattle.plist_state.specs.State.{WorldState, Worlds}
-use Rattle.plist_state.specs.Shown.{NumberedRest, Rows, rest_of}
+use Rattle.plist_state.specs.Views.{NumberedRest, Rows, rest_of}
 use Rattle.plist_state.specs.Undoing.{rests_at}
 use Rattle.plist_state.specs.Journal.{marks_of}
-use Rattle.plist_state.specs.Marked.{AreKept, AreReplaced, earlier_states, marked_states, state_in}
+use Rattle.plist_state.specs.MarkedWorlds.{AreKept, AreReplaced, earlier_states, marked_states, state_in}
 use Rattle.plist_state.proofs.Notes.{notes_of}
 use Rattle.plist_state.proofs.Marking.{states_take, kept_back, state_at, sound_at, owned_at}
 use Rattle.plist_state.proofs.Earlier.{count_left, last_kept, replaced_pop, own_mark, put_back, back_within}

@@ -4,7 +4,7 @@ use Rattle.package_table.specs.Numbers.{numbered, number_of}
 use Rattle.plist_state.specs.Properties as properties
 use Rattle.plist_state.specs.Properties.{value_at}
 use Rattle.plist_state.specs.Pushed.{pair_size}
-use Rattle.plist_state.specs.Shown.{symbol_of, rest_of}
+use Rattle.plist_state.specs.Views.{symbol_of, rest_of}
 use Rattle.plist_state.proofs.InState.{none_seen, property_seen, no_property}
 use Rattle.plist_state.proofs.world.World.list_size.Goals as goal
 

@@ -1,10 +1,10 @@
 use Rattle.std.proofs.Common.{Ok}
 use Rattle.readtable_core.specs.Tables.{Table}
-use Rattle.readtable_core.specs.Changes.{with_entry, dispatching_entry}
+use Rattle.readtable_core.specs.Changes.{with_character_entry, dispatching_entry}
 use Rattle.package_table.specs.Numbers.{numbered}
 use Rattle.plist_state.specs.State.{WorldState}
-use Rattle.plist_state.specs.Marked.{state_in}
-use Rattle.plist_state.specs.Shown.{rest_of}
+use Rattle.plist_state.specs.MarkedWorlds.{state_in}
+use Rattle.plist_state.specs.Views.{rest_of}
 use Rattle.plist_state.proofs.KeptWorld.{sound_changed, named_dispatching, dispatch_there}
 use Rattle.plist_state.proofs.Left.{left_kept, left_marked, left_refused}
 use Rattle.plist_state.proofs.world.World.make_dispatch.Goals as goal
@@ -14,7 +14,7 @@ invariant_of-self c =
     let s : WorldState = state_in (numbered c.self.inside.packages) (rest_of c.self.inside.stored) in
     let e = c.make_dispatch.ensures in
     left_kept c.self.inside c.make_dispatch.new.tables c.make_dispatch.new.marks c.make_dispatch.result e.unchanged e.marked _ e.gives c.self.invariant
-    (sound_changed s c.args.name.now (λ (t : Table). Ok (with_entry t c.args.c (dispatching_entry c.args.non_terminating))) c.self.invariant.now.sound
+    (sound_changed s c.args.name.now (λ (t : Table). Ok (with_character_entry t c.args.c (dispatching_entry c.args.non_terminating))) c.self.invariant.now.sound
     (λ t u named made. named_dispatching s.packages c.args.c c.args.non_terminating t u c.requires (dispatch_there s c.self.invariant.now.sound) named made))
 
 pub returns-clause-marked : goal.returns-clause-marked

@@ -1,7 +1,7 @@
 use Rattle.std.proofs.Common.{All, sym, ap, subst, ◌∙◌}
 use Rattle.package_table.specs.Numbers.{numbered}
 use Rattle.plist_state.specs.Lists.{NumberedPlist, IsNumber, named_plist}
-use Rattle.plist_state.specs.Shown.{items_in}
+use Rattle.plist_state.specs.Views.{items_in}
 use Rattle.plist_state.proofs.InState.{row_seen, none_seen}
 use Rattle.plist_state.proofs.Viewed.{are_numbers}
 use Rattle.plist_state.proofs.world.World.plist_of.Goals as goal

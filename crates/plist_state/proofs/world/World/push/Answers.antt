@@ -3,15 +3,15 @@ use Rattle.std.specs.Prelude.{OnErr}
 use Rattle.package_table.specs.Table.{symbol_count}
 use Rattle.package_table.specs.Numbers.{numbered}
 use Rattle.lisp_object.specs.Datum.{object_of}
-use Rattle.plist_state.specs.Properties.{same_symbol, value_by}
+use Rattle.plist_state.specs.Properties.{same_symbol, value_beside}
 use Rattle.plist_state.specs.Changes.{property}
 use Rattle.plist_state.specs.Pushed.{holds_pair, pair_size, pushed, with_pushed_by}
 use Rattle.plist_state.specs.State.{Worlds}
-use Rattle.plist_state.specs.Shown.{NumberedRest, symbol_of, rest_of}
-use Rattle.plist_state.specs.Sound.{IsSymbol, IsValue, IsSound}
-use Rattle.plist_state.specs.Lists.{same_number, row_of, value_in, IsNumber, named_plist, IsOwned}
+use Rattle.plist_state.specs.Views.{NumberedRest, symbol_of, rest_of}
+use Rattle.plist_state.specs.Sound.{IsSymbol, IsValue, IsSoundWorldState}
+use Rattle.plist_state.specs.Lists.{same_number, plist_of_number, value_in, IsNumber, named_plist, IsOwned}
 use Rattle.plist_state.specs.Journal.{marks_of}
-use Rattle.plist_state.specs.Marked.{state_in, earlier_states}
+use Rattle.plist_state.specs.MarkedWorlds.{state_in, earlier_states}
 use Rattle.plist_state.specs.Sizes.{AreSizes, AreOtherSizes}
 use Rattle.plist_state.proofs.InState.{with_changed_row, state_listed, world_listed, property_seen}
 use Rattle.plist_state.proofs.KeptWorld.{kept_rest}
@@ -55,12 +55,12 @@ invariant_of-self c =
     let n = c.number-owner.result in
     let j = c.number-indicator.result in
     let v = object_of c.args.first in
-    let row = row_of r.properties n in
+    let row = plist_of_number r.properties n in
     let made : NumberedRest = with_changed_row r n (λ ps. with_pushed_by same_number ps j v) in
     let at_home : IsSymbol s.0 x = subst (λ (w : Worlds). IsSymbol w.0.packages x) (sym c.self.view_is) c.requires.symbol in
     let indicator : IsSymbol s.0 i = subst (λ (w : Worlds). IsSymbol w.0.packages i) (sym c.self.view_is) c.requires.indicator in
     let value : IsValue s.0 (pushed v (property (state_in s r) x i)) = subst (λ (w : Worlds). IsValue w.0.packages (pushed v (property w.0 x i))) (sym c.self.view_is) c.requires.value in
-    let numbers = all_with same_number (λ p. IsNumber s p.0) row j (pushed v (value_by same_number row j)) (number_is s (symbol_count s.0) c.numbering.ensures i j indicator_is) (λ p k. k) (c.self.invariant.now.owned.indicators n) in
+    let numbers = all_with same_number (λ p. IsNumber s p.0) row j (pushed v (value_beside same_number row j)) (number_is s (symbol_count s.0) c.numbering.ensures i j indicator_is) (λ p k. k) (c.self.invariant.now.owned.indicators n) in
     let same : named_plist s (with_pushed_by same_number row j v) ≡ with_pushed_by same_symbol (named_plist s row) i v =
     pushed_named s (symbol_count s.0) c.numbering.ensures i j indicator_is row (c.self.invariant.now.owned.indicators n) v in
     record {
@@ -72,8 +72,8 @@ invariant_of-self c =
             (owned_put s (symbol_count s.0) c.numbering.ensures r.properties x n _ owner_is numbers c.self.invariant.now.owned);
         marked = kept_continued a.packages.1.marked (marks_of a.marks.items) r a.stored.properties.items c.self.invariant.now.marked (marks_of c.push.new.marks.items) u c.push.new.stored.properties.items
             c.push.ensures.marked (fits_now a.stored.properties.items r refl) c.push.ensures.wider;
-        sound = kept_rest c.push.result (λ q. IsSound (state_in s q)) r made u c.push.ensures.ok c.push.ensures.err c.self.invariant.now.sound
-            (subst IsSound (sym (state_listed s (symbol_count s.0) c.numbering.ensures x n owner_is r (λ ps. with_pushed_by same_number ps j v) (λ ps. with_pushed_by same_symbol ps i v) same))
+        sound = kept_rest c.push.result (λ q. IsSoundWorldState (state_in s q)) r made u c.push.ensures.ok c.push.ensures.err c.self.invariant.now.sound
+            (subst IsSoundWorldState (sym (state_listed s (symbol_count s.0) c.numbering.ensures x n owner_is r (λ ps. with_pushed_by same_number ps j v) (λ ps. with_pushed_by same_symbol ps i v) same))
             (sound_put (state_in s r) x i (pushed v (property (state_in s r) x i)) c.self.invariant.now.sound at_home indicator value));
       };
       earlier = c.self.invariant.earlier;
@@ -92,12 +92,12 @@ invariant_of-self-2 c =
     let n = c.number-owner.result in
     let j = c.number-indicator.result in
     let v = object_of c.args.first in
-    let row = row_of r.properties n in
+    let row = plist_of_number r.properties n in
     let made : NumberedRest = with_changed_row r n (λ ps. with_pushed_by same_number ps j v) in
     let at_home : IsSymbol s.0 x = subst (λ (w : Worlds). IsSymbol w.0.packages x) (sym c.self.view_is) c.requires.symbol in
     let indicator : IsSymbol s.0 i = subst (λ (w : Worlds). IsSymbol w.0.packages i) (sym c.self.view_is) c.requires.indicator in
     let value : IsValue s.0 (pushed v (property (state_in s r) x i)) = subst (λ (w : Worlds). IsValue w.0.packages (pushed v (property w.0 x i))) (sym c.self.view_is) c.requires.value in
-    let numbers = all_with same_number (λ p. IsNumber s p.0) row j (pushed v (value_by same_number row j)) (number_is s (symbol_count s.0) c.numbering.ensures i j indicator_is) (λ p k. k) (c.self.invariant.now.owned.indicators n) in
+    let numbers = all_with same_number (λ p. IsNumber s p.0) row j (pushed v (value_beside same_number row j)) (number_is s (symbol_count s.0) c.numbering.ensures i j indicator_is) (λ p k. k) (c.self.invariant.now.owned.indicators n) in
     let same : named_plist s (with_pushed_by same_number row j v) ≡ with_pushed_by same_symbol (named_plist s row) i v =
     pushed_named s (symbol_count s.0) c.numbering.ensures i j indicator_is row (c.self.invariant.now.owned.indicators n) v in
     let size_is : pair_size (Some (pushed v (value_in r.properties n j))) ≡ Some c.args.size =
@@ -114,8 +114,8 @@ invariant_of-self-2 c =
             (owned_put s (symbol_count s.0) c.numbering.ensures r.properties x n _ owner_is numbers c.self.invariant.now.owned);
         marked = kept_continued a.packages.1.marked (marks_of a.marks.items) r a.stored.properties.items c.self.invariant.now.marked (marks_of c.push.new.marks.items) u c.push.new.stored.properties.items
             c.push.ensures.marked (fits_now a.stored.properties.items r refl) c.push.ensures.wider;
-        sound = kept_rest c.push.result (λ q. IsSound (state_in s q)) r made u c.push.ensures.ok c.push.ensures.err c.self.invariant.now.sound
-            (subst IsSound (sym (state_listed s (symbol_count s.0) c.numbering.ensures x n owner_is r (λ ps. with_pushed_by same_number ps j v) (λ ps. with_pushed_by same_symbol ps i v) same))
+        sound = kept_rest c.push.result (λ q. IsSoundWorldState (state_in s q)) r made u c.push.ensures.ok c.push.ensures.err c.self.invariant.now.sound
+            (subst IsSoundWorldState (sym (state_listed s (symbol_count s.0) c.numbering.ensures x n owner_is r (λ ps. with_pushed_by same_number ps j v) (λ ps. with_pushed_by same_symbol ps i v) same))
             (sound_put (state_in s r) x i (pushed v (property (state_in s r) x i)) c.self.invariant.now.sound at_home indicator value));
       };
       earlier = c.self.invariant.earlier;
@@ -134,7 +134,7 @@ returns-clause-ok c =
     world_listed {A = Unit {0}} {E = Unit {0}} (Ok tt) (earlier_states a.earlier.items) a.packages (marks_of a.marks.items) (marks_of c.push.new.marks.items) (rest_of a.stored) (rest_of c.push.new.stored) c.push.ensures.marked.same
     c.args.self.now c.self.view_is (symbol_count s.0) c.numbering.ensures (symbol_of c.args.symbol.now) n owner_is
     (λ ps. with_pushed_by same_number ps j v) (λ ps. with_pushed_by same_symbol ps i v)
-    (pushed_named s (symbol_count s.0) c.numbering.ensures i j indicator_is (row_of (rest_of a.stored).properties n) (c.self.invariant.now.owned.indicators n) v)
+    (pushed_named s (symbol_count s.0) c.numbering.ensures i j indicator_is (plist_of_number (rest_of a.stored).properties n) (c.self.invariant.now.owned.indicators n) v)
     c.in_ok-push.ensures.ok
 
 on_err : {A E P : Type 0} (r : Result A E) → P → OnErr r P

@@ -4,11 +4,11 @@ use Rattle.package_table.specs.Numbers.{numbered}
 use Rattle.lisp_object.specs.Datum.{object_of}
 use Rattle.plist_state.specs.Properties.{with_value, with_value_by}
 use Rattle.plist_state.specs.State.{Worlds}
-use Rattle.plist_state.specs.Shown.{NumberedRest, symbol_named, rest_of}
-use Rattle.plist_state.specs.Sound.{IsSymbol, IsValue, IsSound}
-use Rattle.plist_state.specs.Lists.{same_number, row_of, IsNumber, named_plist, IsOwned}
+use Rattle.plist_state.specs.Views.{NumberedRest, symbol_named, rest_of}
+use Rattle.plist_state.specs.Sound.{IsSymbol, IsValue, IsSoundWorldState}
+use Rattle.plist_state.specs.Lists.{same_number, plist_of_number, IsNumber, named_plist, IsOwned}
 use Rattle.plist_state.specs.Journal.{marks_of}
-use Rattle.plist_state.specs.Marked.{state_in, earlier_states}
+use Rattle.plist_state.specs.MarkedWorlds.{state_in, earlier_states}
 use Rattle.plist_state.specs.Sizes.{AreSizes}
 use Rattle.plist_state.proofs.InState.{with_changed_row, state_listed, world_listed, world_same_err}
 use Rattle.plist_state.proofs.KeptWorld.{kept_rest}
@@ -38,7 +38,7 @@ invariant_of-self c =
     let n = c.number-owner.result in
     let j = c.number-indicator.result in
     let v = object_of c.args.value in
-    let row = row_of r.properties n in
+    let row = plist_of_number r.properties n in
     let made : NumberedRest = with_changed_row r n (λ ps. with_value_by same_number ps j v) in
     let at_home : IsSymbol s.0 x = subst (λ (w : Worlds). IsSymbol w.0.packages x) (sym c.self.view_is) c.requires.symbol in
     let indicator : IsSymbol s.0 i = subst (λ (w : Worlds). IsSymbol w.0.packages i) (sym c.self.view_is) c.requires.indicator in
@@ -57,8 +57,8 @@ invariant_of-self c =
             (owned_put s (symbol_count s.0) c.numbering.ensures r.properties x n _ c.number-owner.ensures numbers c.self.invariant.now.owned);
         marked = kept_continued a.packages.1.marked (marks_of a.marks.items) r a.stored.properties.items c.self.invariant.now.marked (marks_of c.put.new.marks.items) u c.put.new.stored.properties.items
             c.put.ensures.marked (fits_now a.stored.properties.items r refl) c.put.ensures.wider;
-        sound = kept_rest c.put.result (λ q. IsSound (state_in s q)) r made u c.put.ensures.ok c.put.ensures.err c.self.invariant.now.sound
-            (subst IsSound (sym (state_listed s (symbol_count s.0) c.numbering.ensures x n c.number-owner.ensures r (λ ps. with_value_by same_number ps j v) (λ ps. with_value ps i v) same))
+        sound = kept_rest c.put.result (λ q. IsSoundWorldState (state_in s q)) r made u c.put.ensures.ok c.put.ensures.err c.self.invariant.now.sound
+            (subst IsSoundWorldState (sym (state_listed s (symbol_count s.0) c.numbering.ensures x n c.number-owner.ensures r (λ ps. with_value_by same_number ps j v) (λ ps. with_value ps i v) same))
             (sound_put (state_in s r) x i v c.self.invariant.now.sound at_home indicator value));
       };
       earlier = c.self.invariant.earlier;
@@ -75,7 +75,7 @@ returns-clause-ok c =
     world_listed c.put.result (earlier_states a.earlier.items) a.packages (marks_of a.marks.items) (marks_of c.put.new.marks.items) (rest_of a.stored) (rest_of c.put.new.stored) c.put.ensures.marked.same
     c.args.self.now c.self.view_is (symbol_count s.0) c.numbering.ensures (symbol_named c.args.symbol) n c.number-owner.ensures
     (λ ps. with_value_by same_number ps j v) (λ ps. with_value ps i v)
-    (with_named s (symbol_count s.0) c.numbering.ensures i j c.number-indicator.ensures (row_of (rest_of a.stored).properties n) (c.self.invariant.now.owned.indicators n) v)
+    (with_named s (symbol_count s.0) c.numbering.ensures i j c.number-indicator.ensures (plist_of_number (rest_of a.stored).properties n) (c.self.invariant.now.owned.indicators n) v)
     c.put.ensures.ok
 
 pub returns-clause-err : goal.returns-clause-err

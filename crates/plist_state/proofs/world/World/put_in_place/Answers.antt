@@ -1,7 +1,7 @@
 use Rattle.std.proofs.Common.{◌≡◌, ◌<◌, ◌^◌, ◌+◌, ◌++◌, [], ◌∷◌, ℕ, List, length, sym, ap, subst, ◌∙◌, arith}
 use Rattle.plist_state.specs.declared.replaced.Replaced.{Replaced}
 use Rattle.plist_state.specs.State.{Worlds}
-use Rattle.plist_state.specs.Marked.{worlds_in, earlier_states, IsReplaced, AreReplaced}
+use Rattle.plist_state.specs.MarkedWorlds.{worlds_in, earlier_states, IsReplaced, AreReplaced}
 use Rattle.plist_state.proofs.Earlier.{parts, placed, replaced_push}
 use Rattle.plist_state.proofs.world.World.put_in_place.Goals as goal
 

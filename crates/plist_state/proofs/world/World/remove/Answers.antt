@@ -7,11 +7,11 @@ use Rattle.plist_state.specs.Properties as properties
 use Rattle.plist_state.specs.Properties.{without_value, without_value_by}
 use Rattle.plist_state.specs.Changes.{property}
 use Rattle.plist_state.specs.State.{Worlds}
-use Rattle.plist_state.specs.Shown.{NumberedRest, symbol_of, rest_of}
-use Rattle.plist_state.specs.Sound.{IsSymbol, IsSound}
-use Rattle.plist_state.specs.Lists.{same_number, row_of, IsNumber, named_plist, IsOwned}
+use Rattle.plist_state.specs.Views.{NumberedRest, symbol_of, rest_of}
+use Rattle.plist_state.specs.Sound.{IsSymbol, IsSoundWorldState}
+use Rattle.plist_state.specs.Lists.{same_number, plist_of_number, IsNumber, named_plist, IsOwned}
 use Rattle.plist_state.specs.Journal.{marks_of}
-use Rattle.plist_state.specs.Marked.{state_in, earlier_states}
+use Rattle.plist_state.specs.MarkedWorlds.{state_in, earlier_states}
 use Rattle.plist_state.specs.Sizes.{AreSizes}
 use Rattle.plist_state.proofs.InState.{with_changed_row, state_listed, world_listed, world_same_err, property_seen, no_property, property_out}
 use Rattle.plist_state.proofs.KeptWorld.{kept_rest}
@@ -58,7 +58,7 @@ invariant_of-self c =
     let i : properties.Symbol = symbol_of c.args.indicator.now in
     let n = c.number-owner.result in
     let j = c.in-Some.indicator in
-    let row = row_of r.properties n in
+    let row = plist_of_number r.properties n in
     let is : number_of s i.0 i.1 ≡ Some j = (λ k. number_of s (sym c.home.ensures k) (sym c.name.ensures k)) ∙ sym c.in-Some.ensures in
     let made : NumberedRest = with_changed_row r n (λ ps. without_value_by same_number ps j) in
     let at_home : IsSymbol s.0 x = subst (λ (w : Worlds). IsSymbol w.0.packages x) (sym c.self.view_is) c.requires in
@@ -76,8 +76,8 @@ invariant_of-self c =
             (all_without same_number (λ p. IsNumber s p.0) row j (c.self.invariant.now.owned.indicators n)) c.self.invariant.now.owned);
         marked = kept_continued a.packages.1.marked (marks_of a.marks.items) r a.stored.properties.items c.self.invariant.now.marked (marks_of c.remove.new.marks.items) u c.remove.new.stored.properties.items
             c.remove.ensures.marked (fits_now a.stored.properties.items r refl) c.remove.ensures.wider;
-        sound = kept_rest c.remove.result (λ q. IsSound (state_in s q)) r made u c.remove.ensures.ok c.remove.ensures.err c.self.invariant.now.sound
-            (subst IsSound (sym (state_listed s (symbol_count s.0) c.numbering.ensures x n owner_is r (λ ps. without_value_by same_number ps j) (λ ps. without_value ps i) same))
+        sound = kept_rest c.remove.result (λ q. IsSoundWorldState (state_in s q)) r made u c.remove.ensures.ok c.remove.ensures.err c.self.invariant.now.sound
+            (subst IsSoundWorldState (sym (state_listed s (symbol_count s.0) c.numbering.ensures x n owner_is r (λ ps. without_value_by same_number ps j) (λ ps. without_value ps i) same))
             (sound_removed (state_in s r) x i c.self.invariant.now.sound at_home));
       };
       earlier = c.self.invariant.earlier;
@@ -95,7 +95,7 @@ returns-clause-ok c =
     world_listed c.remove.result (earlier_states a.earlier.items) a.packages (marks_of a.marks.items) (marks_of c.remove.new.marks.items) (rest_of a.stored) (rest_of c.remove.new.stored) c.remove.ensures.marked.same
     c.args.self.now c.self.view_is (symbol_count s.0) c.numbering.ensures (symbol_of c.args.symbol.now) n owner_is
     (λ ps. without_value_by same_number ps j) (λ ps. without_value ps i)
-    (without_named s (symbol_count s.0) c.numbering.ensures i j is (row_of (rest_of a.stored).properties n) (c.self.invariant.now.owned.indicators n))
+    (without_named s (symbol_count s.0) c.numbering.ensures i j is (plist_of_number (rest_of a.stored).properties n) (c.self.invariant.now.owned.indicators n))
     c.remove.ensures.ok
 
 pub returns-clause-err : goal.returns-clause-err

@@ -1,12 +1,12 @@
 use Rattle.std.proofs.Common.{◌≡◌, ℕ, rules, refl, sym, ap, subst, ◌∙◌}
 use Rattle.std.specs.Global.{Vec}
 use Rattle.package_table.specs.Table.{IsPackage}
-use Rattle.plist_state.specs.Sound.{IsSound}
+use Rattle.plist_state.specs.Sound.{IsSoundWorldState}
 use Rattle.plist_state.specs.declared.note.Note.TheVariants.{InPackage}
 use Rattle.package_table.specs.Numbers.{numbered}
 use Rattle.plist_state.specs.State.{WorldState}
-use Rattle.plist_state.specs.Shown.{NumberedRest, rest_of}
-use Rattle.plist_state.specs.Marked.{state_in}
+use Rattle.plist_state.specs.Views.{NumberedRest, rest_of}
+use Rattle.plist_state.specs.MarkedWorlds.{state_in}
 use Rattle.plist_state.specs.Journal.{marks_of}
 use Rattle.plist_state.proofs.ListRows.{wider_same}
 use Rattle.plist_state.proofs.Notes.{continues_noted, fits_now}
@@ -28,7 +28,7 @@ invariant_of-self-2 c =
         indexed = c.self.invariant.now.indexed;
         sizes = c.self.invariant.now.sizes;
         owned = c.self.invariant.now.owned;
-        sound = subst (λ n. IsSound (record s { current_package = n })) (sym named) (sound_in_package s c.args.name.now c.self.invariant.now.sound there);
+        sound = subst (λ n. IsSoundWorldState (record s { current_package = n })) (sym named) (sound_in_package s c.args.name.now c.self.invariant.now.sound there);
         marked = kept_continued a.packages.1.marked (marks_of a.marks.items) r a.stored.properties.items c.self.invariant.now.marked (marks_of c.push_note.new.marks.items) u a.stored.properties.items
             (continues_noted (marks_of a.marks.items) _ (marks_of c.push_note.new.marks.items) (InPackage c.replace-before.result) r u c.in_ok-name.ensures.same c.push_note.ensures tt
             (λ i. record r { current_package = (c.replace-before.ensures.value i).items }))

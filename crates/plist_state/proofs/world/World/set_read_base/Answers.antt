@@ -1,9 +1,9 @@
 use Rattle.std.proofs.Common.{refl}
 use Rattle.package_table.specs.Numbers.{numbered}
 use Rattle.plist_state.specs.declared.note.Note.TheVariants.{InBase}
-use Rattle.plist_state.specs.Shown.{NumberedRest, rest_of}
+use Rattle.plist_state.specs.Views.{NumberedRest, rest_of}
 use Rattle.plist_state.specs.Journal.{marks_of}
-use Rattle.plist_state.specs.Marked.{state_in}
+use Rattle.plist_state.specs.MarkedWorlds.{state_in}
 use Rattle.plist_state.proofs.ListRows.{wider_same}
 use Rattle.plist_state.proofs.Notes.{continues_noted, fits_now}
 use Rattle.plist_state.proofs.Marking.{kept_continued}

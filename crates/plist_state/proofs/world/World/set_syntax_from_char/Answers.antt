@@ -1,7 +1,7 @@
 use Rattle.package_table.specs.Numbers.{numbered}
 use Rattle.plist_state.specs.State.{WorldState}
-use Rattle.plist_state.specs.Marked.{state_in}
-use Rattle.plist_state.specs.Shown.{rest_of}
+use Rattle.plist_state.specs.MarkedWorlds.{state_in}
+use Rattle.plist_state.specs.Views.{rest_of}
 use Rattle.plist_state.proofs.KeptWorld.{sound_syntax}
 use Rattle.plist_state.proofs.Left.{left_kept, left_marked, left_refused}
 use Rattle.plist_state.proofs.world.World.set_syntax_from_char.Goals as goal

@@ -2,12 +2,12 @@ use Rattle.std.proofs.Common.{◌≡◌, [], ◌++◌, sym, ap, subst, ◌∙◌
 use Rattle.package_table.specs.Numbers.{Numbered, Tables, numbered, without_marks}
 use Rattle.plist_state.specs.State.{Worlds}
 use Rattle.plist_state.specs.Lists.{IsOwned}
-use Rattle.plist_state.specs.Shown.{NumberedRest, rest_of}
-use Rattle.plist_state.specs.Sound.{IsSound}
+use Rattle.plist_state.specs.Views.{NumberedRest, rest_of}
+use Rattle.plist_state.specs.Sound.{IsSoundWorldState}
 use Rattle.plist_state.specs.Sizes.{AreSizes}
 use Rattle.plist_state.specs.Undoing.{rests_at}
 use Rattle.plist_state.specs.Journal.{marks_of}
-use Rattle.plist_state.specs.Marked.{state_in, marked_states, earlier_states}
+use Rattle.plist_state.specs.MarkedWorlds.{state_in, marked_states, earlier_states}
 use Rattle.plist_state.proofs.Marking.{kept_none}
 use Rattle.plist_state.proofs.Earlier.{replaced_none}
 use Rattle.plist_state.proofs.world.World.settle.Goals as goal
@@ -26,7 +26,7 @@ invariant_of-self c =
         indexed = c.tidy.ensures.indexed;
         sizes = subst (λ (q : NumberedRest). AreSizes q.properties a.sizes.entries) (sym rest) c.self.invariant.now.sizes;
         owned = subst (λ (p : Numbered × NumberedRest). IsOwned p.0 p.1.properties) (sym both) c.self.invariant.now.owned;
-        sound = subst (λ (p : Numbered × NumberedRest). IsSound (state_in p.0 p.1)) (sym both) c.self.invariant.now.sound;
+        sound = subst (λ (p : Numbered × NumberedRest). IsSoundWorldState (state_in p.0 p.1)) (sym both) c.self.invariant.now.sound;
         marked = kept_none c.settle.new.self.1.marked (marks_of c.let_go.new.marks.items) u c.tidy.new.stored.properties.items
             (ap (λ (ts : Tables). ts.1.marked) packages) (ap marks_of c.let_go.ensures);
       };

@@ -2,16 +2,16 @@ use Rattle.std.proofs.Common.{◌≡◌, true, refl, sym, ap, subst, ◌∙◌}
 use Rattle.package_table.specs.Table.{symbol_count}
 use Rattle.package_table.specs.Numbers.{numbered}
 use Rattle.lisp_object.specs.Object.{Object}
-use Rattle.plist_state.specs.Properties.{same_symbol, value_by}
+use Rattle.plist_state.specs.Properties.{same_symbol, value_beside}
 use Rattle.plist_state.specs.State.{Worlds}
 use Rattle.plist_state.specs.Changes.{property}
 use Rattle.plist_state.specs.Pushed.{holds_pair}
 use Rattle.plist_state.specs.Popped.{popped, with_popped_by}
-use Rattle.plist_state.specs.Shown.{NumberedRest, symbol_of, rest_of}
-use Rattle.plist_state.specs.Sound.{IsSymbol, IsValue, IsSound}
-use Rattle.plist_state.specs.Lists.{same_number, row_of, IsNumber, named_plist, IsOwned}
+use Rattle.plist_state.specs.Views.{NumberedRest, symbol_of, rest_of}
+use Rattle.plist_state.specs.Sound.{IsSymbol, IsValue, IsSoundWorldState}
+use Rattle.plist_state.specs.Lists.{same_number, plist_of_number, IsNumber, named_plist, IsOwned}
 use Rattle.plist_state.specs.Journal.{marks_of}
-use Rattle.plist_state.specs.Marked.{state_in, earlier_states}
+use Rattle.plist_state.specs.MarkedWorlds.{state_in, earlier_states}
 use Rattle.plist_state.specs.Sizes.{AreSizes}
 use Rattle.plist_state.proofs.InState.{with_changed_row, state_listed, world_listed, world_same_err, property_seen}
 use Rattle.plist_state.proofs.KeptWorld.{kept_rest}
@@ -54,8 +54,8 @@ invariant_of-self c =
     let i = symbol_of c.args.indicator.now in
     let n = c.number-owner.result in
     let j = c.number-indicator.result in
-    let row = row_of r.properties n in
-    let rest : Object = popped (value_by same_number row j) in
+    let row = plist_of_number r.properties n in
+    let rest : Object = popped (value_beside same_number row j) in
     let made : NumberedRest = with_changed_row r n (λ ps. with_popped_by same_number ps j) in
     let at_home : IsSymbol s.0 x = subst (λ (w : Worlds). IsSymbol w.0.packages x) (sym c.self.view_is) c.requires.symbol in
     let indicator : IsSymbol s.0 i = subst (λ (w : Worlds). IsSymbol w.0.packages i) (sym c.self.view_is) c.requires.indicator in
@@ -75,8 +75,8 @@ invariant_of-self c =
             (owned_put s (symbol_count s.0) c.numbering.ensures r.properties x n _ owner_is numbers c.self.invariant.now.owned);
         marked = kept_continued a.packages.1.marked (marks_of a.marks.items) r a.stored.properties.items c.self.invariant.now.marked (marks_of c.pop.new.marks.items) u c.pop.new.stored.properties.items
             c.pop.ensures.marked (fits_now a.stored.properties.items r refl) c.pop.ensures.wider;
-        sound = kept_rest c.pop.result (λ q. IsSound (state_in s q)) r made u c.pop.ensures.ok c.pop.ensures.err c.self.invariant.now.sound
-            (subst IsSound (sym (state_listed s (symbol_count s.0) c.numbering.ensures x n owner_is r (λ ps. with_popped_by same_number ps j) (λ ps. with_popped_by same_symbol ps i) same))
+        sound = kept_rest c.pop.result (λ q. IsSoundWorldState (state_in s q)) r made u c.pop.ensures.ok c.pop.ensures.err c.self.invariant.now.sound
+            (subst IsSoundWorldState (sym (state_listed s (symbol_count s.0) c.numbering.ensures x n owner_is r (λ ps. with_popped_by same_number ps j) (λ ps. with_popped_by same_symbol ps i) same))
             (sound_put (state_in s r) x i (popped (property (state_in s r) x i)) c.self.invariant.now.sound at_home indicator value));
       };
       earlier = c.self.invariant.earlier;
@@ -95,7 +95,7 @@ returns-clause-ok c =
     (world_listed c.pop.result (earlier_states a.earlier.items) a.packages (marks_of a.marks.items) (marks_of c.pop.new.marks.items) (rest_of a.stored) (rest_of c.pop.new.stored) c.pop.ensures.marked.same
     c.args.self.now c.self.view_is (symbol_count s.0) c.numbering.ensures (symbol_of c.args.symbol.now) n owner_is
     (λ ps. with_popped_by same_number ps j) (λ ps. with_popped_by same_symbol ps i)
-    (popped_named s (symbol_count s.0) c.numbering.ensures i j indicator_is (row_of (rest_of a.stored).properties n) (c.self.invariant.now.owned.indicators n))
+    (popped_named s (symbol_count s.0) c.numbering.ensures i j indicator_is (plist_of_number (rest_of a.stored).properties n) (c.self.invariant.now.owned.indicators n))
     c.pop.ensures.ok)
 
 pub returns-clause-err : goal.returns-clause-err

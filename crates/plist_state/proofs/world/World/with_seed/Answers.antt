@@ -1,12 +1,12 @@
 use Rattle.std.proofs.Common.{◌≡◌, List, [], ◌++◌, sym, ap, subst}
 use Rattle.package_table.specs.Numbers.{Numbered, numbered}
 use Rattle.plist_state.specs.State.{initial}
-use Rattle.plist_state.specs.Sound.{IsSound}
+use Rattle.plist_state.specs.Sound.{IsSoundWorldState}
 use Rattle.plist_state.specs.Lists.{IsOwned}
-use Rattle.plist_state.specs.Shown.{NumberedRest, rest_of}
+use Rattle.plist_state.specs.Views.{NumberedRest, rest_of}
 use Rattle.plist_state.specs.Undoing.{rests_at}
 use Rattle.plist_state.specs.Journal.{marks_of}
-use Rattle.plist_state.specs.Marked.{state_in, marked_states, earlier_states}
+use Rattle.plist_state.specs.MarkedWorlds.{state_in, marked_states, earlier_states}
 use Rattle.plist_state.proofs.Listed.{owned_empty}
 use Rattle.plist_state.proofs.Marking.{kept_none}
 use Rattle.plist_state.proofs.Earlier.{replaced_none}
@@ -25,7 +25,7 @@ invariant_of-result c =
         sizes = no_sizes r.properties c.new-2.result.entries c.new-2.ensures.empty;
         owned = subst (λ (q : NumberedRest). IsOwned (numbered ps) q.properties) (sym c.in_ok-first_stored.ensures.first) (owned_empty (numbered ps));
         marked = kept_none ps.1.marked (marks_of c.new.result.items) r c.in_ok-first_stored.field-0.properties.items c.in_ok-packages.ensures.marked (ap marks_of c.new.ensures.items);
-        sound = subst IsSound (sym (first_state (numbered ps) r c.in_ok-packages.ensures.table c.in_ok-first_stored.ensures.first)) first_sound;
+        sound = subst IsSoundWorldState (sym (first_state (numbered ps) r c.in_ok-packages.ensures.table c.in_ok-first_stored.ensures.first)) first_sound;
       };
       earlier = replaced_none c.new-3.result.items c.new-3.ensures.items;
     }

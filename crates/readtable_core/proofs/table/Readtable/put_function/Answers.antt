@@ -1,5 +1,5 @@
 use Rattle.readtable_core.proofs.Sound.{kept}
-use Rattle.readtable_core.specs.Kept.{table_inside}
+use Rattle.readtable_core.specs.Views.{table_inside}
 use Rattle.readtable_core.proofs.table.Readtable.put_function.Goals as goal
 
 pub invariant_of-self : goal.invariant_of-self

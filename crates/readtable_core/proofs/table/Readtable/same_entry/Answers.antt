@@ -1,7 +1,7 @@
 use Rattle.std.proofs.Common.{◌≡◌, ◌∙◌, sym, rules}
 use Rattle.readtable_core.proofs.Named.{same_is, same_itself}
 use Rattle.readtable_core.specs.Tables.{entry_at}
-use Rattle.readtable_core.specs.Named.{same_entry}
+use Rattle.readtable_core.specs.NamedFunctions.{same_entry}
 use Rattle.readtable_core.proofs.table.Readtable.same_entry.Goals as goal
 
 pub returns-in-Some-get-clause-equal : goal.returns-in-Some-get-clause-equal

@@ -1,6 +1,6 @@
 use Rattle.std.proofs.Common.{◌≡◌, true, map, take}
 use Rattle.std.specs.List.{list_all}
-use Rattle.readtable_core.specs.Named.{functions_at}
+use Rattle.readtable_core.specs.NamedFunctions.{functions_at}
 use Rattle.user_macros.specs.Registry.{is_covered}
 use Rattle.user_macros.proofs.registry.MacrosMacroFunctions.covers.Given as goal
 

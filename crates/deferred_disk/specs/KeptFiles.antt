@@ -9,5 +9,5 @@ pub record IsKeptOf (kept : KeptBytes) (file : List ℕ) : Type 0 where
   pub bytes : kept.bytes.items ≡ take (length kept.bytes.items) file
 
 -- all bytes of the file are kept
-abbrev pub IsWhole : KeptBytes → Type 0
-IsWhole kept = length kept.bytes.items ≡ kept.len
+abbrev pub IsKeptWhole : KeptBytes → Type 0
+IsKeptWhole kept = length kept.bytes.items ≡ kept.len

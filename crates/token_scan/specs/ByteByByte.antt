@@ -57,12 +57,12 @@ marks_by mark MultipleEscape = Bar ∷ []
 marks_by mark _ = mark ∷ []
 
 -- the marks that a byte adds where it is taken
-abbrev pub marks_of : Stage → TypedByte → List Mark
-marks_of Outside x = marks_by (Plain x.byte) (kind x)
-marks_of Inside x = marks_by (Quoted x.byte) (kind x)
-marks_of EscapedOutside x = Quoted x.byte ∷ []
-marks_of EscapedInside x = Quoted x.byte ∷ []
-marks_of (Refused refusal) x = []
+abbrev pub marks_of_byte : Stage → TypedByte → List Mark
+marks_of_byte Outside x = marks_by (Plain x.byte) (kind x)
+marks_of_byte Inside x = marks_by (Quoted x.byte) (kind x)
+marks_of_byte EscapedOutside x = Quoted x.byte ∷ []
+marks_of_byte EscapedInside x = Quoted x.byte ∷ []
+marks_of_byte (Refused refusal) x = []
 
 -- What the token gives if this text follows the byte.
 abbrev pub fed_gives : FedByte → Scan → ℕ → TypedByte → List TypedByte → Scanned
@@ -77,4 +77,4 @@ LeavesBy marks ends Ended old new = (new ≡ old) × (old.stage ≡ Outside) × 
 LeavesBy marks ends (FedRefused refusal) old new = new ≡ refused old refusal
 
 abbrev pub ScanLeaves : FedByte → Scan → TypedByte → Scan → Type 0
-ScanLeaves fed old x new = LeavesBy (marks_of old.stage x) (ends_tokens (kind x)) fed old new
+ScanLeaves fed old x new = LeavesBy (marks_of_byte old.stage x) (ends_tokens (kind x)) fed old new

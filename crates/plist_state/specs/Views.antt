@@ -10,7 +10,7 @@ use Rattle.lisp_object.specs.Object.{Object}
 use Rattle.lisp_object.specs.Datum.{object_of}
 use Rattle.readtable_core.specs.Tables as readtable
 use Rattle.package_table.specs.Table.{Name}
-use Rattle.package_table.specs.Shown.{as_map}
+use Rattle.package_table.specs.Views.{as_map}
 use Rattle.plist_state.specs.declared.symbol.Symbol.{Symbol}
 use Rattle.plist_state.specs.declared.symbol.BorrowedSymbol.{BorrowedSymbol}
 use Rattle.plist_state.specs.declared.property.Property.{Property}
@@ -33,6 +33,7 @@ property_of p = ((p.home.now, p.name.now), object_of p.value.now)
 abbrev pub numbered_property : NumberedProperty → ℕ × Object
 numbered_property p = (p.indicator, object_of p.value)
 
+-- the properties of a row, by the numbers of their indicators
 abbrev pub plist_of : PropertyRow → NumberedPlist
 plist_of row = map numbered_property row.items
 
@@ -53,6 +54,7 @@ lists_from n (row ∷ rows) = with_row (lists_from (suc n) rows) n (plist_of row
 abbrev pub lists_in : Rows → NumberedLists
 lists_in rows = lists_from 0 rows
 
+-- the rows of all symbols, by the numbers of these
 abbrev pub lists_of : Vec PropertyRow → NumberedLists
 lists_of rows = lists_in rows.items
 

@@ -14,8 +14,8 @@ use Rattle.disk_trait.specs.declared.host.HostError.{HostError}
 use Rattle.disk_trait.specs.declared.host.HostError.TheVariants.{NoName}
 use Rattle.disk_trait.specs.declared.host.IfMissing.{IfMissing}
 use Rattle.lisp_object.specs.declared.refusal.TheConstants.{INPUT, NO_MEMORY}
-use Rattle.log_look.specs.Cut.{IsCut, IsNoPlace, LogIsUnopened as IsNoLog}
-use Rattle.log_look.specs.SeenState.{state_of}
+use Rattle.log_look.specs.FirstRecords.{IsCut, IsNoPlace, LogIsUnopened as IsNoLog}
+use Rattle.log_look.specs.SeenState.{state_of_sight}
 use Rattle.log_look.specs.declared.error.LogError.{LogError}
 use Rattle.log_look.specs.declared.host.Figures.{Figures}
 use Rattle.log_look.specs.declared.sight.Sight.{Sight}
@@ -30,15 +30,15 @@ use Rattle.store_commands.specs.Texts.{TellsText}
 use Rattle.store_commands.specs.Status.{IsOfWords}
 use Rattle.store_commands.specs.declared.status.Status.{Status}
 use Rattle.store_commands.specs.declared.status.Status.TheVariants as statuses
-use Rattle.store_looks.specs.Unlooked.{IsOfBackup, of_log, of_show, status_of}
+use Rattle.store_looks.specs.FailedLooks.{IsOfBackup, of_log, of_show, status_of}
 use Rattle.store_looks.specs.declared.unlooked.Unlooked.{Unlooked}
 use Rattle.store_looks.specs.declared.unlooked.Unlooked.TheVariants as unlooked
-use Rattle.store_reports.specs.Backup.{IsMade, IsUnmade}
+use Rattle.store_reports.specs.Backup.{IsBackupMade, IsUnmade}
 use Rattle.store_reports.specs.Figures.{AreFiguresOf, file_info_text, info_text, verified_text}
 use Rattle.store_reports.specs.Log.{IsLogText, least_records}
 use Rattle.store_reports.specs.Places.{Deed}
 use Rattle.store_reports.specs.Counted.{IsCountText, IsNoCount}
-use Rattle.store_reports.specs.Shown.{IsShown, IsUnshown}
+use Rattle.store_reports.specs.ShownProperties.{IsShown, IsUnshown}
 use Rattle.store_reports.specs.declared.backups.BackupError.{BackupError}
 use Rattle.store_reports.specs.declared.figures.HalfFigures.{HalfFigures}
 use Rattle.store_reports.specs.declared.log.LogPart.{LogPart}
@@ -53,7 +53,7 @@ use Rattle.user_macros.specs.Functions.{Functions}
 
 -- The files of a folder are opened so, of which one is a half in use; no folder has an empty name.
 unfoldable pub Sees : (Sight → Option HostError → Type 0) → (Text → IfMissing → Result Sight HostError → Type 0) → Text → Result Sight HostError → Type 0
-Sees tells opens folder result = ((folder ≡ []) × (result ≡ Err NoName)) ⊎ ((folder ≢ []) × OpensStore state_of tells opens folder true result)
+Sees tells opens folder result = ((folder ≡ []) × (result ≡ Err NoName)) ⊎ ((folder ≢ []) × OpensStore state_of_sight tells opens folder true result)
 
 -- ---- the system
 
@@ -70,7 +70,7 @@ pub record System : Type 1 where
 abbrev pub system_of : (Text → Result Figures HostError → Type 0) → {D : Type 0} → (D → State) → (Deed D → Type 0) → System
 system_of measures state does = record {
   measures = measures;
-  made = λ dir world. IsMade state does half_limit world dir;
+  made = λ dir world. IsBackupMade state does half_limit world dir;
   unmade = λ dir world error. IsUnmade state does half_limit world dir error;
 }
 
@@ -111,18 +111,18 @@ part_of records = record {
 -- the lines of those that are asked for were written
 unfoldable pub TellsLog : Option (List ℕ) → Option (List ℕ) → Records → Sight → Status → Type 0
 TellsLog held written records sight status =
-    (text : List ℕ) × IsLogText (part_of records) (state_of sight).reads text × TellsText status held written text
+    (text : List ℕ) × IsLogText (part_of records) (state_of_sight sight).reads text × TellsText status held written text
 
 unfoldable pub WithholdsLog : Records → Sight → Unlooked → Type 0
 WithholdsLog records sight why =
-    (error : LogError) × IsNoPlace (least_records records.from.number) records.from.generation error (state_of sight).reads × (why ≡ of_log error)
+    (error : LogError) × IsNoPlace (least_records records.from.number) records.from.generation error (state_of_sight sight).reads × (why ≡ of_log error)
 
 -- ---- the files that were seen
 
 -- the figures of the half in use that was seen, and of the files as they were measured
 pub record TellsFileFigures (held written : Option (List ℕ)) (notation : Notation) (measured : Result Figures HostError → Type 0) (sight : Sight) (status : Status) : Type 0 where
   pub half : HalfFigures
-  pub figures : AreFiguresOf (state_of sight).reads half
+  pub figures : AreFiguresOf (state_of_sight sight).reads half
   pub files : Figures
   pub are_measured : measured (Ok files)
   pub tells : TellsText status held written (file_info_text notation half files)
@@ -131,15 +131,15 @@ pub record TellsFileFigures (held written : Option (List ℕ)) (notation : Notat
 unfoldable pub WithholdsFileFigures : (Result Figures HostError → Type 0) → Sight → Unlooked → Type 0
 WithholdsFileFigures measured sight why =
     ((error : HostError) × measured (Err error) × (why ≡ unlooked.Host error))
-    ⊎ (((error : LogError) × IsNoLog error (state_of sight).reads × (why ≡ of_log error)) ⊎ (why ≡ unlooked.Fault NO_MEMORY))
+    ⊎ (((error : LogError) × IsNoLog error (state_of_sight sight).reads × (why ≡ of_log error)) ⊎ (why ≡ unlooked.Fault NO_MEMORY))
 
 -- ---- a store that was seen is opened in memory, with these macro functions
 
 module _ (functions : Functions) {R : Type 0} (macros : R) where
   -- a text of its world was written
-  pub record Tells (Is : WorldState → List ℕ → Type 0) (sight : Sight) (held written : Option (List ℕ)) (status : Status) : Type 0 where
+  pub record TellsOfWorld (Is : WorldState → List ℕ → Type 0) (sight : Sight) (held written : Option (List ℕ)) (status : Status) : Type 0 where
     pub opened : StoreView Sight R
-    pub is_opened : IsOpened functions state_of sight macros half_limit opened
+    pub is_opened : IsOpened functions state_of_sight sight macros half_limit opened
     pub text : List ℕ
     pub is : Is is_opened.world text
     pub tells : TellsText status held written text
@@ -147,7 +147,7 @@ module _ (functions : Functions) {R : Type 0} (macros : R) where
   -- it was opened, and this is so of its world
   pub record Has (Is : WorldState → Type 0) (sight : Sight) : Type 0 where
     pub opened : StoreView Sight R
-    pub is_opened : IsOpened functions state_of sight macros half_limit opened
+    pub is_opened : IsOpened functions state_of_sight sight macros half_limit opened
     pub is : Is is_opened.world
 
   -- a backup was made of its world
@@ -160,12 +160,12 @@ module _ (functions : Functions) {R : Type 0} (macros : R) where
     -- the figures of the half in use that was seen, of its world, and of the files as they were measured
     pub record TellsFigures (notation : Notation) (measured : Result Figures HostError → Type 0) (sight : Sight) (status : Status) : Type 0 where
       pub half : HalfFigures
-      pub figures : AreFiguresOf (state_of sight).reads half
+      pub figures : AreFiguresOf (state_of_sight sight).reads half
       pub files : Figures
       pub are_measured : measured (Ok files)
       pub same : Sight
-      pub reads : (state_of same).reads ≡ (state_of sight).reads
-      pub tells : Tells (λ world text. text ≡ info_text notation half world files) same held written status
+      pub reads : (state_of_sight same).reads ≡ (state_of_sight sight).reads
+      pub tells : TellsOfWorld (λ world text. text ≡ info_text notation half world files) same held written status
 
     -- those of the half in use that was seen and of the files, or these with those of its world
     unfoldable pub TellsInfo : InfoPart → (Result Figures HostError → Type 0) → Sight → Status → Type 0
@@ -177,18 +177,18 @@ module _ (functions : Functions) {R : Type 0} (macros : R) where
     unfoldable pub TellsShown : Shown → Sight → Status → Type 0
     TellsShown shown sight status =
         (selection : Selection) × IsSelection shown selection
-        × Tells (TellsProperties shown.count (notation_of shown.json) selection) sight held written status
+        × TellsOfWorld (TellsProperties shown.count (notation_of shown.json) selection) sight held written status
 
     -- the text of the world after so many records
     unfoldable pub TellsDump : RecordPlace → Sight → Status → Type 0
     TellsDump place sight status =
-        (cut : Sight) × IsCut place.number place.generation (state_of sight).reads (state_of cut).reads
-        × ((back : Sight) × IsReport functions state_of reports.Dump cut macros held written status back)
+        (cut : Sight) × IsCut place.number place.generation (state_of_sight sight).reads (state_of_sight cut).reads
+        × ((back : Sight) × IsReport functions state_of_sight reports.Dump cut macros held written status back)
 
     -- the half in use and the position of messages
     pub record TellsVerified (sight : Sight) (status : Status) : Type 0 where
       pub opened : StoreView Sight R
-      pub is_opened : IsOpened functions state_of sight macros half_limit opened
+      pub is_opened : IsOpened functions state_of_sight sight macros half_limit opened
       pub tells : TellsText status held written (verified_text opened.half opened.generation opened.record_count (position is_opened.world))
 
     unfoldable pub TellsLook : System → Text → Look → Sight → Status → Type 0
@@ -202,7 +202,7 @@ module _ (functions : Functions) {R : Type 0} (macros : R) where
 -- it was not opened, all macro functions registered or not
 unfoldable pub Unopens : Functions → Bool → Sight → Unlooked → Type 0
 Unopens functions whole sight why =
-    (number : ℕ) × (back : Sight) × IsUnopened functions state_of sight whole half_limit number back × (why ≡ unlooked.Fault number)
+    (number : ℕ) × (back : Sight) × IsUnopened functions state_of_sight sight whole half_limit number back × (why ≡ unlooked.Fault number)
 
 -- nor, where memory was refused, told of
 unfoldable pub WithholdsVerified : Functions → Bool → Sight → Unlooked → Type 0
@@ -214,8 +214,8 @@ module _ (functions : Functions) {R : Type 0} (macros : R) (whole : Bool) where
   unfoldable pub WithholdsFigures : (Result Figures HostError → Type 0) → Sight → Unlooked → Type 0
   WithholdsFigures measured sight why =
       ((error : HostError) × measured (Err error) × (why ≡ unlooked.Host error))
-      ⊎ (((error : LogError) × IsNoLog error (state_of sight).reads × (why ≡ of_log error))
-      ⊎ ((same : Sight) × ((state_of same).reads ≡ (state_of sight).reads) × (Unopens functions whole same why ⊎ (why ≡ unlooked.Fault NO_MEMORY))))
+      ⊎ (((error : LogError) × IsNoLog error (state_of_sight sight).reads × (why ≡ of_log error))
+      ⊎ ((same : Sight) × ((state_of_sight same).reads ≡ (state_of_sight sight).reads) × (Unopens functions whole same why ⊎ (why ≡ unlooked.Fault NO_MEMORY))))
 
   unfoldable pub WithholdsInfo : InfoPart → (Result Figures HostError → Type 0) → Sight → Unlooked → Type 0
   WithholdsInfo part measured sight why =
@@ -229,8 +229,8 @@ module _ (functions : Functions) {R : Type 0} (macros : R) (whole : Bool) where
 
   unfoldable pub WithholdsDump : RecordPlace → Sight → Unlooked → Type 0
   WithholdsDump place sight why =
-      ((error : LogError) × IsNoPlace place.number place.generation error (state_of sight).reads × (why ≡ of_log error))
-      ⊎ ((cut : Sight) × IsCut place.number place.generation (state_of sight).reads (state_of cut).reads × Unopens functions whole cut why)
+      ((error : LogError) × IsNoPlace place.number place.generation error (state_of_sight sight).reads × (why ≡ of_log error))
+      ⊎ ((cut : Sight) × IsCut place.number place.generation (state_of_sight sight).reads (state_of_sight cut).reads × Unopens functions whole cut why)
 
   -- the store was not opened, or a backup of its world was not made
   unfoldable pub WithholdsBackup : (WorldState → BackupError → Type 0) → Sight → Unlooked → Type 0
@@ -264,8 +264,8 @@ module _ (functions : Functions) {R : Type 0} (macros : R) (whole : Bool) (syste
       (WithholdsLook functions macros whole system folder look sight)))
 
   -- the words are refused, or ask for help; or they ask for a look, which ended so
-  unfoldable pub Looks : List Text → Option (List ℕ) → Option (List ℕ) → Status → Type 0
-  Looks words held written status =
+  unfoldable pub LooksAsAsked : List Text → Option (List ℕ) → Option (List ℕ) → Status → Type 0
+  LooksAsAsked words held written status =
       IsOfWords status
       ⊎ ((folder : Text) × (look : Look) × AsksToLook words folder look
       × ((ended : Result Status Unlooked) × (status ≡ status_in ended) × LooksAt folder look held written ended))

@@ -5,7 +5,7 @@ use Rattle.std.specs.Map.{lookup}
 use Rattle.std.specs.BTreeMap.{BTreeMap, is_at}
 use Rattle.property_rows.specs.declared.property.NumberedProperty.{NumberedProperty}
 use Rattle.property_rows.specs.Rows.{PropertyRow}
-use Rattle.plist_state.specs.Shown.{Rows, row_at}
+use Rattle.plist_state.specs.Views.{Rows, row_at}
 
 -- indicators, each with the order of its property
 abbrev pub Orders : Type 0
@@ -39,6 +39,7 @@ pub record IsIndexed (x ks : Orders) : Type 0 where
 abbrev pub Index : Type 0
 Index = BTreeMap ℕ ℕ
 
+-- the indexes, by the numbers of their rows
 abbrev pub Indexes : Type 0
 Indexes = List (ℕ × Index)
 

@@ -7,8 +7,8 @@ use Rattle.plist_state.specs.declared.note.PropertyChange.TheVariants.{Set, Adde
 use Rattle.plist_state.specs.declared.note.Note.{Note}
 use Rattle.plist_state.specs.declared.note.Note.TheVariants.{Property, Made, Changed, InPackage, InReadtable, InBase}
 use Rattle.plist_state.specs.declared.overwritten.PropertyPlace.{PropertyPlace}
-use Rattle.plist_state.specs.Lists.{row_of, with_row}
-use Rattle.plist_state.specs.Shown.{NumberedRest}
+use Rattle.plist_state.specs.Lists.{plist_of_number, with_row}
+use Rattle.plist_state.specs.Views.{NumberedRest}
 use Rattle.plist_state.specs.Undoing.{with_value_at, undone}
 use Rattle.plist_state.specs.Journal.{Continues}
 
@@ -30,23 +30,23 @@ before_note x (InPackage name) p = Some p
 before_note x (InReadtable name) p = Some p
 before_note x (InBase base) p = Some p
 
--- and of notes, of which the last is undone first
+-- where the place was before these notes, of which the last is undone first
 abbrev pub before_notes : ℕ → List Note → PropertyPlace → Option PropertyPlace
 before_notes x [] p = Some p
 before_notes x (n ∷ ns) p = option_and_then (before_note x n) (before_notes x ns p)
 
 -- with this value at an index of the list of the symbol x
 abbrev pub with_at : NumberedRest → ℕ → ℕ → Object → NumberedRest
-with_at r x index v = record r { properties = with_row r.properties x (with_value_at (row_of r.properties x) index v) }
+with_at r x index v = record r { properties = with_row r.properties x (with_value_at (plist_of_number r.properties x) index v) }
 
 -- There is a property at this place, and whatever it has, one gets back to the same.
 pub record IsOverwritten (ms : List (List Note)) (x : ℕ) (p : PropertyPlace) : Type 0 where
   pub within : p.index < p.length
-  pub same : (r : NumberedRest) (v : Object) → length (row_of r.properties x) ≡ p.length
+  pub same : (r : NumberedRest) (v : Object) → length (plist_of_number r.properties x) ≡ p.length
       → Continues ms r ms (with_at r x p.index v) × Continues ms (with_at r x p.index v) ms r
 
 -- Where the list of the symbol x had so many properties before a change, a note of the other change leads back as well.
 abbrev pub LeadsBackAs : List (List Note) → ℕ → ℕ → PropertyChange → PropertyChange → Type 0
 LeadsBackAs ms x count change other =
-    (ns : List (List Note)) (t u : NumberedRest) → length (row_of t.properties x) ≡ count → undone (Property x change) u ≡ t
+    (ns : List (List Note)) (t u : NumberedRest) → length (plist_of_number t.properties x) ≡ count → undone (Property x change) u ≡ t
     → Continues ms (undone (Property x other) u) ns u → Continues ms t ns u

@@ -5,7 +5,7 @@ use Rattle.package_table.specs.Numbers.{numbered}
 use Rattle.plist_state.specs.declared.property_list.PropertyList.TheInside.{Inside}
 use Rattle.plist_state.specs.Properties.{Plist}
 use Rattle.plist_state.specs.Lists.{IsNumber, named_plist}
-use Rattle.plist_state.specs.Shown.{numbered_property, items_in}
+use Rattle.plist_state.specs.Views.{numbered_property, items_in}
 
 -- the properties by the symbols of their indicators
 abbrev pub plist_in : Inside → Plist

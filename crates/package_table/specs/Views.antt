@@ -3,11 +3,11 @@ use Rattle.std.specs.Prelude.{◌≡◌, List, [], ◌∷◌, map, length}
 use Rattle.std.specs.List.{AllByRecursion}
 use Rattle.package_sets.specs.declared.sizes.Sizes.{Sizes}
 use Rattle.package_sets.specs.Kept.{Kept, cut, sizes_of, AreUpTo}
-use Rattle.package_sets.specs.Good.{IsGood}
+use Rattle.package_sets.specs.Consistent.{IsGood}
 use Rattle.package_table.specs.declared.packages.Packages.TheInside.{Inside}
-use Rattle.package_table.specs.Table.{IsSound, symbol_count}
+use Rattle.package_table.specs.Table.{AreSoundPackages, symbol_count}
 use Rattle.package_table.specs.Numbers.{Numbered, Tables}
-pub use Rattle.package_table.specs.Kept.{as_map}
+pub use Rattle.package_table.specs.KeptTrees.{as_map}
 use Rattle.package_table.specs.Meaning.{numbered_of}
 use Rattle.package_table.specs.Adds.{IsPlaced}
 
@@ -21,7 +21,7 @@ tables_of a = ((numbered_of a.sets).0, record { numbers = (numbered_of a.sets).1
 -- sound packages, whose symbols are counted
 pub record IsState (k : Kept) : Type 0 where
   pub good : IsGood k
-  pub sound : IsSound (numbered_of k).0
+  pub sound : AreSoundPackages (numbered_of k).0
   pub counted : length k.symbols ≡ symbol_count (numbered_of k).0
   pub placed : IsPlaced k
 

@@ -4,8 +4,8 @@ use Rattle.disk_trait.specs.Disk.{Image, file_of, other_of}
 use Rattle.disk_trait.specs.declared.half.Half.{Half}
 use Rattle.disk_trait.specs.declared.half.Half.TheVariants.{A, B}
 use Rattle.gate_log.specs.Layout.{IsOpen, generation_of}
-use Rattle.log_look.specs.Seen.{image_of}
-use Rattle.log_look.specs.Shut.{AreShut}
+use Rattle.log_look.specs.LookResults.{image_of}
+use Rattle.log_look.specs.NeitherOpen.{AreShut}
 use Rattle.log_look.specs.declared.error.LookError.{LookError}
 use Rattle.log_look.specs.declared.error.LookError.TheVariants as looking
 
@@ -41,7 +41,7 @@ pub record HasHalf (half : Half) (image seen : Image) : Type 0 where
 
 -- No half has a header, and the sight has the first sixteen bytes of each: half B is empty, so that none was ever open, or one of the two
 -- is open, and damaged.
-pub record HasNoHalf (image seen : Image) : Type 0 where
+pub record HasNoHeader (image seen : Image) : Type 0 where
   pub no_a : HasHeader image.a → ⊥
   pub no_b : HasHeader image.b → ⊥
   pub settled : (length image.b ≡ 0) ⊎ IsOpen image.a ⊎ IsOpen image.b
@@ -49,7 +49,7 @@ pub record HasNoHalf (image seen : Image) : Type 0 where
 
 -- what a look gives of these files
 abbrev pub IsSightOf : Image → Image → Type 0
-IsSightOf image seen = ((half : Half) × HasHalf half image seen) ⊎ HasNoHalf image seen
+IsSightOf image seen = ((half : Half) × HasHalf half image seen) ⊎ HasNoHeader image seen
 
 -- why these files are not seen
 abbrev pub IsUnseen : LookError → Image → Type 0

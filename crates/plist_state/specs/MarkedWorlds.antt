@@ -7,11 +7,11 @@ use Rattle.plist_state.specs.declared.replaced.Replaced.{Replaced}
 use Rattle.plist_state.specs.declared.stored.Stored.{Stored}
 use Rattle.plist_state.specs.declared.world.World.TheInside.{Inside}
 use Rattle.plist_state.specs.State.{Rest, WorldState, Worlds, state_with}
-use Rattle.plist_state.specs.Sound.{IsSound}
+use Rattle.plist_state.specs.Sound.{IsSoundWorldState}
 use Rattle.plist_state.specs.Lists.{lists, IsOwned}
-use Rattle.plist_state.specs.Shown.{NumberedRest, Rows, rest_of}
-use Rattle.plist_state.specs.Kept.{IsProperRows}
-use Rattle.plist_state.specs.Indexed.{AreIndexed}
+use Rattle.plist_state.specs.Views.{NumberedRest, Rows, rest_of}
+use Rattle.plist_state.specs.KeptRows.{IsProperRows}
+use Rattle.plist_state.specs.RowIndexes.{AreIndexed}
 use Rattle.plist_state.specs.Sizes.{Sizes, AreSizes}
 use Rattle.plist_state.specs.Undoing.{rests_at}
 use Rattle.plist_state.specs.Journal.{marks_of, IsJournal}
@@ -62,7 +62,7 @@ pub record AreKept (ss : List Numbered) (ms : List (List Note)) (r : NumberedRes
   pub as_many : length ss ≡ length ms
   pub journal : IsJournal ms r rows
   pub owned : AreOwned ss (rests_at ms r)
-  pub sound : All IsSound (marked_states ss (rests_at ms r))
+  pub sound : All IsSoundWorldState (marked_states ss (rests_at ms r))
 
 -- each value is proper, each index is that of its row, each size that of its list, each list has its symbol, and the state is sound, now and at each mark
 pub record IsKeptPart (packages : Tables) (stored : Stored) (notes : List (Vec Note)) (noted : Sizes) : Type 0 where
@@ -70,7 +70,7 @@ pub record IsKeptPart (packages : Tables) (stored : Stored) (notes : List (Vec N
   pub indexed : AreIndexed stored.properties.items stored.indexes.entries
   pub sizes : AreSizes (rest_of stored).properties noted
   pub owned : IsOwned (numbered packages) (rest_of stored).properties
-  pub sound : IsSound (state_in (numbered packages) (rest_of stored))
+  pub sound : IsSoundWorldState (state_in (numbered packages) (rest_of stored))
   pub marked : AreKept packages.1.marked (marks_of notes) (rest_of stored) stored.properties.items
 
 -- what was replaced can be put back
@@ -83,7 +83,7 @@ pub record AreReplaced (es : List Replaced) (marks : ℕ) : Type 0 where
   pub count : marks ≡ length (earlier_states es)
   pub below : marks < 2 ^ 62
 
--- so it is with what the world keeps now, and with what was replaced
+-- what a world keeps now is as it has to be, and so is each thing that was replaced and may come back
 pub record HasKeptWorld (a : Inside) : Type 0 where
   pub now : IsKeptPart a.packages a.stored a.marks.items a.sizes.entries
   pub earlier : AreReplaced a.earlier.items a.earlier_marks

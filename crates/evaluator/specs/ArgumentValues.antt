@@ -23,7 +23,7 @@ use Rattle.lisp_operators.specs.Kinds.{is_true}
 use Rattle.lisp_operators.specs.Properties.{list}
 use Rattle.evaluator.specs.declared.wanted.Wanted.{Wanted}
 use Rattle.evaluator.specs.declared.wanted.EvaluationTask.{EvaluationTask}
-use Rattle.evaluator.specs.Wanted.{seen}
+use Rattle.evaluator.specs.StandIns.{seen}
 use Rattle.evaluator.specs.Operators.{count, first}
 use Rattle.evaluator.specs.Operations.{action_of}
 use Rattle.evaluator.specs.Value.{Parts, is_clause, are_clauses, last, value, values, choice, other_value, sought, selected, guarded, values_at_place, values_before_place, action_value, place_refusal, get_place_refusal, is_base_place, is_case_place, rest, default_place_refusal, has_default}
@@ -78,6 +78,7 @@ sequence_value names s forms = and_then (values names s forms) (λ xs later. giv
 abbrev pub list_of_values : List Name → WorldState → Object → Evaluation Object
 list_of_values names s forms = and_then (values names s forms) list
 
+-- the value is this one, in whatever state, which stays
 abbrev pub HasValue : Object → Result Evaluated EvaluationError → Type 0
 HasValue x result = (s : WorldState) → Answers done result s (gives x s)
 
@@ -123,6 +124,7 @@ refusal_of_place _ arguments = None
 abbrev pub list_place : Object → PlaceForm
 list_place place = if is_case_place place then Case else Property
 
+-- what SETF puts a value into: the read base, or what a list names
 abbrev pub setf_place : Object → PlaceForm
 setf_place place = if is_base_place place then ReadBase else list_place place
 
@@ -131,16 +133,16 @@ abbrev pub property_place : Object → PlaceForm
 property_place place = if has_default place then PropertyOr else Property
 
 -- What an operator puts a value into. All but SETF know properties alone.
-abbrev pub place_of : Operation → Object → PlaceForm
-place_of Setf arguments = setf_place (first arguments)
-place_of (Changes operator) arguments = property_place (first arguments)
-place_of _ arguments = Property
+abbrev pub place_form_of : Operation → Object → PlaceForm
+place_form_of Setf arguments = setf_place (first arguments)
+place_form_of (Changes operator) arguments = property_place (first arguments)
+place_form_of _ arguments = Property
 
 -- nothing is refused, or this is the number of the refusal
-abbrev pub IsRefusal : {A : Type 0} → Option ℕ → Result A EvaluationError → Type 0
-IsRefusal refusal (Ok _) = refusal ≡ None
-IsRefusal refusal (Err (Refused code)) = refusal ≡ Some code
-IsRefusal refusal (Err OutOfMemory) = ⊥
+abbrev pub RefusesIfSome : {A : Type 0} → Option ℕ → Result A EvaluationError → Type 0
+RefusesIfSome refusal (Ok _) = refusal ≡ None
+RefusesIfSome refusal (Err (Refused code)) = refusal ≡ Some code
+RefusesIfSome refusal (Err OutOfMemory) = ⊥
 
 -- What is at the head of a form of so many arguments: an operator that takes them, or the reason for which the form has no
 -- value.

@@ -20,7 +20,7 @@ pub record WereShut (files : ℕ → Image) (from to : ℕ) : Type 0 where
   pub b : IsOpen (files second).b → ⊥
   pub some : 0 < length (files second).b
 
--- so many tries in turn found that
+-- so many tries in turn found half A not open, and later half B neither open nor empty
 unfoldable pub WereShutEachTime : ℕ → (ℕ → Image) → ℕ → ℕ → Type 0
 WereShutEachTime zero files from to = from ≤ to
 WereShutEachTime (suc count) files from to = (middle : ℕ) × WereShutEachTime count files from middle × WereShut files middle to

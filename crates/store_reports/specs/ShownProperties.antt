@@ -15,7 +15,7 @@ use Rattle.plist_state.specs.Properties.{Symbol}
 use Rattle.plist_state.specs.State.{WorldState}
 use Rattle.plist_state.specs.Changes.{plist}
 use Rattle.plist_state.specs.Readers.{symbols_with_properties}
-use Rattle.store_reports.specs.Escaped.{escaped}
+use Rattle.store_reports.specs.EscapedText.{shown_for_terminal}
 use Rattle.store_reports.specs.Json.{string_member}
 use Rattle.store_reports.specs.declared.selection.Layout.{Layout}
 use Rattle.store_reports.specs.declared.selection.Layout.TheVariants.{Forms, Json, Lines}
@@ -45,16 +45,16 @@ is_asked wanted text printed name = bytes_eq printed text || (is_some wanted.pac
 
 -- the texts of a symbol, an indicator and a value, as a line, as the form that sets the property, or as an object
 unfoldable pub property_text : Layout → List ℕ → List ℕ → List ℕ → List ℕ
-property_text Lines x indicator value = escaped x ++ 32 ∷ [] ++ escaped indicator ++ 32 ∷ [] ++ escaped value ++ 10 ∷ []
+property_text Lines x indicator value = shown_for_terminal x ++ 32 ∷ [] ++ shown_for_terminal indicator ++ 32 ∷ [] ++ shown_for_terminal value ++ 10 ∷ []
 property_text Forms x indicator value = codes "(SETF (GET '" ++ x ++ codes " '" ++ indicator ++ codes ") '" ++ value ++ codes ")\n"
 property_text Json x indicator value =
     123 ∷ [] ++ string_member (codes "symbol") x ++ 44 ∷ [] ++ string_member (codes "indicator") indicator
     ++ 44 ∷ [] ++ string_member (codes "value") value ++ 125 ∷ 10 ∷ []
 
--- the home of a symbol, so; among forms it is a comment
+-- the texts of a symbol and its home, as a line, as an object, or among forms as a comment
 unfoldable pub home_text : Layout → List ℕ → List ℕ → List ℕ
-home_text Lines x home = codes "home " ++ escaped home ++ 10 ∷ []
-home_text Forms x home = codes "; home " ++ escaped home ++ 10 ∷ []
+home_text Lines x home = codes "home " ++ shown_for_terminal home ++ 10 ∷ []
+home_text Forms x home = codes "; home " ++ shown_for_terminal home ++ 10 ∷ []
 home_text Json x home =
     123 ∷ [] ++ string_member (codes "symbol") x ++ 44 ∷ [] ++ string_member (codes "home") home ++ 125 ∷ 10 ∷ []
 

@@ -21,7 +21,7 @@ use Rattle.sessions.specs.declared.ending.Place.{Place}
 use Rattle.store_commands.specs.Status.{IsOfWords}
 use Rattle.store_commands.specs.declared.status.Status.{Status}
 use Rattle.store_commands.specs.declared.status.Status.TheVariants as statuses
-use Rattle.store_looks.specs.Told.{Has, notation_of, status_in}
+use Rattle.store_looks.specs.LookReports.{Has, notation_of, status_in}
 use Rattle.store_looks.specs.declared.unlooked.Unlooked.{Unlooked}
 use Rattle.store_reports.specs.Figures.{figure}
 use Rattle.store_reports.specs.Json.{number_member, string_member}

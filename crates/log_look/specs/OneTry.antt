@@ -2,10 +2,10 @@
 use Rattle.std.specs.Prelude.{◌≡◌, ◌⊎◌, ℕ, List, length}
 use Rattle.disk_trait.specs.Disk.{Image}
 use Rattle.gate_log.specs.Layout.{IsOpen}
-use Rattle.log_look.specs.Rest.{IsSightOf}
-use Rattle.log_look.specs.Seen.{WasMeant}
-use Rattle.log_look.specs.SeenState.{state_of}
-use Rattle.log_look.specs.Shut.{AreShut, WereShut}
+use Rattle.log_look.specs.FilesAtRest.{IsSightOf}
+use Rattle.log_look.specs.LookResults.{WasMeant}
+use Rattle.log_look.specs.SeenState.{state_of_sight}
+use Rattle.log_look.specs.NeitherOpen.{AreShut, WereShut}
 use Rattle.log_look.specs.declared.error.LookError.{LookError}
 use Rattle.log_look.specs.declared.error.LookError.TheVariants as looking
 use Rattle.log_look.specs.declared.tries.Tried.{Tried}
@@ -13,25 +13,25 @@ use Rattle.log_look.specs.declared.tries.Tried.TheVariants.{Seen, Shut, Changed}
 
 -- what was seen was meant at one moment
 abbrev pub HasSeen : Tried → (ℕ → Image) → ℕ → ℕ → Type 0
-HasSeen (Seen sight) files from to = WasMeant (state_of sight).reads files from to
+HasSeen (Seen sight) files from to = WasMeant (state_of_sight sight).reads files from to
 HasSeen Shut files from to = Unit {0}
 HasSeen Changed files from to = Unit {0}
 
 -- what a try comes to where nobody writes
 abbrev pub HasSeenAtRest : Tried → Image → Type 0
-HasSeenAtRest (Seen sight) image = IsSightOf image (state_of sight).reads
+HasSeenAtRest (Seen sight) image = IsSightOf image (state_of_sight sight).reads
 HasSeenAtRest Shut image = AreShut image
 HasSeenAtRest Changed image = ⊥
 
 -- what was seen is a disk that has not failed
 abbrev pub HasNoFailure : Tried → Type 0
-HasNoFailure (Seen sight) = (state_of sight).failures ≡ 0
+HasNoFailure (Seen sight) = (state_of_sight sight).failures ≡ 0
 HasNoFailure Shut = Unit {0}
 HasNoFailure Changed = Unit {0}
 
 -- these first bytes of two halves that say no generation were seen, where they settle what is there; else neither half is open
 abbrev pub IsNeither : Tried → List ℕ → List ℕ → Type 0
-IsNeither (Seen sight) a b = ((state_of sight).reads ≡ record { a = a; b = b }) × ((length b ≡ 0) ⊎ IsOpen a ⊎ IsOpen b)
+IsNeither (Seen sight) a b = ((state_of_sight sight).reads ≡ record { a = a; b = b }) × ((length b ≡ 0) ⊎ IsOpen a ⊎ IsOpen b)
 IsNeither Shut a b = AreShut (record { a = a; b = b })
 IsNeither Changed a b = ⊥
 

@@ -2,7 +2,7 @@
 use Rattle.package_sets.specs.declared.sets.PackageSets.TheInside.{Inside}
 use Rattle.std.specs.Prelude.{length}
 use Rattle.package_sets.specs.Kept.{Kept}
-use Rattle.package_sets.specs.Good.{IsGood}
+use Rattle.package_sets.specs.Consistent.{IsGood}
 use Rattle.package_sets.specs.Chained.{external_name, AreChained}
 
 abbrev pub kept_of : Inside → Kept

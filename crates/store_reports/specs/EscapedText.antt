@@ -13,5 +13,5 @@ escaped_byte byte =
     else (if nat_lt byte 32 || nat_lt 126 byte then 92 ∷ 120 ∷ hexadecimal (byte / 16) ∷ hexadecimal (byte % 16) ∷ []
     else byte ∷ [])
 
-abbrev pub escaped : List ℕ → List ℕ
-escaped text = flat_map escaped_byte text
+abbrev pub shown_for_terminal : List ℕ → List ℕ
+shown_for_terminal text = flat_map escaped_byte text
