@@ -8,9 +8,10 @@
 //! - `carried_out`: a form that is carried out in a world; `answers`: a form that a store answers as an earlier program did
 //! - `texts`: two worlds with the same text; `parts`: the export of the data of a world, and what each of its parts makes
 //! - `batches`: records that come together, and what a crash leaves of their bytes; `batch_writes`: the writes of such records to a half
-//! - `mixing`: a write on a disk that mixes
+//! - `mixing`: a write on a disk that mixes; `ordered`: a crash between two orders of a disk that somebody else carries out
 //! - `in_use`: logs whose disks read the same
 //! - `read_back`: an answer that is read back from its bytes
+//! - `first_answers`: a session of messages up to its first answers, and what follows where these messages are fed again
 //!
 //! Lemmas in `proofs`: `Bytes`, `Knowing`.
 #![tactic(auto)]
@@ -24,9 +25,13 @@ mod batches;
 #[cfg(test)]
 mod carried_out;
 #[cfg(test)]
+mod first_answers;
+#[cfg(test)]
 mod in_use;
 #[cfg(test)]
 mod mixing;
+#[cfg(test)]
+mod ordered;
 #[cfg(test)]
 mod outcomes;
 #[cfg(test)]
