@@ -12,7 +12,7 @@ CRATES = ("program_tests", "reader_tests")
 
 # The modules of program_tests that call laws: they compare what came of a store with what a law says of it, where there
 # is ample memory.
-CALLERS_OF_LAWS = set("""again alike answers batches closed crashed cuts exports fed_again first_answers forgotten keepers
+CALLERS_OF_LAWS = set("""again alike answers batches closed crashed cuts exports fed_again first_answers forgotten
     ledgers lives migration once ordered parts reopened replicas room rounds same torn""".split())
 
 # What the error names with which a test ends that met want of memory. A disk in memory that finds none answers with a

@@ -22,7 +22,6 @@
 //! - `reopened`: a store that is opened with macro functions on files of a program without any
 //! - `earlier`: a store that is opened on files of a program that had neither macro functions nor operators of PAZTURROK
 //! - `sums`: the sum of a text, and that of the text once it is damaged
-//! - `keepers`: a session whose recipient keeps account of it, and what follows at each moment
 //! - `ledgers`: a session that goes out through a ledger, and what is there from the moment on at which its lines went out
 //! - `again`: the store that a history goes on with after a session
 //! - `rounds`: two rounds of messages, and the position after them
@@ -39,7 +38,7 @@
 //! - `alike`: logs whose files hold the same bytes, and a look at files that nobody writes
 //! - `troubled_disks`: the disks of these, and what may go wrong in them
 //!
-//! Lemmas in `proofs`: `Bytes`, `Keeping`, `SameAnswers`, `Taken`.
+//! Lemmas in `proofs`: `Bytes`, `SameAnswers`, `Taken`.
 //!
 //! Want of memory ends a test of the first four with an error, wherever it comes: an assertion that fails is an answer that has changed. What a
 //! run of the built program can show is in `checks/sessions`: answers, refusals and their places, words, commands, files; how it takes its input in
@@ -79,8 +78,6 @@ mod fed_again;
 mod forgotten;
 #[cfg(test)]
 mod halves;
-#[cfg(test)]
-mod keepers;
 #[cfg(test)]
 mod ledgers;
 #[cfg(test)]
