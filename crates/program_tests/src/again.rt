@@ -1,14 +1,15 @@
 //! The store that a history goes on with after a session.
-ghost use Rattle.std.specs.Prelude.{ℕ, List, IfSome, IsSome};
+ghost use Rattle.std.specs.Prelude.{ℕ, List, ◌<◌, ◌-◌, ◌^◌, IfSome, IsSome};
 ghost use Rattle.gate_log.specs.Layout.{LogRecord};
 ghost use Rattle.plist_state.specs.State.{WorldState};
 ghost use Rattle.store_laws.specs.Histories.{Stands, StillStands};
 
-use disk_trait::Disk;
-use prevalence_store::Store;
+use disk_trait::{Disk, MemoryDisk, OnceDisk};
+use prevalence_store::{Mode, Store};
 use std::alloc::Global;
+use std::test::Fail;
 use store_laws::histories;
-use user_macros::MacroFunctions;
+use user_macros::{MacroFunctions, Macros, NoFunctions};
 
 /// A limit that no file of a test comes near.
 pub const AMPLE: u64 = 1 << 30;
@@ -38,4 +39,46 @@ pub fn reopen_failed<D: Disk + Drop, M: MacroFunctions + Drop>(
         Ok(store) => Some(store),
         Err(_) => None,
     }
+}
+
+/// How many records a store over this disk has once it took a form twice, and was opened again between where the first failed.
+fn record_count<D: Disk + Drop, M: MacroFunctions + Drop>(
+    alloc: Global,
+    disk: D,
+    macros: M,
+    form: &[u8],
+) -> Option<u64>
+    requires room { (D.state disk).failures < 2 ^ 64 - 1 }
+    requires answers { M.answers macros }
+{
+    let Ok(mut store) = Store::open(alloc, disk, macros, AMPLE) else {
+        return None;
+    };
+    let _first = store.execute(Mode::Current, form);
+    let mut later = reopen_failed(alloc, store)?;
+    let _second = later.execute(Mode::Current, form);
+    let count = later.record_count();
+    let _closed = later.close();
+    Some(count)
+}
+
+/// The same over a fresh disk, the call of this number of which fails.
+fn record_count_over_a_fault(alloc: Global, call: u64) -> Option<u64> {
+    let disk = OnceDisk::new(MemoryDisk::new(alloc), call);
+    if disk.failures() > 0 {
+        return None;
+    }
+    record_count(
+        alloc,
+        disk,
+        Macros::new(alloc, NoFunctions),
+        b"(SETF (GET 'A 'B) 7)",
+    )
+}
+
+#[test]
+fn a_store_goes_on_after_a_fault(rt: HostRuntime) -> Result<(), Fail> {
+    let alloc = rt.alloc();
+    assert!(rt; record_count_over_a_fault(alloc, u64::MAX) == Some(2));
+    Ok(())
 }
