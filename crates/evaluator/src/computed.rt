@@ -15,7 +15,8 @@ use lisp_operators::{Evaluated, EvaluationError};
 use std::alloc::Global;
 use value_functions::{ValueFunction, apply};
 
-/// What such a function gives of these values, where it takes so many at most.
+/// What such a function gives of these values, where it takes so many at most. It changes nothing, and refuses what the
+/// function refuses.
 pub(crate) fn computed(
     alloc: Global,
     function: ValueFunction,

@@ -19,7 +19,7 @@ use package_table::standardized::{COMMON_LISP, KEYWORD};
 use plist_state::World;
 use std::alloc::Global;
 
-/// What was evaluated, where something was evaluated before it.
+/// What was evaluated, where something was evaluated before it. What was refused stays refused.
 pub(crate) fn after(
     wrote: bool,
     evaluated: Result<Evaluated, EvaluationError>,
@@ -37,7 +37,7 @@ pub(crate) fn after(
     }
 }
 
-/// An object that is its own value.
+/// An object that is its own value. It fails only where there is no memory for a copy.
 pub(crate) fn itself(alloc: Global, form: &Datum) -> Result<Evaluated, EvaluationError>
     requires { IsProper form.now }
     ensures gives { HasValue (object_of form.now) result }
@@ -77,7 +77,8 @@ fn is_standard_name(home: &[u8], own: &[u8], name: &[u8]) -> bool
     home == COMMON_LISP && own == name
 }
 
-/// The value of a symbol: itself, or that of a variable.
+/// The value of a symbol: itself, or that of a variable. Refused as `NOT_A_FORM` where it is no symbol, or the symbol
+/// has no value.
 pub fn symbol_value(
     alloc: Global,
     world: &World,
@@ -119,7 +120,8 @@ pub fn symbol_value(
     Err(Refused(NOT_A_FORM))
 }
 
-/// The value of an object that is no list.
+/// The value of an object that is no list. Refused as `NOT_A_FORM` where it is a symbol without a value, or one of no
+/// package.
 pub(crate) fn atom(alloc: Global, world: &World, form: &Datum) -> Result<Evaluated, EvaluationError>
     requires proper { IsProper form.now }
     requires atom { (items : List Datum) (tail : Option Datum) → form.now ≡ Datum.List items tail → ⊥ }

@@ -238,7 +238,7 @@ pub(crate) fn literal_assignment(items: &[Datum]) -> Option<Assignment<'_>>
     Some(Assignment { property, literal })
 }
 
-/// GET of such a property.
+/// GET of such a property. It changes nothing.
 pub(crate) fn get_directly(
     alloc: Global,
     world: &World,
@@ -258,7 +258,8 @@ pub(crate) fn get_directly(
     }
 }
 
-/// SETF of such a property.
+/// SETF of such a property. After an error the world may have changed, but for its marks: who calls it goes back to
+/// one.
 pub(crate) fn set_directly(
     alloc: Global,
     world: &mut World,

@@ -76,7 +76,8 @@ fn left(wrote: Result<bool, EvaluationError>) -> Result<Evaluated, EvaluationErr
     }
 }
 
-/// What an operator gives of these values, where it is asked whether its value is true.
+/// What an operator gives of these values, where it is asked whether its value is true. After an error the world may
+/// have changed, but for its marks: who calls it goes back to one.
 pub(crate) fn truth(
     alloc: Global,
     world: &mut World,
@@ -101,7 +102,8 @@ pub(crate) fn truth(
     }
 }
 
-/// What an operator does with these values, where its value is not asked for.
+/// What an operator does with these values, where its value is not asked for. After an error the world may have
+/// changed, but for its marks: who calls it goes back to one.
 pub(crate) fn effect(
     alloc: Global,
     world: &mut World,

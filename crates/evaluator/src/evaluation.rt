@@ -26,7 +26,8 @@ use plist_state::World;
 use readtable_core::FnName;
 use std::alloc::Global;
 
-/// The value of a form, or what stands for it where less is asked.
+/// The value of a form, or what stands for it where less is asked. After an error the world may have changed, but for
+/// its marks: who calls it goes back to one.
 #[cycle(evaluation)]
 pub(crate) fn evaluate_for(
     alloc: Global,
@@ -340,7 +341,8 @@ fn listed(
     after(wrote, values.list(alloc))
 }
 
-// PROGN: the last of the values of these forms (standard 5.3, `progn`). The values before it are not made.
+// PROGN: the last of the values of these forms (standard 5.3, `progn`). The values before it are not made. After an
+// error the world may have changed, but for its marks.
 #[cycle(evaluation)]
 pub(crate) fn sequence(
     alloc: Global,

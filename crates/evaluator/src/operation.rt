@@ -212,7 +212,8 @@ impl Operation {
     }
 }
 
-/// What is at the head of a form of so many arguments.
+/// What is at the head of a form of so many arguments. Refused as `NOT_A_FORM` where the head is no symbol, as
+/// `UNKNOWN_OPERATOR` where it names none, and as `ARGUMENT_COUNT` where it does not take so many.
 pub(crate) fn operation_of(head: &Datum, number: usize) -> Result<Operation, EvaluationError>
     requires { IsProper head.now }
     ensures head { (names : List Name) → IsOperatorHead names (object_of head.now) number result }

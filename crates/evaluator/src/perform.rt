@@ -25,7 +25,8 @@ use plist_state::World;
 use readtable_core::FnName;
 use std::alloc::Global;
 
-/// What an operator gives of these values, which were evaluated for it.
+/// What an operator gives of these values, which were evaluated for it. After an error the world may have changed, but
+/// for its marks: who calls it goes back to one.
 pub(crate) fn perform(
     alloc: Global,
     world: &mut World,

@@ -136,8 +136,8 @@ fn check_setf(place: &Datum) -> Result<PlaceForm, EvaluationError>
     check_list(place)
 }
 
-/// That the place of an operator, if it takes one, is a place, and what it names. The first of the items is the operator
-/// itself.
+/// That the place of an operator, if it takes one, is a place, and what it names. The first of the items is the
+/// operator itself. What is no place is refused as `refusal_of_place` says.
 pub fn check_place(operation: Operation, items: &[Datum]) -> Result<PlaceForm, EvaluationError>
     requires counted { HasRightCount operation (length items.now) }
     requires proper { AreProper items.now }

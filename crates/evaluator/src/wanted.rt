@@ -108,7 +108,7 @@ pub(crate) fn shown(alloc: Global, value: &Datum, wanted: Wanted) -> Result<Datu
     }
 }
 
-/// What was evaluated, with what stands for its value.
+/// What was evaluated, with what stands for its value. What was refused stays refused.
 pub(crate) fn seen(
     evaluated: Result<Evaluated, EvaluationError>,
     wanted: Wanted,

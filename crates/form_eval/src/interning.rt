@@ -69,7 +69,8 @@ fn intern_one(world: &mut World, symbol: &(&[u8], &[u8])) -> Result<bool, Packag
     }
 }
 
-/// Each of these symbols is interned in its home, one after the other, and whether one of them is new.
+/// Each of these symbols is interned in its home, one after the other, and whether one of them is new. After an error a
+/// part of them may be interned: who calls it goes back to a mark.
 pub(crate) fn intern_all(
     world: &mut World,
     symbols: &[(&[u8], &[u8])],

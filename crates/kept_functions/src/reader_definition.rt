@@ -25,7 +25,8 @@ pub struct StoredReader<'a> {
     pub definition: StoredDefinition<'a>,
 }
 
-/// Whether a macro function of the world may have this name. No program registers one of these.
+/// Whether a macro function of the world may have this name. No program registers one of these. Such a name is one of a
+/// macro function that begins with `LISP-`.
 pub fn is_lisp_name(name: &[u8]) -> bool
     ensures { result ≡ is_lisp_name name.now }
 {

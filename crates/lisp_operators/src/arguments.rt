@@ -11,7 +11,7 @@ use lisp_object::Datum;
 use lisp_object::refusal::ARGUMENT_KIND;
 use std::alloc::{AllocError, Global};
 
-/// The one argument.
+/// The one argument. Refused as `ARGUMENT_KIND` where there is none, or more than one.
 pub(crate) fn one(values: &[Datum]) -> Result<&Datum, EvaluationError>
     ensures value { AreExactly 1 (λ x. x.now ∷ []) values.now result }
     ensures arguments { WhereArguments values.now result (λ u x. IsArgument u x.now) }
@@ -22,7 +22,7 @@ pub(crate) fn one(values: &[Datum]) -> Result<&Datum, EvaluationError>
     }
 }
 
-/// The two arguments.
+/// The two arguments. Refused as `ARGUMENT_KIND` where there are not two.
 pub(crate) fn two(values: &[Datum]) -> Result<(&Datum, &Datum), EvaluationError>
     ensures value { AreExactly 2 (λ p. p.0.now ∷ p.1.now ∷ []) values.now result }
     ensures arguments { WhereArguments values.now result
@@ -34,7 +34,7 @@ pub(crate) fn two(values: &[Datum]) -> Result<(&Datum, &Datum), EvaluationError>
     }
 }
 
-/// The first argument, and those after it.
+/// The first argument, and those after it. Refused as `ARGUMENT_KIND` where there is none.
 pub(crate) fn one_and_rest(values: &[Datum]) -> Result<(&Datum, &[Datum]), EvaluationError>
     ensures value { AreAtLeast 1 (λ p. p.0.now ∷ p.1.now) values.now result }
     ensures arguments { WhereArguments values.now result
@@ -46,7 +46,7 @@ pub(crate) fn one_and_rest(values: &[Datum]) -> Result<(&Datum, &[Datum]), Evalu
     }
 }
 
-/// The first two arguments, and those after them.
+/// The first two arguments, and those after them. Refused as `ARGUMENT_KIND` where there are fewer.
 pub(crate) fn two_and_rest(values: &[Datum]) -> Result<(&Datum, &Datum, &[Datum]), EvaluationError>
     ensures value { AreAtLeast 2 (λ p. p.0.now ∷ p.1.now ∷ p.2.now) values.now result }
     ensures arguments { WhereArguments values.now result
@@ -58,7 +58,7 @@ pub(crate) fn two_and_rest(values: &[Datum]) -> Result<(&Datum, &Datum, &[Datum]
     }
 }
 
-/// The first three arguments, and those after them.
+/// The first three arguments, and those after them. Refused as `ARGUMENT_KIND` where there are fewer.
 pub(crate) fn three_and_rest(
     values: &[Datum],
 ) -> Result<(&Datum, &Datum, &Datum, &[Datum]), EvaluationError>
@@ -84,7 +84,8 @@ pub(crate) fn after_first(rest: &[Datum]) -> &[Datum]
     }
 }
 
-/// The name that the first of these designates, or the other one where there is none.
+/// The name that the first of these designates, or the other one where there is none. Refused as `ARGUMENT_KIND` where
+/// the first is neither a text nor a symbol.
 pub(crate) fn name_or<'a>(rest: &'a [Datum], other: &'a [u8]) -> Result<&'a [u8], EvaluationError>
     requires { AreProper rest.now }
     ensures { IsOfKind (λ n. n.now) result (given_or a_name other.now (objects rest.now)) }
@@ -95,7 +96,8 @@ pub(crate) fn name_or<'a>(rest: &'a [Datum], other: &'a [u8]) -> Result<&'a [u8]
     }
 }
 
-/// The same of a keyword.
+/// The name of the first of these, a keyword, or the other name where there is none. Refused as `ARGUMENT_KIND` where
+/// the first is no keyword.
 pub(crate) fn keyword_or<'a>(
     rest: &'a [Datum],
     other: &'a [u8],
@@ -109,7 +111,8 @@ pub(crate) fn keyword_or<'a>(
     }
 }
 
-/// The same of a readtable to take from.
+/// The readtable that the first of these names as one to take from, or the other one where there is none. Refused as
+/// `ARGUMENT_KIND` where the first is neither a keyword nor NIL.
 pub(crate) fn source_or<'a>(rest: &'a [Datum], other: &'a [u8]) -> Result<&'a [u8], EvaluationError>
     requires { AreProper rest.now }
     ensures { IsOfKind (λ n. n.now) result (given_or a_source other.now (objects rest.now)) }

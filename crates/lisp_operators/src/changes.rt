@@ -45,7 +45,8 @@ pub(crate) fn finds_all(packages: &Packages, owner: &[u8], symbols: &[Datum]) ->
     true
 }
 
-/// EXPORT of these symbols, one after the other, and whether the packages changed.
+/// EXPORT of these symbols, one after the other, and whether the packages changed. After an error a part of them may be
+/// external: who calls it goes back to a mark.
 pub(crate) fn export_all(
     world: &mut World,
     owner: &[u8],
@@ -67,7 +68,8 @@ pub(crate) fn export_all(
     Ok(wrote)
 }
 
-/// IMPORT of these symbols, which are there, one after the other, and whether the packages changed.
+/// IMPORT of these symbols, which are there, one after the other, and whether the packages changed. After an error a
+/// part of them may be imported: who calls it goes back to a mark.
 pub(crate) fn import_all(
     world: &mut World,
     owner: &[u8],
@@ -90,7 +92,8 @@ pub(crate) fn import_all(
     Ok(wrote)
 }
 
-/// USE-PACKAGE of the packages of these names, one after the other, and whether the packages changed.
+/// USE-PACKAGE of the packages of these names, one after the other, and whether the packages changed. After an error a
+/// part of them may be used: who calls it goes back to a mark.
 pub(crate) fn use_each(
     world: &mut World,
     owner: &[u8],

@@ -22,7 +22,8 @@ use lisp_object::refusal::{LIMIT, VALUE_TOO_DEEP};
 use plist_state::{Symbol, World};
 use std::alloc::Global;
 
-/// GET. Gives whether the value is true.
+/// GET. Gives whether the value is true. Refused as `ARGUMENT_KIND` where an argument is missing, or the first two are
+/// no symbols.
 pub fn get(world: &World, values: Vec<Datum>) -> Result<bool, EvaluationError>
     requires { AreArgumentsOf world.now values.items }
     ensures { IsTruth result world.now.0 (get (objects values.items) world.now.0) }
@@ -35,7 +36,8 @@ pub fn get(world: &World, values: Vec<Datum>) -> Result<bool, EvaluationError>
     }
 }
 
-/// SETF of a property. Gives whether anything was written.
+/// SETF of a property. Gives whether anything was written. Refused as `ARGUMENT_KIND` where there are not three
+/// arguments, or the first two are no symbols. After an error the world is as it was.
 pub fn set(world: &mut World, values: Vec<Datum>) -> Result<bool, EvaluationError>
     requires { AreArgumentsOf world.old values.items }
     ensures gives { Leaves result world.new.0 (set (objects values.items) world.old.0) }
@@ -107,7 +109,9 @@ fn put_pair(
     Ok(true)
 }
 
-/// PUSH of a value to a property. Gives whether anything was written. A list that was there is not copied.
+/// PUSH of a value to a property. Gives whether anything was written. A list that was there is not copied. Refused as
+/// `ARGUMENT_KIND` where there are not three arguments, or the last two are no symbols; as `VALUE_TOO_DEEP` or `LIMIT`
+/// where the new list is too deep or too large. After an error the world is as it was.
 pub fn push(alloc: Global, world: &mut World, values: Vec<Datum>) -> Result<bool, EvaluationError>
     requires { AreArgumentsOf world.old values.items }
     ensures gives { Leaves result world.new.0 (push (objects values.items) world.old.0) }

@@ -12,7 +12,7 @@ use package_table::standardized::{COMMON_LISP, KEYWORD};
 use plist_state::STANDARD;
 use readtable_core::Case;
 
-/// The home and the name of an interned symbol.
+/// The home and the name of an interned symbol. Refused as `ARGUMENT_KIND` where it is another object.
 pub fn symbol(datum: &Datum) -> Result<(&[u8], &[u8]), EvaluationError>
     requires { IsProper datum.now }
     ensures { IsOfKind (λ p. (p.0.now, p.1.now)) result (a_symbol (object_of datum.now)) }
@@ -29,7 +29,7 @@ pub fn symbol(datum: &Datum) -> Result<(&[u8], &[u8]), EvaluationError>
     }
 }
 
-/// The characters of a text.
+/// The characters of a text. Refused as `ARGUMENT_KIND` where it is another object.
 pub(crate) fn text(datum: &Datum) -> Result<&[u8], EvaluationError>
     requires { IsProper datum.now }
     ensures { IsOfKind (λ n. n.now) result (a_text (object_of datum.now)) }
@@ -46,7 +46,7 @@ pub(crate) fn text(datum: &Datum) -> Result<&[u8], EvaluationError>
     }
 }
 
-/// An integer.
+/// An integer. Refused as `ARGUMENT_KIND` where it is another object.
 pub(crate) fn integer(datum: &Datum) -> Result<i128, EvaluationError>
     requires { IsProper datum.now }
     ensures { IsOfKind (λ x. x) result (an_integer (object_of datum.now)) }
@@ -63,7 +63,7 @@ pub(crate) fn integer(datum: &Datum) -> Result<i128, EvaluationError>
     }
 }
 
-/// A character.
+/// A character. Refused as `ARGUMENT_KIND` where it is another object.
 pub(crate) fn character(datum: &Datum) -> Result<u8, EvaluationError>
     requires { IsProper datum.now }
     ensures { IsOfKind (λ x. x) result (a_character (object_of datum.now)) }
@@ -80,7 +80,8 @@ pub(crate) fn character(datum: &Datum) -> Result<u8, EvaluationError>
     }
 }
 
-/// The name for which a text or a symbol is the designator (standard 11.1).
+/// The name for which a text or a symbol is the designator (standard 11.1). Refused as `ARGUMENT_KIND` where it is
+/// another object.
 #[tactic(auto, using(crate::proofs::Shapes::name_by_parts))]
 pub(crate) fn name(datum: &Datum) -> Result<&[u8], EvaluationError>
     requires { IsProper datum.now }
@@ -92,7 +93,7 @@ pub(crate) fn name(datum: &Datum) -> Result<&[u8], EvaluationError>
     }
 }
 
-/// The name of a keyword.
+/// The name of a keyword. Refused as `ARGUMENT_KIND` where it is another object.
 #[tactic(auto, using(crate::proofs::Shapes::keyword_by_parts))]
 pub(crate) fn keyword(datum: &Datum) -> Result<&[u8], EvaluationError>
     requires { IsProper datum.now }
@@ -106,7 +107,8 @@ pub(crate) fn keyword(datum: &Datum) -> Result<&[u8], EvaluationError>
     }
 }
 
-/// The name of a readtable to take from: a keyword, or NIL for the standard one.
+/// The name of a readtable to take from: a keyword, or NIL for the standard one. Refused as `ARGUMENT_KIND` where it is
+/// another object.
 #[tactic(auto, using(crate::proofs::Shapes::source_by_parts))]
 pub(crate) fn source(datum: &Datum) -> Result<&[u8], EvaluationError>
     requires { IsProper datum.now }
@@ -120,7 +122,7 @@ pub(crate) fn source(datum: &Datum) -> Result<&[u8], EvaluationError>
     }
 }
 
-/// The case that a keyword names.
+/// The case that a keyword names. Refused as `ARGUMENT_KIND` where it is no keyword, or names none.
 pub(crate) fn case(datum: &Datum) -> Result<Case, EvaluationError>
     requires { IsProper datum.now }
     ensures { IsOfKind (λ x. x) result (a_case (object_of datum.now)) }

@@ -70,7 +70,8 @@ fn check_names(members: &[Datum]) -> Result<(), EvaluationError>
     Ok(())
 }
 
-/// The members of a list, or the one argument, where each is an interned symbol.
+/// The members of a list, or the one argument, where each is an interned symbol. Refused as `ARGUMENT_KIND` where it
+/// does not end in NIL, or a member is another object.
 pub(crate) fn symbols(datum: &Datum) -> Result<&[Datum], EvaluationError>
     requires { IsProper datum.now }
     ensures value { IsOfKind (λ m. symbols_in m.now) result
@@ -86,7 +87,8 @@ pub(crate) fn symbols(datum: &Datum) -> Result<&[Datum], EvaluationError>
     }
 }
 
-/// The members of a list, or the one argument, where each is a designator of a name.
+/// The members of a list, or the one argument, where each is a designator of a name. Refused as `ARGUMENT_KIND` where
+/// it does not end in NIL, or a member is another object.
 pub(crate) fn names(datum: &Datum) -> Result<&[Datum], EvaluationError>
     requires { IsProper datum.now }
     ensures value { IsOfKind (λ m. names_in m.now) result

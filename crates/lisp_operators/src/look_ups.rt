@@ -67,7 +67,7 @@ impl LookUp {
     }
 }
 
-/// What an operator that looks up gives.
+/// What an operator that looks up gives. It changes nothing. Each refusal is told by the function of the operator.
 pub fn look_up(
     alloc: Global,
     world: &World,

@@ -20,7 +20,7 @@ fn first(mut values: Vec<Datum>) -> Result<(Datum, Vec<Datum>), EvaluationError>
     Ok((head, values))
 }
 
-/// The one argument.
+/// The one argument. Refused as `ARGUMENT_KIND` where there is none, or more than one.
 pub(crate) fn one(values: Vec<Datum>) -> Result<Datum, EvaluationError>
     ensures value { AreExactly 1 (λ x. x ∷ []) values.items result }
     ensures arguments { WhereArguments values.items result (λ u x. IsArgument u x) }
@@ -32,7 +32,7 @@ pub(crate) fn one(values: Vec<Datum>) -> Result<Datum, EvaluationError>
     Ok(head)
 }
 
-/// The first two arguments, and those after them.
+/// The first two arguments, and those after them. Refused as `ARGUMENT_KIND` where there are fewer.
 pub(crate) fn two_and_rest(
     values: Vec<Datum>,
 ) -> Result<(Datum, Datum, Vec<Datum>), EvaluationError>
@@ -45,7 +45,7 @@ pub(crate) fn two_and_rest(
     Ok((head, second, rest))
 }
 
-/// The two arguments.
+/// The two arguments. Refused as `ARGUMENT_KIND` where there are not two.
 pub(crate) fn two(values: Vec<Datum>) -> Result<(Datum, Datum), EvaluationError>
     ensures value { AreExactly 2 (λ p. p.0 ∷ p.1 ∷ []) values.items result }
     ensures arguments { WhereArguments values.items result
@@ -55,7 +55,7 @@ pub(crate) fn two(values: Vec<Datum>) -> Result<(Datum, Datum), EvaluationError>
     Ok((head, one(rest)?))
 }
 
-/// The three arguments.
+/// The three arguments. Refused as `ARGUMENT_KIND` where there are not three.
 pub(crate) fn three(values: Vec<Datum>) -> Result<(Datum, Datum, Datum), EvaluationError>
     ensures value { AreExactly 3 (λ p. p.0 ∷ p.1 ∷ p.2 ∷ []) values.items result }
     ensures arguments { WhereArguments values.items result
@@ -66,7 +66,7 @@ pub(crate) fn three(values: Vec<Datum>) -> Result<(Datum, Datum, Datum), Evaluat
     Ok((head, second, third))
 }
 
-/// The first three arguments, and those after them.
+/// The first three arguments, and those after them. Refused as `ARGUMENT_KIND` where there are fewer.
 pub(crate) fn three_and_rest(
     values: Vec<Datum>,
 ) -> Result<(Datum, Datum, Datum, Vec<Datum>), EvaluationError>

@@ -55,7 +55,8 @@ pub fn make(
     })
 }
 
-/// IN-PACKAGE, of its argument as it is written: the name of the package that becomes current.
+/// IN-PACKAGE, of its argument as it is written: the name of the package that becomes current. Refused where the
+/// argument names no package. After an error the world is as it was.
 pub fn enter(alloc: Global, world: &mut World, name: &Datum) -> Result<Evaluated, EvaluationError>
     requires { IsArgument world.old.0.packages name.now }
     ensures gives { Answers done result world.new.0 (enter (object_of name.now) world.old.0) }

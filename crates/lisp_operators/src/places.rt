@@ -83,7 +83,8 @@ fn with_default(
     Ok(values)
 }
 
-/// What an operator does with a place, of the values of the place's subforms and of the forms after it.
+/// What an operator does with a place, of the values of the place's subforms and of the forms after it. After an error
+/// the world is as it was.
 pub fn change(
     alloc: Global,
     world: &mut World,

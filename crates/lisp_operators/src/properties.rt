@@ -32,7 +32,7 @@ fn symbol(datum: Datum) -> Result<Symbol, EvaluationError>
     }
 }
 
-/// The symbol and the indicator of a property.
+/// The symbol and the indicator of a property. Refused as `ARGUMENT_KIND` where one of the two is no interned symbol.
 pub(crate) fn property_key(
     key: Datum,
     indicator: Datum,
@@ -44,7 +44,8 @@ pub(crate) fn property_key(
     Ok((symbol(key)?, symbol(indicator)?))
 }
 
-/// GET: the value of a property, or what is given where there is no such property.
+/// GET: the value of a property, or what is given where there is no such property. Refused as `ARGUMENT_KIND` where an
+/// argument is missing, or the first two are no symbols.
 pub fn get(alloc: Global, world: &World, values: Vec<Datum>) -> Result<Evaluated, EvaluationError>
     requires { AreArgumentsOf world.now values.items }
     ensures gives { CarriesOut get values.items world.now.0 world.now.0 result }
@@ -84,7 +85,8 @@ fn store(
     Ok(Evaluated { value, wrote: true })
 }
 
-/// SETF of a property: the new value.
+/// SETF of a property: the new value. Refused as `ARGUMENT_KIND` where there are not three arguments, or the first two
+/// are no symbols. After an error the world is as it was.
 pub fn set(
     alloc: Global,
     world: &mut World,
@@ -143,7 +145,8 @@ fn in_turn(alloc: Global, row: &PropertyList<'_>) -> Result<Vec<Datum>, AllocErr
     Ok(values)
 }
 
-/// SYMBOL-PLIST: the indicators and the values of a symbol in turn.
+/// SYMBOL-PLIST: the indicators and the values of a symbol in turn. Refused as `ARGUMENT_KIND` where the one argument
+/// is no symbol.
 pub fn symbol_plist(
     alloc: Global,
     world: &World,
@@ -159,7 +162,7 @@ pub fn symbol_plist(
     values::list(alloc, in_turn(alloc, &row)?)
 }
 
-/// By how much INCF adds: 1 where it is not given.
+/// By how much INCF adds: 1 where it is not given. Refused as `ARGUMENT_KIND` where it is no integer.
 pub(crate) fn amount(rest: &[Datum]) -> Result<i128, EvaluationError>
     requires { AreProper rest.now }
     ensures { IsOfKind (λ n. n) result (amount (objects rest.now)) }
@@ -170,7 +173,9 @@ pub(crate) fn amount(rest: &[Datum]) -> Result<i128, EvaluationError>
     }
 }
 
-/// INCF of a property, by an integer or by 1: the sum.
+/// INCF of a property, by an integer or by 1: the sum. Refused as `ARGUMENT_KIND` where there is no such property, or
+/// it or the amount is no integer; as `INTEGER_RANGE` where the sum has over 128 bits. After an error the world is as
+/// it was.
 pub fn increment(
     alloc: Global,
     world: &mut World,
@@ -225,7 +230,9 @@ pub(crate) fn pushed(alloc: Global, value: &Datum, old: Option<&Datum>) -> Resul
     Datum::list(alloc, items, Some(old))
 }
 
-/// PUSH of a value to a property: the pair of the two.
+/// PUSH of a value to a property: the pair of the two. Refused as `ARGUMENT_KIND` where there are not three arguments,
+/// or the last two are no symbols; as `VALUE_TOO_DEEP` or `LIMIT` where the pair is too deep or too large. After an
+/// error the world is as it was.
 pub fn push(
     alloc: Global,
     world: &mut World,

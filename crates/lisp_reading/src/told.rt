@@ -46,7 +46,8 @@ impl From<AllocError> for TellError {
     }
 }
 
-/// The meaning of a token with at least one mark, in this base and this package.
+/// The meaning of a token with at least one mark, in this base and this package. Refused as the token or its package
+/// is, with the number of the refusal; `OutOfMemory` else. Nothing is changed.
 #[inline(always)]
 pub fn tell(
     alloc: Global,

@@ -30,7 +30,8 @@ fn read_piece<F: LiveFiles>(
     Ok(bytes)
 }
 
-/// All bytes of a half, in pieces one after the other.
+/// All bytes of a half, in pieces one after the other. Nothing is written. It fails only where the device does, or for
+/// want of memory.
 pub(crate) fn read_whole<F: LiveFiles>(
     alloc: Global,
     files: &mut F,

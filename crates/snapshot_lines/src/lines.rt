@@ -50,7 +50,8 @@ fn first_object<R: MacroFunctions>(
     }
 }
 
-/// The object that begins at `at`, where more follows, and its end.
+/// The object that begins at `at`, where more follows, and its end. `Damaged` where none is read there, or the line
+/// ends within it.
 pub fn object_at<R: MacroFunctions>(
     source: &Source<'_, R>,
     world: &World,
@@ -72,7 +73,7 @@ pub fn object_at<R: MacroFunctions>(
     Ok((datum, at.saturating_add(end)))
 }
 
-/// The object of the line that begins at `at`, and where the next line begins.
+/// The object of the line that begins at `at`, and where the next line begins. `Damaged` where none is read there.
 pub fn next_object<R: MacroFunctions>(
     source: &Source<'_, R>,
     world: &World,

@@ -21,7 +21,7 @@ pub enum Coming<'a> {
     End(&'a [u8]),
 }
 
-/// What stands after this byte.
+/// What stands after this byte. `Damaged` where another byte stands there, or none.
 pub fn after_byte(bytes: &[u8], byte: u8) -> Result<&[u8], BuildError>
     ensures after { (after : List ℕ) → bytes.now ≡ byte ∷ after
         → Succeeds result (λ rest. rest.now ≡ after) }
@@ -33,7 +33,7 @@ pub fn after_byte(bytes: &[u8], byte: u8) -> Result<&[u8], BuildError>
     }
 }
 
-/// What comes next, where a list begins or after one of its items.
+/// What comes next, where a list begins or after one of its items. `Damaged` where it is none of these.
 pub fn coming_item(bytes: &[u8]) -> Result<Coming<'_>, BuildError>
     ensures item { (items : List (List ℕ)) (after : List ℕ) → IsAtItems items after bytes.now
         → Succeeds result (IsComing items after) }
@@ -54,7 +54,8 @@ pub fn coming_item(bytes: &[u8]) -> Result<Coming<'_>, BuildError>
     }
 }
 
-/// The text that begins here, as it is written between its quotes, and what stands after it.
+/// The text that begins here, as it is written between its quotes, and what stands after it. `Damaged` where no quote
+/// begins it, or none ends it.
 pub fn written_text(bytes: &[u8]) -> Result<(&[u8], &[u8]), BuildError>
     ensures text { (name after : List ℕ) → bytes.now ≡ printed_text name ++ after
         → Succeeds result (λ read. (unescaped read.0.now ≡ name) × (read.1.now ≡ after)) }
@@ -96,7 +97,7 @@ pub fn text_of(alloc: Global, written: &[u8]) -> Result<Bytes, AllocError>
     Bytes::from_vec(text)
 }
 
-/// The text that is written so, of characters below 128.
+/// The text that is written so, of characters below 128. `Damaged` where a character is above.
 pub fn name_of(alloc: Global, written: &[u8]) -> Result<Bytes, BuildError>
     ensures same { IfOk result (λ name. name ≡ unescaped written.now) }
     ensures below { IfOk result (λ name. All (λ b. b < 128) name) }
@@ -117,7 +118,7 @@ fn push_item<T: Copy>(items: &mut Vec<T>, item: T) -> Result<(), AllocError>
     Ok(())
 }
 
-/// The texts of the list that begins here, and what stands after it.
+/// The texts of the list that begins here, and what stands after it. `Damaged` where something else stands there.
 pub fn texts_in(alloc: Global, bytes: &[u8]) -> Result<(Vec<&[u8]>, &[u8]), BuildError>
     ensures texts { (names : List Name) (after : List ℕ) → bytes.now ≡ texts_text names ++ after
         → IsOfMade result (λ read. (map (λ b. unescaped b.now) read.0.items ≡ names)
@@ -150,7 +151,8 @@ fn pair_in(bytes: &[u8]) -> Result<((&[u8], &[u8]), &[u8]), BuildError>
     Ok(((first, second), after))
 }
 
-/// The pairs of texts of the list that begins here, and what stands after it.
+/// The pairs of texts of the list that begins here, and what stands after it. `Damaged` where something else stands
+/// there.
 pub fn pairs_in(alloc: Global, bytes: &[u8]) -> Result<(Vec<(&[u8], &[u8])>, &[u8]), BuildError>
     ensures pairs { (pairs : List (Name × Name)) (after : List ℕ)
         → bytes.now ≡ pairs_text pairs ++ after

@@ -65,7 +65,8 @@ fn intern_each(
     Ok(())
 }
 
-/// Makes a package, where it is none of the first, and its own symbols.
+/// Makes a package, where it is none of the first, and its own symbols. After an error a part of it may be made: who
+/// calls it throws the world away.
 pub(crate) fn make_own(
     alloc: Global,
     world: &mut World,

@@ -344,8 +344,9 @@ fn use_all(alloc: Global, world: &mut World, rows: &[PackageParts<'_>]) -> Resul
     Ok(())
 }
 
-/// Makes the packages of a new world those of the line that begins here, and gives what stands after the list. All symbols are
-/// made before one is imported, and all external ones before a package is used.
+/// Makes the packages of a new world those of the line that begins here, and gives what stands after the list. All
+/// symbols are made before one is imported, and all external ones before a package is used. After an error a part of
+/// them may be made: who calls it throws the world away.
 pub(crate) fn make_packages<'a>(
     alloc: Global,
     world: &mut World,

@@ -9,7 +9,7 @@ ghost use Rattle.snapshot_lines.specs.Answers.{Succeeds};
 use lisp_object::{Bytes, Datum};
 use snapshot_lines::BuildError;
 
-// The bytes of a text.
+// The bytes of a text. `Damaged` where it is another object.
 pub(crate) fn text_in(datum: &Datum) -> Result<&Bytes, BuildError>
     ensures same { IfOk result (λ bytes. datum.now ≡ Datum.Text bytes.now) }
     ensures read { is_proper datum.now ≡ true → (bytes : List ℕ) → object_of datum.now ≡ text bytes
@@ -21,7 +21,7 @@ pub(crate) fn text_in(datum: &Datum) -> Result<&Bytes, BuildError>
     }
 }
 
-// The items of a list that ends in NIL.
+// The items of a list that ends in NIL. `Damaged` where it is another object.
 pub(crate) fn items_in(datum: &Datum) -> Result<&[Datum], BuildError>
     ensures same { IfOk result (λ items. object_of datum.now ≡ list_of (map object_of items.now)) }
     ensures read { is_proper datum.now ≡ true → (xs : List Object)
@@ -41,7 +41,7 @@ pub(crate) fn items_in(datum: &Datum) -> Result<&[Datum], BuildError>
     }
 }
 
-// A number below 128.
+// A number below 128. `Damaged` where it is another object.
 pub(crate) fn character_in(datum: &Datum) -> Result<u8, BuildError>
     ensures number { IfOk result (λ n. datum.now ≡ Datum.Integer (pos n)) }
     ensures below { IfOk result (λ n. n < 128) }

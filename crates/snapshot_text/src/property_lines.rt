@@ -64,8 +64,9 @@ fn read_rows<R: MacroFunctions>(
     }
 }
 
-/// Sets the properties of the line that begins at `at`, in a world that has the packages. Gives where the next line begins.
-/// The line is NIL, or a list of rows.
+/// Sets the properties of the line that begins at `at`, in a world that has the packages. Gives where the next line
+/// begins. The line is NIL, or a list of rows. `Damaged` where no such line stands there; who calls it throws the world
+/// away then.
 pub(crate) fn read_properties<R: MacroFunctions>(
     source: &Source<'_, R>,
     world: &mut World,

@@ -83,6 +83,7 @@ fn put_each(
 }
 
 /// Sets the properties of a symbol that has none: its row is the symbol, and its indicators and values in turn.
+/// `Damaged` where it is no such row; who calls it throws the world away then.
 pub(crate) fn put_row(alloc: Global, world: &mut World, row: &Datum) -> Result<(), BuildError>
     ensures { is_proper row.now ≡ true → (x : properties.Symbol) (ps : Plist)
         → object_of row.now ≡ plist_object x ps → IsSymbol world.old.0.packages x

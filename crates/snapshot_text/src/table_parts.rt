@@ -268,8 +268,8 @@ fn put_tables_2(world: &mut World, tables: &Datum) -> Result<(), BuildError>
     Ok(())
 }
 
-/// Makes the readtables of the third object of a snapshot of this version, what is current, and the base of numbers, in a world
-/// that has its packages.
+/// Makes the readtables of the third object of a snapshot of this version, what is current, and the base of numbers, in
+/// a world that has its packages. After an error a part of them may be made: who calls it throws the world away.
 pub(crate) fn put_tables(world: &mut World, version: u16, tables: &Datum) -> Result<(), BuildError>
     ensures { (s : WorldState) → IsSoundState s → is_proper tables.now ≡ true
         → tables_object_in version s ≡ Some (object_of tables.now)

@@ -8,7 +8,7 @@ use crate::{FinishError, Finished, StdRefusal};
 use lisp_object::Datum;
 use token_scan::Mark;
 
-/// The character of a token: the only one that it has, or the one of that name.
+/// The character of a token: the only one that it has, or the one of that name. Refused where there is no such name.
 pub(crate) fn character(marks: &[Mark]) -> Result<Finished, FinishError>
     requires { IsTrue (are_ascii marks.now) }
     ensures value { AnswersWithValue result (character_of (characters marks.now)) }

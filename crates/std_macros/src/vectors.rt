@@ -16,6 +16,7 @@ use std::alloc::{AllocError, Global};
 pub const LARGEST_REPEATED_VECTOR: u64 = 1_000_000;
 
 /// The vector of this length that begins with these objects, the last of which is repeated where they are fewer.
+/// Refused as `VectorLength` where they are more, or none is there to repeat.
 pub(crate) fn vector(
     alloc: Global,
     length: u32,

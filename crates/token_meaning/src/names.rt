@@ -20,7 +20,7 @@ enum NameParts<'a> {
     Internal(&'a [Mark], &'a [Mark]),
 }
 
-/// The name of a token with these marks.
+/// The name of a token with these marks. Refused where the colons make no name, and `OutOfMemory`.
 pub(crate) fn name(alloc: Global, marks: &[Mark]) -> Result<TokenName, MeaningError>
     ensures gives { MatchResult result (λ own. name_of_marks marks.now ≡ Ok (named own))
         (λ error. Fails error (name_of_marks marks.now)) }

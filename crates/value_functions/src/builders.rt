@@ -43,7 +43,8 @@ fn append(alloc: Global, values: &[Datum]) -> Result<Datum, EvaluationError>
     within(Datum::list(alloc, joined, Some(values[last].copy(alloc)?))?)
 }
 
-/// What is built of these.
+/// What is built of these. Refused as `VALUE_TOO_DEEP` or `LIMIT` where it is too deep or too large; APPEND also as
+/// `ARGUMENT_KIND`, where one of all but the last is no list.
 pub(crate) fn build(
     alloc: Global,
     function: Building,

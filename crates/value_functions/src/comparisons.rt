@@ -135,7 +135,7 @@ fn is_chain(test: Comparison, first: &Datum, rest: &[Datum]) -> bool
     true
 }
 
-/// What a comparison of these gives.
+/// What a comparison of these gives. Refused as `ARGUMENT_KIND` where there is none, or one is no number.
 pub(crate) fn compare_numbers(
     alloc: Global,
     test: Comparison,

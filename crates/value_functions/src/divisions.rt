@@ -80,7 +80,8 @@ fn of_two(function: Division, first: &Datum, second: &Datum) -> Result<Datum, Ev
     division_value(function, n, d)
 }
 
-/// What a division gives: by 1, where no divisor is given.
+/// What a division gives: by 1, where no divisor is given. Refused as `ARGUMENT_KIND` where there are not one or two,
+/// or one is no integer; `division` says what else refuses it.
 pub(crate) fn divide(
     _alloc: Global,
     function: Division,

@@ -116,7 +116,7 @@ fn ends_equal(tail: &Option<Boxed<Datum>>, end: &Option<Boxed<Datum>>) -> bool
     }
 }
 
-/// EQL or EQUAL of two arguments.
+/// EQL or EQUAL of two arguments. Refused as `ARGUMENT_KIND` where there are not two.
 pub(crate) fn test_equality(
     alloc: Global,
     test: Equality,

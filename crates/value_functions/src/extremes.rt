@@ -41,7 +41,7 @@ fn furthest<'a>(way: Extreme, first: &'a Datum, rest: &'a [Datum]) -> &'a Datum
     found
 }
 
-/// The least or the greatest of these.
+/// The least or the greatest of these. Refused as `ARGUMENT_KIND` where there is none, or one is no number.
 pub(crate) fn find_extreme(
     alloc: Global,
     way: Extreme,

@@ -218,7 +218,8 @@ fn with_list(
     }
 }
 
-/// What a function on lists gives.
+/// What a function on lists gives. Refused as `ARGUMENT_KIND` where there are not one or two; `on_lists` of the specs
+/// says what each refuses besides.
 pub(crate) fn on_lists(
     alloc: Global,
     function: OnLists,

@@ -34,7 +34,8 @@ pub(crate) fn list_parts(datum: &Datum) -> Option<(&[Datum], Option<&Datum>)>
     }
 }
 
-/// What is given at the end of a list: NIL, if it ends in NIL.
+/// What is given at the end of a list, whose tail is `end`: NIL where it ends in NIL, and else it is refused as
+/// `ARGUMENT_KIND`.
 pub(crate) fn past_end(alloc: Global, end: Option<&Datum>) -> Result<Datum, EvaluationError>
     requires { IsListEnd end }
     ensures value { AnswersValue result (past_end (end_of end.entry)) }
@@ -75,7 +76,8 @@ pub(crate) fn copied_list(
     }
 }
 
-/// A value that was built, if it is not too deep and not too large.
+/// A value that was built, if it is not too deep and not too large. Else it is refused: as `VALUE_TOO_DEEP` first, then
+/// as `LIMIT`.
 #[tactic(auto, using(lisp_operators::proofs::Shapes::depth_test, lisp_operators::proofs::Shapes::size_test))]
 pub(crate) fn within(value: Datum) -> Result<Datum, EvaluationError>
     requires { IsProper value }

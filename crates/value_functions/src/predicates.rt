@@ -47,7 +47,8 @@ fn holds(test: Predicate, datum: &Datum) -> bool
     }
 }
 
-/// Whether the one argument is what the predicate asks for.
+/// Whether the one argument is what the predicate asks for. Refused as `ARGUMENT_KIND` where there is none, or more
+/// than one.
 pub(crate) fn test_object(
     alloc: Global,
     test: Predicate,

@@ -281,7 +281,8 @@ fn with_sequence(
     }
 }
 
-/// What a function on sequences gives.
+/// What a function on sequences gives. Refused as `ARGUMENT_KIND` where there are not one or two; `on_sequences` of the
+/// specs says what each refuses besides.
 pub(crate) fn on_sequences(
     alloc: Global,
     function: OnSequences,

@@ -56,7 +56,8 @@ fn from_left(function: Arithmetic, first: i128, values: &[Datum]) -> Result<Datu
     Ok(Datum::Integer(total))
 }
 
-/// What a function of integers gives.
+/// What a function of integers gives. Refused as `ARGUMENT_KIND` where one is no integer; `arithmetic` says what else
+/// refuses it.
 pub(crate) fn calculate(
     _alloc: Global,
     function: Arithmetic,

@@ -106,7 +106,8 @@ fn name_of(datum: &Datum) -> Result<Datum, EvaluationError>
     }
 }
 
-/// What a function on texts gives.
+/// What a function on texts gives. Refused as `ARGUMENT_KIND` where there are not one or two; `on_texts` of the specs
+/// says what each refuses besides.
 pub(crate) fn on_texts(
     alloc: Global,
     function: OnTexts,

@@ -27,7 +27,8 @@ use plist_state::World;
 use readtable_core::FnName;
 use std::alloc::Global;
 
-/// What such an operator gives, of a form with a right number of arguments.
+/// What such an operator gives, of a form with a right number of arguments. After an error the world may have changed,
+/// but for its marks.
 #[cycle(evaluation)]
 pub(crate) fn decided(
     alloc: Global,
@@ -59,7 +60,8 @@ pub(crate) fn decided(
     }
 }
 
-/// IF: the second or the third, as the first is true or false (standard 5.3, `if`).
+/// IF: the second or the third, as the first is true or false (standard 5.3, `if`). After an error the world may have
+/// changed, but for its marks.
 #[cycle(evaluation)]
 pub(crate) fn chosen(
     alloc: Global,
