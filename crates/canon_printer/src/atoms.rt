@@ -1,4 +1,5 @@
 //! How numbers, characters and texts are written: the same in every package.
+//! After an error, want of memory alone, a part may be written.
 ghost use Rattle.std.specs.Prelude.{◌≡◌, ◌++◌, OnOk};
 ghost use Rattle.std.specs.Fmt.{signed_decimal};
 ghost use Rattle.canon_printer.specs.Written.{printed_ratio, printed_character, printed_text};

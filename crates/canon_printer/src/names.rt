@@ -21,7 +21,8 @@ pub(crate) fn write_name(text: &mut Vec<u8>, name: &[u8]) -> Result<(), AllocErr
     Ok(())
 }
 
-/// Writes the character, after a backslash if it needs one.
+/// Writes the character, after a backslash if it needs one. After an error, want of memory alone, a part may be
+/// written.
 pub(crate) fn write_escaped(text: &mut Vec<u8>, c: u8, is_escaped: bool) -> Result<(), AllocError>
     ensures { OnOk result (AddsText text.old text.new
         (if is_escaped then codes "\\" ++ c ∷ [] else c ∷ [])) }

@@ -10,7 +10,8 @@ use package_table::standardized::KEYWORD;
 use package_table::{Packages, Resolved};
 use std::alloc::AllocError;
 
-/// Writes a symbol, after a prefix if the current package does not find it by its name (standard 22.1.3.3.1).
+/// Writes a symbol, after a prefix if the current package does not find it by its name (standard 22.1.3.3.1). After an
+/// error, want of memory alone, a part may be written.
 pub(crate) fn write_symbol(
     text: &mut Vec<u8>,
     home: &[u8],
@@ -26,7 +27,7 @@ pub(crate) fn write_symbol(
     write_name(text, name)
 }
 
-/// Writes a symbol that has no home (standard 22.1.3.3.1).
+/// Writes a symbol that has no home (standard 22.1.3.3.1). After an error, want of memory alone, a part may be written.
 pub(crate) fn write_uninterned(text: &mut Vec<u8>, name: &[u8]) -> Result<(), AllocError>
     ensures { OnOk result (AddsText text.old text.new (printed_uninterned name.now)) }
 {

@@ -37,7 +37,7 @@ fn set_mark(marks: &mut Vec<bool>, place: u32) -> Result<(), AllocError>
     Ok(())
 }
 
-/// Marks a symbol, if it is there.
+/// Marks a symbol, if it is there. After an error, want of memory alone, it is not marked.
 pub(crate) fn mark(
     packages: &Packages,
     marks: &mut Vec<bool>,
@@ -67,7 +67,8 @@ pub(crate) fn is_marked(packages: &Packages, marks: &[bool], home: &[u8], name: 
     }
 }
 
-/// Marks the symbols of a datum. The NIL that ends a list is one of them.
+/// Marks the symbols of a datum. The NIL that ends a list is one of them. After an error, want of memory alone, a part
+/// of them may be marked.
 #[cycle(marking)]
 pub(crate) fn mark_datum(
     packages: &Packages,
@@ -138,7 +139,7 @@ fn mark_nil(packages: &Packages, marks: &mut Vec<bool>) -> Result<(), AllocError
     mark(packages, marks, COMMON_LISP, b"NIL")
 }
 
-/// Marks these symbols.
+/// Marks these symbols. After an error, want of memory alone, a part of them may be marked.
 #[tactic(auto, using(crate::proofs::Marking::marked_none, crate::proofs::Marking::marked_next))]
 pub(crate) fn mark_all(
     packages: &Packages,

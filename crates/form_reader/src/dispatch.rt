@@ -1,4 +1,5 @@
 //! The functions at macro characters and sub-characters: which it is, and how its call begins.
+//! An error is want of memory: the reader takes no byte after it, and answers it again.
 ghost use Rattle.std.specs.Prelude.{◌≡◌, ◌≤◌, ◌<◌, ◌+◌, ℕ, List, ◌∷◌, length, IfOk, true, false, Ok, Some};
 ghost use Rattle.readtable_core.specs.Tables.{entry_at};
 ghost use Rattle.lisp_reading.specs.Setting.{function_of, is_baseless, standard_way, user_way, way_in};

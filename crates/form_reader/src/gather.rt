@@ -1,4 +1,5 @@
 //! One byte of what a call gathers: a text, a line, a block, a number; and what the call comes to.
+//! An error is want of memory: the reader takes no byte after it, and answers it again.
 ghost use Rattle.std.specs.Prelude.{◌≡◌, ◌≤◌, ◌<◌, ◌+◌, ◌^◌, ◌==◌, ℕ, List, ◌∷◌, ◌++◌, [], IfOk, IfSome, Ok, None, length};
 ghost use Rattle.lisp_reading.specs.Plans.{loop, next_byte, run};
 ghost use Rattle.lisp_reading.specs.Gathering.{text_turn, line_turn, block_turn, number_turn, block_next};

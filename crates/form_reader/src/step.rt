@@ -1,4 +1,5 @@
 //! One byte of a text, wherever a reader is in a form, and after what it ends.
+//! An error is want of memory: the reader takes no byte after it, and answers it again.
 ghost use Rattle.std.specs.Prelude.{◌≡◌, ◌≤◌, ◌<◌, ◌+◌, ◌^◌, ℕ, List, [], ◌∷◌, length, true, Ok, IfOk};
 ghost use Rattle.lisp_reading.specs.Plans.{Read};
 ghost use Rattle.lisp_reading.specs.declared.found.Found.{Found as FoundThere};

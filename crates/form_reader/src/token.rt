@@ -1,4 +1,5 @@
 //! Tokens: one byte of a token, and what it comes to where it ends.
+//! An error is want of memory: the reader takes no byte after it, and answers it again.
 ghost use Rattle.std.specs.Prelude.{◌≡◌, ◌≤◌, ◌<◌, ℕ, List, ◌∷◌, IfOk, IsTrue, IsFalse, Ok, nat_lt, if◌then◌else◌, ◌+◌, length, true, false};
 ghost use Rattle.token_scan.specs.Tokens.{kind, typed};
 ghost use Rattle.token_scan.specs.Spelling.{ends_tokens};

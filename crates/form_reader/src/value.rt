@@ -1,4 +1,5 @@
 //! What the open calls make of what is found in the innermost.
+//! An error is want of memory: the reader takes no byte after it, and answers it again.
 ghost use Rattle.std.specs.Prelude.{◌≤◌, ◌<◌, ℕ, List, length, IfOk};
 ghost use Rattle.lisp_reading.specs.Plans.{gives};
 ghost use Rattle.lisp_reading.specs.declared.found.Found.TheVariants.{One as one, LoneDot as lone_dot};

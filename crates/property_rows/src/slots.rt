@@ -179,7 +179,7 @@ pub(crate) fn exchange(slots: &mut [Slot], index: usize, value: Datum) -> Datum
     mem::replace(&mut slots[at].value, value)
 }
 
-/// Adds a property at the end.
+/// Adds a property at the end. After an error the properties are those that were there.
 pub(crate) fn append(slots: &mut Vec<Slot>, property: NumberedProperty) -> Result<(), AllocError>
     requires { IsSlots slots.old.items }
     ensures slots { IsSlots slots.new.items }
@@ -217,7 +217,7 @@ pub(crate) fn drop_last(slots: &mut Vec<Slot>)
     let _ = slots.pop();
 }
 
-/// A property comes to an index. The others are moved.
+/// A property comes to an index. The others are moved. After an error the properties are those that were there.
 pub(crate) fn put_in(
     slots: &mut Vec<Slot>,
     index: usize,

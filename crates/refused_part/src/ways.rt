@@ -21,7 +21,8 @@ pub(crate) fn uses(world: &World, package: &[u8]) -> bool {
     current == package || world.packages().is_used(current, package)
 }
 
-/// Adds how an operator of PAZTURROK becomes known, or under which name it is.
+/// Adds how an operator of PAZTURROK becomes known, or under which name it is. After an error, want of memory alone, a
+/// part may be added.
 pub(crate) fn add_way_to_own(
     alloc: Global,
     text: &mut Vec<u8>,

@@ -257,6 +257,7 @@ fn push_each_use(
 }
 
 /// Adds the forms that make these packages. Symbols come before uses: a name that was inherited would not be interned.
+/// After an error, want of memory alone, a part may be added.
 #[tactic(auto, unfolding(crate::specs::Packages::package_lines))]
 pub(crate) fn push_packages(
     alloc: Global,

@@ -242,7 +242,7 @@ fn push_plists(
     Ok(())
 }
 
-/// Adds the forms that set the properties of a world.
+/// Adds the forms that set the properties of a world. After an error, want of memory alone, a part may be added.
 #[tactic(auto, unfolding(crate::specs::Properties::property_lines, crate::specs::Properties::left_out_lines))]
 pub(crate) fn push_properties(
     alloc: Global,

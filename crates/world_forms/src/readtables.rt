@@ -344,7 +344,8 @@ fn push_each(
     Ok(())
 }
 
-/// Adds the forms that make the readtables of a world, but for the standard one.
+/// Adds the forms that make the readtables of a world, but for the standard one. After an error, want of memory alone,
+/// a part may be added.
 #[tactic(auto, unfolding(crate::specs::Readtables::readtable_lines))]
 pub(crate) fn push_readtables(
     alloc: Global,

@@ -1,4 +1,4 @@
-//! Names, texts, symbols and characters as they stand in a form.
+//! Names, texts, symbols and characters as they stand in a form. After an error, want of memory alone, a part may be added.
 ghost use Rattle.std.specs.Prelude.{◌≡◌, ◌<◌, [], ◌∷◌, ◌++◌, map, if◌then◌else◌, codes, OnOk};
 ghost use Rattle.std.specs.List.{list_all, flat_map};
 ghost use Rattle.canon_printer.specs.Names.{with_backslashes, is_escaped_in_bars, is_invalid};

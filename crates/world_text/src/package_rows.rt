@@ -255,7 +255,8 @@ fn push_beside<T: NameTest>(
     Ok(())
 }
 
-/// Adds the printed list of all packages but COMMON-LISP, with the names that a test keeps.
+/// Adds the printed list of all packages but COMMON-LISP, with the names that a test keeps. After an error, want of
+/// memory alone, a part may be added.
 pub(crate) fn push_packages<T: NameTest>(
     alloc: Global,
     text: &mut Vec<u8>,

@@ -79,7 +79,7 @@ pub(crate) fn imports_of(alloc: Global, imports: &[(Bytes, Bytes)]) -> Result<Da
     Datum::list(alloc, items, None)
 }
 
-// Adds a text, as it is printed.
+// Adds a text, as it is printed. After an error, want of memory alone, a part may be added.
 pub(crate) fn push_text(
     alloc: Global,
     text: &mut Vec<u8>,

@@ -1,4 +1,5 @@
 //! One byte where an object may begin, also after a token there.
+//! An error is want of memory: the reader takes no byte after it, and answers it again.
 ghost use Rattle.std.specs.Prelude.{◌≡◌, ◌≤◌, ◌<◌, ◌+◌, ℕ, List, ◌∷◌, length, true, IfOk, false};
 ghost use Rattle.form_reader.specs.Step.{Passes, IsReadyPass};
 ghost use Rattle.lisp_reading.specs.Plans.{gives};
