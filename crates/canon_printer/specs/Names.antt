@@ -33,6 +33,7 @@ is_invalid c = nat_lt c 8 || c == 11 || (nat_le 14 c && nat_lt c 32)
 abbrev pub is_escaped_in_bars : ℕ → Bool
 is_escaped_in_bars c = c == byte "|" || c == byte "\\" || is_invalid c
 
+-- a name as it is where it is plain, and else between bars
 abbrev pub printed_name : List ℕ → List ℕ
 printed_name name =
     if is_plain name then name else codes "|" ++ with_backslashes is_escaped_in_bars name ++ codes "|"

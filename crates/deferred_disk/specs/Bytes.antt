@@ -15,6 +15,7 @@ half_byte B = 1
 abbrev pub head : ℕ → Half → ℕ → ℕ → List ℕ
 head kind half place len = kind ∷ half_byte half ∷ (to_le_bytes w64 place ++ to_le_bytes w64 len)
 
+-- the bytes by which an order is handed out: its head, and of a write what it writes
 abbrev pub order_bytes : OrderValue → List ℕ
 order_bytes (writes half at bytes) = head 1 half at (length bytes) ++ bytes
 order_bytes (cuts half len) = head 2 half len 0

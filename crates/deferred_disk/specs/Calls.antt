@@ -22,6 +22,7 @@ with_order calls order = record { start = calls.start; done = calls.done; pendin
 abbrev pub reported : CallsValue → CallsValue
 reported calls = record { start = calls.start; done = all_of calls; pending = [] }
 
+-- the calls of a disk that begins with these two files
 abbrev pub first_calls : List ℕ → List ℕ → CallsValue
 first_calls a b = record { start = record { a = a; b = b }; done = []; pending = [] }
 
@@ -30,6 +31,7 @@ first_calls a b = record { start = record { a = a; b = b }; done = []; pending =
 abbrev Parts : Type 0
 Parts = (List ℕ × List ℕ) × (List OrderValue × List OrderValue)
 
+-- calls are told apart by their files and their orders
 abbrev pub calls_code : Coded CallsValue
 calls_code =
     code_by Parts (coded× (coded× (coded_list coded_ℕ) (coded_list coded_ℕ)) (coded× (coded_list order_code) (coded_list order_code)))

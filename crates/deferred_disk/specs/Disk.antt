@@ -16,6 +16,7 @@ calls_of disk = disk.past.calls
 abbrev pub pending_of : DeferredDisk → List OrderValue
 pending_of disk = disk.past.calls.pending
 
+-- the state of a disk, from the calls that it noted
 abbrev pub state_by_calls : DeferredDisk → State
 state_by_calls disk = ordered disk.past.calls disk.failures
 

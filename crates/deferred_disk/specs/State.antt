@@ -9,6 +9,7 @@ use Rattle.deferred_disk.specs.Calls.{CallsValue, all_of}
 
 -- ---- one order
 
+-- an image with another file in one half
 abbrev pub with_file : Half → List ℕ → Image → Image
 with_file A file image = record { a = file; b = image.b }
 with_file B file image = record { a = image.a; b = file }
@@ -37,6 +38,7 @@ OrderWritesBytes _ = Unit {0}
 
 -- ---- orders in turn, of which the newest is the first here
 
+-- what a read gives after these orders
 abbrev pub reads_by : Image → List OrderValue → Image
 reads_by start [] = start
 reads_by start (order ∷ earlier) = image_after order (reads_by start earlier)
@@ -52,6 +54,7 @@ abbrev pub OrdersLeftSince : Image → List OrderValue → ℕ → Image → Typ
 OrdersLeftSince start [] t c = (t ≤ 0) × OrdersMayLeave start [] c
 OrdersLeftSince start (order ∷ earlier) t c = OrdersLeftSince start earlier t c ⊎ ((t ≤ length (order ∷ earlier)) × OrdersMayLeave start (order ∷ earlier) c)
 
+-- what each of them writes is bytes
 abbrev pub AllWriteBytes : List OrderValue → Type 0
 AllWriteBytes [] = Unit {0}
 AllWriteBytes (order ∷ earlier) = OrderWritesBytes order × AllWriteBytes earlier

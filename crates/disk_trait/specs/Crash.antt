@@ -59,6 +59,7 @@ swept kind half (call ∷ calls) file left = swept kind half calls
     (on_same half call.half (reads_after call.what file) file)
     (on_same half call.half (bytes_left_after kind call.what file left) left)
 
+-- what a crash of this kind leaves of a half, from the calls since it was opened
 abbrev pub left_by : Crash → Half → List Call → List ℕ → List ℕ
 left_by Kept half calls start = (after_calls half calls (settled start)).reads
 left_by Lost half calls start = swept Lost half calls start start

@@ -40,6 +40,7 @@ before_next None = None
 before_next (Some zero) = None
 before_next (Some (suc calls)) = Some calls
 
+-- a faulty disk is told apart by the disk under it, its plan of faults and their count
 abbrev pub faulty_code : {D F : Type 0} → Coded D → Coded F → Coded (FaultyValue D F)
 faulty_code {D} {F} disk faults = code_by (D × (F × ℕ)) (coded× disk (coded× faults coded_ℕ)) (λ f. (f.disk, (f.faults, f.failed)))
     (λ t. record { disk = t.0; faults = t.1.0; failed = t.1.1 }) (λ _. refl)

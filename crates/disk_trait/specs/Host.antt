@@ -17,6 +17,7 @@ unclaimed mixes failures = record {
   performed = at_once;
 }
 
+-- a disk of which nothing is claimed is sound
 pub sound_unclaimed : (mixes : Bool) (failures : ℕ) → IsHonest (unclaimed mixes failures) → IsSoundDisk (unclaimed mixes failures)
 sound_unclaimed mixes failures honest = absurd (cc)
 

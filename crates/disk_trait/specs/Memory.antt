@@ -49,9 +49,11 @@ abbrev pub WriteLeaves : Bool → ℕ → List ℕ → List ℕ → List ℕ →
 WriteLeaves false at bytes = Torn at (length bytes)
 WriteLeaves true at bytes = Mixed at bytes
 
+-- a call that takes the step of a write
 abbrev pub RecordsWrite : {T E : Type 0} → Half → ℕ → List ℕ → State → State → Result T E → Type 0
 RecordsWrite half at bytes old new result = RecordsStep (OnHalf half (WriteLeaves old.mixes at bytes)) old new result
 
+-- a call that takes the step of a cut
 abbrev pub RecordsCut : {T E : Type 0} → Half → ℕ → State → State → Result T E → Type 0
 RecordsCut half len old new result = RecordsStep (OnHalf half (Cut len)) old new result
 
@@ -65,8 +67,10 @@ pub record TakesChange (Tears Does : Image → Image → Type 0) (old new : Stat
   pub tears : Changes Tears old new
   pub done : Does old.reads new.reads
 
+-- a write is done, with what a crash may leave of it
 abbrev pub TakesWrite : Half → ℕ → List ℕ → State → State → Type 0
 TakesWrite half at bytes old new = TakesChange (OnHalf half (WriteLeaves old.mixes at bytes)) (OnHalf half (λ file next. next ≡ written at bytes file)) old new
 
+-- a cut is done, with what a crash may leave of it
 abbrev pub TakesCut : Half → ℕ → State → State → Type 0
 TakesCut half len = TakesChange (OnHalf half (Cut len)) (OnHalf half (λ file next. next ≡ take len file))

@@ -11,6 +11,7 @@ byte_at [] i are = omega arith
 byte_at (x ∷ xs) zero are = are.0
 byte_at (x ∷ xs) (suc i) are = byte_at xs i are.1
 
+-- a disk that mixes old and new bytes tears a write in one of the ways of any disk
 pub mixed_torn : (at : ℕ) (bytes old new : List ℕ) → AreBytes bytes → AreBytes old → Mixed at bytes old new → Torn at (length bytes) old new
 mixed_torn at bytes old new are were mixed = record {
   middle = mixed.middle;
@@ -37,5 +38,6 @@ merged_mixed at bytes merged old long each = record {
     size : length (written at merged old) ≡ length (take at old) + length merged + length (drop (at + length merged) old)
     size = length-append (take at old ++ merged) (drop (at + length merged) old) ∙ ap (λ n. n + length (drop (at + length merged) old)) (length-append (take at old) merged)
 
+-- a write that is done in whole is one of the mixtures
 pub whole_mixed : (at : ℕ) (bytes old : List ℕ) → Mixed at bytes old (written at bytes old)
 whole_mixed at bytes old = merged_mixed at bytes bytes old refl (λ i within. inl refl)

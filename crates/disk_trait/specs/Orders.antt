@@ -27,6 +27,7 @@ pub half_back : (half : Half) → half_at (is_b half) ≡ half
 half_back A = refl
 half_back B = refl
 
+-- a half is told apart by whether it is the second one
 abbrev pub half_code : Coded Half
 half_code = code_by Bool coded_bool is_b half_at half_back
 
@@ -48,5 +49,6 @@ parts_back (writes half at bytes) = refl
 parts_back (cuts half len) = refl
 parts_back (syncs half) = refl
 
+-- an order is told apart by its half, its place and its bytes
 abbrev pub order_code : Coded OrderValue
 order_code = code_by Parts (coded⊎ (coded× half_code (coded× coded_ℕ (coded_list coded_ℕ))) (coded⊎ (coded× half_code coded_ℕ) half_code)) parts_of of_parts parts_back

@@ -38,6 +38,7 @@ abbrev pub Binds : What → List ℕ → List ℕ → Type 0
 Binds Synced file left = left ≡ file
 Binds _ file left = Unit {0}
 
+-- a crash may leave this of a half on which one call more was made
 abbrev pub MayFollow : What → FileState → List ℕ → Type 0
 MayFollow what before c = (d : List ℕ) × before.may_leave d × ((c ≡ d) ⊎ PartOf what d c)
 
@@ -84,6 +85,7 @@ writes_bytes Synced = true
 abbrev pub began_with_bytes : Image → Bool
 began_with_bytes start = are_bytes start.a && are_bytes start.b
 
+-- what each of these calls wrote is bytes
 abbrev pub wrote_bytes : List Call → Bool
 wrote_bytes calls = list_all (λ call. writes_bytes call.what) calls
 

@@ -35,6 +35,7 @@ pub stay : (half : Half) (calls : List Call) (p : FileState) → Stays p → Sta
 stay half [] p stays = stays
 stay half (call ∷ calls) p stays = stay half calls (after_call half call p) (stay_where half call.half (after_what call.what p) p (stay_what call.what p stays) stays)
 
+-- a disk whose state is told from its calls is sound
 pub sound_told : (mixes : Bool) (start : Image) (calls : List Call) (failures : ℕ) → IsTrue (began_with_bytes start) → IsTrue (wrote_bytes calls) → IsSoundDisk (state_after_calls mixes start calls failures)
 sound_told mixes start calls failures began wrote = record {
   reads_stay = (stay A calls (settled start.a) refl, stay B calls (settled start.b) refl);

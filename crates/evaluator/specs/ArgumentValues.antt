@@ -66,6 +66,7 @@ Evaluates names x old new result = Answers done result new (value names old x)
 abbrev pub EvaluatesFor : Wanted → List Name → Object → WorldState → WorldState → Result Evaluated EvaluationError → Type 0
 EvaluatesFor wanted names x old new result = Answers done result new (seen wanted (value names old x))
 
+-- an operator with these items was carried out as `operation_value` says
 abbrev pub Operates : List Name → EvaluationTask → List Datum → WorldState → WorldState → Result Evaluated EvaluationError → Type 0
 Operates names task items old new result =
     Answers done result new (seen task.wanted (operation_value names task.operation (arguments_in items) old))

@@ -164,6 +164,7 @@ abbrev pub has_default_at : PlaceForm → Bool
 has_default_at PropertyOr = true
 has_default_at _ = false
 
+-- what an operation gives of the values of its arguments, and of the kind of its place
 abbrev pub function_of_operation : List Name → Operation → PlaceForm → List Object → WorldState → Evaluation Object
 function_of_operation names Setf place xs s = set_at place xs s
 function_of_operation names Incf place xs s = increment xs s

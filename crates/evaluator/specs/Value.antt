@@ -228,6 +228,8 @@ unfoldable mutual
   values_before_place_over based table s _ = Err ARGUMENT_KIND
 
 -- ---- by the operators there are, where these are the names of macro functions
+
+-- the value of a form
 abbrev pub value_by : Bool → List Name → WorldState → Object → Evaluation Object
 value_by based names = value_over based (operator_of names)
 
@@ -235,28 +237,37 @@ value_by based names = value_over based (operator_of names)
 abbrev pub values_by : Bool → List Name → WorldState → Object → Evaluation (List Object)
 values_by based names = values_over based (operator_of names)
 
+-- IF
 abbrev pub choice_by : Bool → List Name → WorldState → Object → Evaluation Object
 choice_by based names = choice_over based (operator_of names)
 
+-- the third argument of IF
 abbrev pub other_value_by : Bool → List Name → WorldState → Object → Evaluation Object
 other_value_by based names = other_value_over based (operator_of names)
 
+-- AND and OR
 abbrev pub sought_by : Bool → List Name → Bool → WorldState → Object → Evaluation Object
 sought_by based names = sought_over based (operator_of names)
 
+-- COND
 abbrev pub selected_by : Bool → List Name → WorldState → Object → Evaluation Object
 selected_by based names = selected_over based (operator_of names)
 
+-- WHEN and UNLESS
 abbrev pub guarded_by : Bool → List Name → Bool → WorldState → Object → Evaluation Object
 guarded_by based names = guarded_over based (operator_of names)
 
+-- the subforms of a place, and the forms after it
 abbrev pub values_at_place_by : Bool → List Name → WorldState → Object → Evaluation (List Object)
 values_at_place_by based names = values_at_place_over based (operator_of names)
 
+-- the form before a place, and the subforms of the place
 abbrev pub values_before_place_by : Bool → List Name → WorldState → Object → Evaluation (List Object)
 values_before_place_by based names = values_before_place_over based (operator_of names)
 
 -- ---- where it is
+
+-- whether a place is the read base
 abbrev pub is_base_place : Object → Bool
 is_base_place = is_base_by true
 
@@ -284,20 +295,26 @@ values = values_by true
 abbrev pub choice : List Name → WorldState → Object → Evaluation Object
 choice = choice_by true
 
+-- what IF gives where its first is false: the value of the third, and NIL where there is none
 abbrev pub other_value : List Name → WorldState → Object → Evaluation Object
 other_value = other_value_by true
 
+-- what AND and OR give: the first value that is false, or true, ends it
 abbrev pub sought : List Name → Bool → WorldState → Object → Evaluation Object
 sought = sought_by true
 
+-- what COND gives: of the first clause whose test is true
 abbrev pub selected : List Name → WorldState → Object → Evaluation Object
 selected = selected_by true
 
+-- what WHEN and UNLESS give
 abbrev pub guarded : List Name → Bool → WorldState → Object → Evaluation Object
 guarded = guarded_by true
 
+-- the values of the subforms of a place, and then of the forms after it
 abbrev pub values_at_place : List Name → WorldState → Object → Evaluation (List Object)
 values_at_place = values_at_place_by true
 
+-- the value of a form, and then of the subforms of the place after it
 abbrev pub values_before_place : List Name → WorldState → Object → Evaluation (List Object)
 values_before_place = values_before_place_by true

@@ -17,6 +17,7 @@ use Rattle.lisp_operators.specs.Packages.{one_by_one}
 use Rattle.evaluator.specs.Operators.{OperatorTable, operator_of}
 use Rattle.evaluator.specs.Value.{value, value_over}
 
+-- the packages alone
 abbrev pub table_of : Result (Name × Table) PackageError → Result Table PackageError
 table_of (Ok p) = Ok p.1
 table_of (Err e) = Err e
@@ -39,6 +40,7 @@ abbrev pub accepted_over : Bool → OperatorTable → WorldState → Result (Tab
 accepted_over based table s (Ok p) x = also p.1 (value_over based table (with_packages s p.0) x)
 accepted_over based table s (Err e) x = Err (package_error_number e)
 
+-- the same of a form whose symbols are interned first
 abbrev pub accept_over : Bool → OperatorTable → WorldState → Object → Evaluation Object
 accept_over based table s x = accepted_over based table s (with_symbols s.packages (symbols x)) x
 
@@ -46,9 +48,11 @@ accept_over based table s x = accepted_over based table s (with_symbols s.packag
 abbrev pub accepted_by : Bool → List Name → WorldState → Result (Table × Bool) PackageError → Object → Evaluation Object
 accepted_by based names = accepted_over based (operator_of names)
 
+-- `accept_over` by the same operators
 abbrev pub accept_by : Bool → List Name → WorldState → Object → Evaluation Object
 accept_by based names = accept_over based (operator_of names)
 
+-- What a form as a transaction gives: its value, the state after it, and whether it wrote; or the number of its refusal.
 abbrev pub accept : List Name → WorldState → Object → Evaluation Object
 accept = accept_by true
 
@@ -62,6 +66,7 @@ abbrev pub asked_with : List Name → WorldState → Result (Table × Bool) Pack
 asked_with names s (Ok p) x = value names (with_packages s p.0) x
 asked_with names s (Err e) x = Err (package_error_number e)
 
+-- What a form as a question gives.
 abbrev pub asked : List Name → WorldState → Object → Evaluation Object
 asked names s x = asked_with names s (with_symbols s.packages (symbols x)) x
 

@@ -5,6 +5,7 @@ use Rattle.package_table.specs.Table.{common_lisp}
 use Rattle.plist_state.specs.Properties.{Symbol}
 use Rattle.evaluator.specs.Operators.{pazturrok}
 
+-- an object that is taken as it is
 abbrev pub quote_form : Object → Object
 quote_form x = list_of (symbol common_lisp (codes "QUOTE") ∷ x ∷ [])
 
@@ -12,6 +13,7 @@ quote_form x = list_of (symbol common_lisp (codes "QUOTE") ∷ x ∷ [])
 abbrev pub get_form : Symbol → Symbol → Object
 get_form x i = list_of (symbol common_lisp (codes "GET") ∷ quote_form (symbol x.0 x.1) ∷ quote_form (symbol i.0 i.1) ∷ [])
 
+-- the operators that change a place, each as the form with its arguments
 abbrev pub setf_form : Object → Object → Object
 setf_form place form = list_of (symbol common_lisp (codes "SETF") ∷ place ∷ form ∷ [])
 

@@ -16,6 +16,7 @@ abbrev pub FitsEnd : Packages → ℕ → Option Datum → Type 0
 FitsEnd packages room None = Unit {0}
 FitsEnd packages room (Some d) = Fits packages room d × (is_list d ≡ false)
 
+-- how large the end of a list is
 abbrev pub end_size : Option Datum → ℕ
 end_size None = 0
 end_size (Some d) = size d

@@ -83,6 +83,7 @@ IsAfterIn setting reader (Open state) bytes =
 IsAfterIn setting reader (Refused number offset) bytes = (cs : List ℕ) → reads setting (bytes ++ cs) ≡ refused number offset
 IsAfterIn setting reader OutOfMemory bytes = ⊥
 
+-- a reader is where it is after these bytes of a text
 abbrev pub IsAfterBytes : Setting → FormReader → List ℕ → Type 0
 IsAfterBytes setting reader bytes = IsAfterIn setting reader reader.state bytes
 

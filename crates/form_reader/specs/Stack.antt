@@ -22,6 +22,7 @@ close_of (InUntil close xs) = Some close
 close_of (InDotted xs) = Some 41
 close_of (InTailed xs tail) = Some 41
 
+-- the character that closes the innermost call
 abbrev pub close_of_stack : List Frame → Option ℕ
 close_of_stack [] = None
 close_of_stack (f ∷ fs) = close_of f.part
@@ -74,6 +75,7 @@ is_next (InUntil close xs) = false
 is_next (InDotted xs) = false
 is_next (InTailed xs tail) = false
 
+-- whether the innermost call waits for its one object
 abbrev pub is_waiting : List Frame → Bool
 is_waiting [] = false
 is_waiting (f ∷ fs) = is_next f.part
@@ -92,9 +94,11 @@ part_gives setting depth attempt call (InTailed xs tail) p = after_tail (λ m. c
 abbrev pub attempt_in : Setting → List Frame → Plan Found
 attempt_in setting stack = attempt setting (setting.limits.nesting - (length stack + 1))
 
+-- what comes next in an open call
 abbrev pub next_item_in : Setting → Frame → List Frame → Plan Piece
 next_item_in setting f stack = next_item setting (close_of f.part) (attempt_in setting stack)
 
+-- what an open call gives if this piece comes next
 abbrev pub call_in : Setting → Frame → List Frame → Piece → Plan Found
 call_in setting f stack p = part_gives setting (length stack) (attempt_in setting stack) f.call f.part p
 
@@ -121,6 +125,7 @@ next_item_gives setting token stack at cs = run setting.table setting.limits (wi
 
 -- ---- a token, whose bytes are not kept: what is given where it has come to this
 
+-- what is given once the token is read, or its refusal
 abbrev pub token_goes_on : Setting → List Frame → (List Mark → Plan Found) → Read (List Mark) → Read Found
 token_goes_on setting stack on (Ok p) = plan_gives setting stack (on p.0) p.1 p.2
 token_goes_on setting stack on (Err e) = Err e

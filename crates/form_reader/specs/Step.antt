@@ -58,6 +58,7 @@ IsReadyChange limits stack count (Goes start at state) = IsStanding limits stack
 IsReadyChange limits stack count (Form x start «end» next) = (next ≤ count) × (count ≤ next + 1) × (length stack ≤ limits.nesting)
 IsReadyChange limits stack count (Refused start number offset) = (start < count) × (offset ≤ count)
 
+-- what the open calls made of it is within the limits
 abbrev pub IsReadySettled : Limits → List Frame → ℕ → Event → Type 0
 IsReadySettled limits stack at (IsAt state) = IsStanding limits stack state at
 IsReadySettled limits stack at (IsGiven found) = (lookahead found ≡ 0) × (length stack ≤ limits.nesting)
@@ -81,6 +82,7 @@ abbrev pub Passes : Setting → List Frame → ℕ → ℕ → List ℕ → Pass
 Passes setting stack at c cs (PassedBrings event) read = Brings setting stack (at + 1) cs event read
 Passes setting stack at c cs (PassedDone found) read = (read ≡ Ok (found, at, c ∷ cs)) × (stack ≡ [])
 
+-- what a byte brings is within the limits, or the outermost attempt ended before it
 abbrev pub IsReadyPass : Limits → ℕ → Passed → Type 0
 IsReadyPass limits at (PassedBrings event) = IsReady limits (at + 1) event
 IsReadyPass limits at (PassedDone found) = lookahead found ≤ 1

@@ -41,6 +41,7 @@ refused_number limit InvalidCharacter at = if nat_lt at limit then INVALID_CHARA
 refused_number limit InvalidTrait at = if nat_lt at limit then INVALID_TRAIT else FORM_TOO_LONG
 refused_number limit TokenTooLong at = if nat_lt at limit then TOKEN_TOO_LONG else FORM_TOO_LONG
 
+-- what a byte is to a token that has begun
 abbrev pub BegunFeeds : Table → Limits → ℕ → ℕ → List ℕ → BegunByte → Read (List Mark) → Type 0
 BegunFeeds table limits at c cs (More scan) read = read ≡ token_read table limits scan (at + 1) cs
 BegunFeeds table limits at c cs (Ended marks) read = read ≡ Ok (marks.items, at, c ∷ cs)
@@ -52,6 +53,7 @@ IsBegunByte (More scan) = Unit {0}
 IsBegunByte (Ended marks) = (0 < length marks.items) × IsTrue (are_ascii marks.items)
 IsBegunByte (Refused number) = Unit {0}
 
+-- what the first byte is to a token
 abbrev pub FirstFeeds : Table → Limits → ℕ → List ℕ → FirstByte → Read (List Mark) → Type 0
 FirstFeeds table limits at cs (FirstMore scan) read = read ≡ token_read table limits scan (at + 1) cs
 FirstFeeds table limits at cs (FirstRefused number) read = read ≡ fault number at

@@ -16,6 +16,7 @@ pub record Reached (A : Type 0) : Type 0 where
   pub point : Point
   pub wrote : Bool
 
+-- what is evaluated in a counted number of steps, or the number of its refusal
 abbrev pub Counting : Type 0 → Type 0
 Counting A = Result (Reached A) ℕ
 

@@ -24,6 +24,7 @@ abbrev pub definition_among : List Object → Option Definition
 definition_among (variables ∷ forms) = option_map (λ xs. record { variables = xs; body = list_of forms }) (variables_of variables)
 definition_among [] = None
 
+-- the definition that a list is
 abbrev pub definition_of : Object → Option Definition
 definition_of x = option_and_then definition_among (items_of x)
 
@@ -32,6 +33,7 @@ definition_of x = option_and_then definition_among (items_of x)
 abbrev pub is_undefinable : Name → Bool
 is_undefinable home = bytes_eq home common_lisp || bytes_eq home pazturrok || bytes_eq home keyword
 
+-- a name of any package but those that the language keeps to itself
 abbrev pub is_definable : Symbol → Bool
 is_definable x = not (is_undefinable x.0)
 
@@ -60,6 +62,7 @@ kept_beside i name definition s =
     the_indicator (own_indicator i found) (λ own.
     and_then (set (name ∷ symbol own.0 own.1 ∷ definition ∷ []) later) (λ _ end'. gives name end')))
 
+-- the name of a function that may be defined, if the object is one
 abbrev pub a_definable : Object → Option Symbol
 a_definable x = option_and_then (λ y. if is_definable y then Some y else None) (a_symbol x)
 

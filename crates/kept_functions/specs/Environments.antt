@@ -11,6 +11,7 @@ use Rattle.value_functions.specs.Sequences.{items_of}
 abbrev pub Environment : Type 0
 Environment = List (Symbol × Object)
 
+-- whether two variables are one
 abbrev pub is_same_variable : Symbol → Symbol → Bool
 is_same_variable x y = bytes_eq x.0 y.0 && bytes_eq x.1 y.1
 
@@ -31,10 +32,12 @@ is_global x =
     || (bytes_eq x.0 common_lisp
     && list_any (bytes_eq x.1) (codes "T" ∷ codes "NIL" ∷ codes "*PACKAGE*" ∷ codes "*READTABLE*" ∷ codes "*READ-BASE*" ∷ []))
 
+-- the variable that an object names, if it may be bound
 abbrev pub a_variable : Object → Option Symbol
 a_variable (symbol home name) = if is_global (home, name) then None else Some (home, name)
 a_variable _ = None
 
+-- whether no variable stands twice
 abbrev pub are_distinct : List Symbol → Bool
 are_distinct [] = true
 are_distinct (x ∷ xs) = not (list_any (is_same_variable x) xs) && are_distinct xs
@@ -48,5 +51,6 @@ distinct None = None
 abbrev pub variables_among : List Object → Option (List Symbol)
 variables_among xs = distinct (each_in a_variable xs)
 
+-- the variables that a list names, each once
 abbrev pub variables_of : Object → Option (List Symbol)
 variables_of x = option_and_then variables_among (items_of x)

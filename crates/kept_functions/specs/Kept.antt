@@ -13,6 +13,7 @@ use Rattle.kept_functions.specs.declared.definition.StoredDefinition.{StoredDefi
 use Rattle.kept_functions.specs.Environments.{Environment}
 use Rattle.kept_functions.specs.Definitions.{Definition}
 
+-- a binding of the program, as one of the logic
 abbrev pub binding_shown : Binding → Symbol × Object
 binding_shown b = (symbol_of b.variable, object_of b.value)
 
@@ -20,11 +21,14 @@ binding_shown b = (symbol_of b.variable, object_of b.value)
 abbrev pub seen_from : ℕ → List Binding → Environment
 seen_from base bindings = map binding_shown (reverse (drop base bindings))
 
+-- a definition of the program, as one of the logic
 abbrev pub stored_definition : StoredDefinition → Definition
 stored_definition d = record { variables = symbols_in d.variables.now; body = list_of (objects d.body.now) }
 
+-- its variables and its body are proper data
 abbrev pub IsProperDefinition : StoredDefinition → Type 0
 IsProperDefinition d = AreProper d.variables.now × AreProper d.body.now
 
+-- a definition of a macro function, as one of the logic
 abbrev pub stored_reader : StoredReader → ReaderDefinition
 stored_reader r = record { way = r.way; definition = stored_definition r.definition }

@@ -9,6 +9,7 @@ use Rattle.kept_functions.specs.declared.local_operator.LocalOperator.{LocalOper
 use Rattle.kept_functions.specs.declared.local_operator.LocalOperator.TheVariants.{Let, LetInTurn, Funcall, Sweeps, GivesValues, Defun, DefineReader}
 use Rattle.kept_functions.specs.declared.local_operator.Sweep.TheVariants.{Mapcar, FindIf, RemoveIfNot, Reduce}
 
+-- the operators that bind variables or define functions, by their names
 abbrev pub local_operators : List (Name × LocalOperator)
 local_operators =
     (codes "LET", Let) ∷
@@ -22,10 +23,12 @@ local_operators =
     (codes "DEFUN", Defun) ∷
     (codes "DEFINE-READER", DefineReader) ∷ []
 
+-- the one with this name
 abbrev pub local_among : List (Name × LocalOperator) → Name → Option LocalOperator
 local_among [] name = None
 local_among (row ∷ rows) name = if bytes_eq row.0 name then Some row.1 else local_among rows name
 
+-- the one that the head of a form names
 abbrev pub local_operator_of : Object → Option LocalOperator
 local_operator_of (symbol home name) = if bytes_eq home pazturrok then local_among local_operators name else None
 local_operator_of _ = None
@@ -40,12 +43,14 @@ fewest GivesValues = 0
 fewest Defun = 2
 fewest DefineReader = 3
 
+-- how many arguments it takes at most; None where there is no such number
 abbrev pub largest : LocalOperator → Option ℕ
 largest (Sweeps Reduce) = Some 4
 largest (Sweeps sweep) = Some 2
 largest GivesValues = Some 1
 largest _ = None
 
+-- whether it takes so many arguments
 abbrev pub takes_so_many : LocalOperator → ℕ → Bool
 takes_so_many operator n = nat_le (fewest operator) n && option_map_or (λ most. nat_le n most) (largest operator) true
 

@@ -49,6 +49,7 @@ abbrev pub way_by_items : List Object → Option Gather
 way_by_items (x ∷ y ∷ []) = option_and_then (λ c. option_and_then (λ n. way_up_to n c) (a_keyword x)) (a_character y)
 way_by_items _ = None
 
+-- the way of gathering that an object writes
 abbrev pub way_written : Object → Option Gather
 way_written (symbol home name) = option_and_then way_named (a_keyword (symbol home name))
 way_written x = option_and_then way_by_items (items_of x)
@@ -57,6 +58,7 @@ way_written x = option_and_then way_by_items (items_of x)
 abbrev pub takes_call : Definition → Bool
 takes_call definition = nat_le (length definition.variables) 4
 
+-- a way and a definition, where both are there
 abbrev pub reader_with : Option Gather → Option Definition → Option ReaderDefinition
 reader_with (Some way) (Some definition) =
     if takes_call definition then Some (record { way = way; definition = definition }) else None
@@ -67,9 +69,11 @@ abbrev pub reader_among : List Object → Option ReaderDefinition
 reader_among (way ∷ definition) = reader_with (way_written way) (definition_among definition)
 reader_among [] = None
 
+-- the definition of a macro function that a list is
 abbrev pub reader_definition_of : Object → Option ReaderDefinition
 reader_definition_of x = option_and_then reader_among (items_of x)
 
+-- under which property the world keeps it
 abbrev pub reader_indicator : Symbol
 reader_indicator = (pazturrok, codes "READER-DEFINITION")
 
@@ -78,9 +82,12 @@ abbrev pub reader_in : WorldState → Name → Option ReaderDefinition
 reader_in s name = if is_lisp_name name then option_and_then reader_definition_of (property s (keyword, name) reader_indicator) else None
 
 -- ---- DEFINE-READER, of its arguments as they are written: the name
+
+-- the name of a macro function of the world, if the object is one
 abbrev pub own_reader_name : Object → Option Name
 own_reader_name x = option_and_then (λ name. if is_lisp_name name then Some name else None) (a_keyword x)
 
+-- what DEFINE-READER gives: the definition is kept under its name
 abbrev pub reader_defined : Object → WorldState → Evaluation Object
 reader_defined (pair name definition) s =
     of_kind (own_reader_name name) (λ _. of_kind (reader_definition_of definition) (λ _. kept_beside reader_indicator name definition s))
@@ -102,9 +109,11 @@ material_object (one x) = x
 material_object (many xs) = list_of xs
 material_object (letters cs) = text cs
 
+-- what a call of a macro function hands to the definition
 abbrev pub values_of_call : MacroCall → List Object
 values_of_call call =
     material_object call.gathered ∷ character call.character ∷ option_map_or character call.sub nil ∷ option_map_or (λ n. integer (pos n)) call.number nil ∷ []
 
+-- as many of these as the definition has variables
 abbrev pub first_values : Definition → MacroCall → List Object
 first_values definition call = take (length definition.variables) (values_of_call call)

@@ -3,6 +3,7 @@ use Rattle.std.specs.Prelude.{ℕ, ◌+◌, sum, List, length, unwrap_or}
 use Rattle.lisp_object.specs.declared.datum.Datum.{Datum, fold-Datum}
 use Rattle.lisp_object.specs.declared.datum.Datum.TheOpen.{Datum-F}
 
+-- how much a datum weighs, of what its parts weigh
 abbrev pub weight_step : Datum-F ℕ → ℕ
 weight_step (Datum-F.Integer n) = 1
 weight_step (Datum-F.Rational ratio) = 1

@@ -7,6 +7,7 @@ use Rattle.lisp_object.specs.declared.datum.Datum.TheOpen.{Datum-F}
 use Rattle.lisp_object.specs.Ascii.{is_ascii}
 use Rattle.lisp_object.specs.Object.{Object, integer, rational, character, text, symbol, uninterned, vector, nil, is_nil, pairs, list_of}
 
+-- the object that a datum is, of the objects that its parts are
 abbrev pub object_step : Datum-F Object → Object
 object_step (Datum-F.Integer n) = integer n
 object_step (Datum-F.Rational ratio) = rational ratio.0 ratio.1
@@ -21,9 +22,11 @@ object_step (Datum-F.Vector items) = vector (list_of items)
 abbrev pub object_of : Datum → Object
 object_of = fold-Datum Object object_step
 
+-- the greatest of these numbers, and 0 where there is none
 abbrev pub greatest : List ℕ → ℕ
 greatest = fold max 0
 
+-- how deep a datum is, of how deep its parts are
 abbrev pub depth_step : Datum-F ℕ → ℕ
 depth_step (Datum-F.List items tail) = max (greatest items) (unwrap_or tail 0) + 1
 depth_step (Datum-F.Vector items) = greatest items + 1
@@ -33,6 +36,7 @@ depth_step _ = 0
 abbrev pub depth : Datum → ℕ
 depth = fold-Datum ℕ depth_step
 
+-- how many objects a datum has, of how many its parts have
 abbrev pub size_step : Datum-F ℕ → ℕ
 size_step (Datum-F.List items tail) = sum items + unwrap_or tail 0 + 1
 size_step (Datum-F.Vector items) = sum items + 1
@@ -42,6 +46,7 @@ size_step _ = 1
 abbrev pub size : Datum → ℕ
 size = fold-Datum ℕ size_step
 
+-- whether a datum is proper, and whether it is a list or NIL, of the same of its parts
 abbrev pub standing_step : Datum-F (Bool × Bool) → Bool × Bool
 standing_step (Datum-F.Integer n) = (true, false)
 standing_step (Datum-F.Rational ratio) = (true, false)

@@ -2,6 +2,7 @@
 use Rattle.std.specs.Prelude.{ℕ, ◌<◌, ℤ, unsigned_abs}
 use Rattle.std.specs.Int.{IsGcd}
 
+-- a ratio in lowest terms
 pub record IsLowest (n : ℤ) (d : ℕ) : Type 0 where
   pub over_one : 1 < d
   pub coprime : IsGcd (unsigned_abs n) d 1

@@ -4,6 +4,7 @@ use Rattle.std.specs.Str.{bytes_eq}
 use Rattle.std.specs.Int.{w128}
 use Rattle.lisp_object.specs.Lowest.{IsLowest}
 
+-- what a form is, and a value: an object of Lisp
 pub data Object : Type 0 where
   integer : ℤ → Object
   -- a numerator and a denominator
@@ -17,6 +18,7 @@ pub data Object : Type 0 where
   -- the list of its elements
   vector : Object → Object
 
+-- the symbol NIL, which is the empty list
 abbrev pub nil : Object
 nil = symbol (codes "COMMON-LISP") (codes "NIL")
 
@@ -41,6 +43,7 @@ abbrev pub pairs : List Object → Object → Object
 pairs [] tail = tail
 pairs (x ∷ xs) tail = pair x (pairs xs tail)
 
+-- the list of these, which ends in NIL
 abbrev pub list_of : List Object → Object
 list_of xs = pairs xs nil
 

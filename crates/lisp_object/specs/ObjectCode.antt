@@ -7,6 +7,7 @@ use Rattle.lisp_object.specs.Object.{Object, integer, rational, character, text,
 abbrev pub bytes_code : List ℕ → Gv
 bytes_code = (coded_list coded_ℕ).code
 
+-- a number for each object, by which objects are told apart
 abbrev pub code_of_object : Object → Gv
 code_of_object (integer n) = gcons (gnum 0) (coded_ℤ.code n)
 code_of_object (rational n d) = gcons (gnum 1) (gcons (coded_ℤ.code n) (gnum d))

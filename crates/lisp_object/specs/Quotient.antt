@@ -2,6 +2,7 @@
 use Rattle.std.specs.Prelude.{ℕ, zero, suc, ◌/◌, ◌%◌, ◌==◌, ℤ, pos, Bool, ◌&&◌, if◌then◌else◌, Option, None, Some, unsigned_abs, int_div}
 use Rattle.lisp_object.specs.Object.{Object, integer, rational}
 
+-- whether the first divides the second
 abbrev pub divides : ℕ → ℕ → Bool
 divides k n = n % k == 0
 

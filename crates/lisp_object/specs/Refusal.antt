@@ -71,5 +71,6 @@ names =
     (90, codes "NO-MEMORY") ∷
     []
 
+-- the name of a refusal
 unfoldable pub name_of : ℕ → List ℕ
 name_of number = name_among names number

@@ -8,10 +8,12 @@ use Rattle.plist_state.specs.ErrorNumbers.{readtable_error_number as readtable_n
 use Rattle.lisp_operators.specs.declared.error.EvaluationError.{EvaluationError}
 use Rattle.lisp_operators.specs.declared.error.EvaluationError.TheVariants.{Refused, OutOfMemory}
 
+-- an error of the packages, as one of an evaluation
 abbrev pub of_package : PackageError → EvaluationError
 of_package NoRoomForPackages = OutOfMemory
 of_package e = Refused (package_number e)
 
+-- an error of a readtable, as one of an evaluation
 abbrev pub of_readtable : ReadtableError → EvaluationError
 of_readtable NoRoomForReadtables = OutOfMemory
 of_readtable e = Refused (readtable_number e)

@@ -34,6 +34,7 @@ pub record IsArgument (u : Table) (d : Datum) : Type 0 where
 abbrev pub IsProper : Datum → Type 0
 IsProper d = is_proper d ≡ true
 
+-- each of these is a proper datum
 abbrev pub AreProper : List Datum → Type 0
 AreProper = All IsProper
 
@@ -57,6 +58,7 @@ AreArgumentsOf w ds = All (IsArgument w.0.packages) ds
 abbrev pub KeepsArguments : Table → Table → Type 0
 KeepsArguments u v = (d : Datum) → IsArgument u d → IsArgument v d
 
+-- a symbol of a home and a name, as an object
 abbrev pub object_of_symbol : Symbol → Object
 object_of_symbol x = symbol x.0 x.1
 

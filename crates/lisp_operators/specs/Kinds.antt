@@ -87,6 +87,7 @@ abbrev pub is_true : Object → Bool
 is_true (symbol home name) = if is_nil home name then false else true
 is_true _ = true
 
+-- whether it is a list with an item
 abbrev pub is_pair : Object → Bool
 is_pair (pair x xs) = true
 is_pair _ = false

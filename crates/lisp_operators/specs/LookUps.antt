@@ -46,6 +46,8 @@ symbols_with (x ∷ rest) s =
 symbols_with _ s = Err ARGUMENT_KIND
 
 -- ---- all of them: the names, how many arguments each takes, and what it gives of them
+
+-- the operator that looks up with this name
 abbrev pub look_up_named : Name → Option LookUp
 look_up_named name =
     if bytes_eq name (codes "FIND-SYMBOL") then Some FindSymbol
@@ -53,11 +55,13 @@ look_up_named name =
     else (if bytes_eq name (codes "SYMBOLS-WITH") then Some SymbolsWith
     else None))
 
+-- how many arguments it takes at least
 abbrev pub least_of_look_up : LookUp → ℕ
 least_of_look_up FindSymbol = 1
 least_of_look_up ListAllPackages = 0
 least_of_look_up SymbolsWith = 1
 
+-- how many arguments it takes at most
 abbrev pub most_of_look_up : LookUp → ℕ
 most_of_look_up FindSymbol = 2
 most_of_look_up ListAllPackages = 0

@@ -34,5 +34,6 @@ name_in d = unwrap_or (a_name (object_of d)) []
 abbrev pub names_in : List Datum → List Name
 names_in ds = map name_in ds
 
+-- the full names of the packages that these designate
 abbrev pub packages_in : List Datum → List Name
 packages_in ds = map (λ d. full_name (name_in d)) ds

@@ -57,6 +57,8 @@ pop (x ∷ i ∷ d ∷ []) s = of_kind (a_symbol x) (λ x'. of_kind (a_symbol i)
 pop _ s = Err ARGUMENT_KIND
 
 -- ---- all of them: the names, how many arguments each takes, the place among them, and what it does
+
+-- the operator that changes a place with this name
 abbrev pub change_named : Name → Option PlaceChange
 change_named name =
     if bytes_eq name (codes "INCF") then Some (Stepped Increment)
@@ -64,6 +66,7 @@ change_named name =
     else (if bytes_eq name (codes "POP") then Some Popped
     else None))
 
+-- how many arguments it takes at most
 abbrev pub most_of_change : PlaceChange → ℕ
 most_of_change (Stepped way) = 2
 most_of_change Popped = 1
@@ -73,6 +76,7 @@ abbrev pub with_nil : List Object → List Object
 with_nil (x ∷ i ∷ rest) = x ∷ i ∷ nil ∷ rest
 with_nil xs = xs
 
+-- the values, with NIL for the default where none is written
 abbrev pub with_default : Bool → List Object → List Object
 with_default true xs = xs
 with_default false xs = with_nil xs

@@ -22,6 +22,7 @@ use Rattle.lisp_operators.specs.Evaluation.{Evaluation, gives, writes, of_kind}
 use Rattle.lisp_operators.specs.Kinds.{a_character, a_keyword, a_source, a_case, given_or, given_or_nil, is_true}
 use Rattle.lisp_operators.specs.Properties.{t}
 
+-- the keyword of this name
 abbrev pub a_keyword_of : Name → Object
 a_keyword_of name = symbol keyword name
 

@@ -10,6 +10,7 @@ use Rattle.token_scan.specs.declared.refusal.ScanRefusal.TheVariants.{EndOfFile}
 use Rattle.token_scan.specs.Tokens.{TokenFault, ScannedBytes, token_in, escaped_token_in}
 use Rattle.token_meaning.specs.Results.{scan_refusal_number}
 
+-- What is to be done with a text before something is given: a recursion over the bytes that are still to come.
 pub data Plan (A : Type 0) : Type 0 where
   gives : A → Plan A
   -- the number of the refusal, and how many bytes its offset lies before the present one

@@ -13,6 +13,7 @@ pub record Watch : Type 0 where
   -- the moment that it has come to
   pub now : ℕ
 
+-- what the files held at each moment is known
 abbrev pub IsHonestWatch : Watch → Type 0
 IsHonestWatch w = IsTrue w.honest
 

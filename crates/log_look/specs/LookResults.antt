@@ -35,6 +35,7 @@ abbrev pub IsNewer : Half → ℕ → ℕ → ℕ → Type 0
 IsNewer A generation in_a in_b = (generation ≡ in_a) × (0 < in_a) × (in_b ≤ in_a)
 IsNewer B generation in_a in_b = (generation ≡ in_b) × (0 < in_b) × (in_a < in_b)
 
+-- the half with the greater generation, of these two; 0 is no half
 abbrev pub IsNewest : Option (Half × ℕ) → ℕ → ℕ → Type 0
 IsNewest None in_a in_b = (in_a ≡ 0) × (in_b ≡ 0)
 IsNewest (Some newest) in_a in_b = IsNewer newest.0 newest.1 in_a in_b

@@ -41,6 +41,7 @@ WasShut (Seen sight) files from to = Unit {0}
 WasShut Shut files from to = WereShut files from to
 WasShut Changed files from to = Unit {0}
 
+-- a try did not find both halves shut
 abbrev pub IsNotShut : Tried → Type 0
 IsNotShut (Seen sight) = Unit {0}
 IsNotShut Shut = ⊥

@@ -3,9 +3,11 @@ use Rattle.std.specs.Prelude.{◌≡◌, ℕ, ◌<◌, ◌≤◌, List, length, 
 use Rattle.std.specs.List.{IsDistinct, AllByRecursion}
 use Rattle.package_sets.specs.Kept.{Kept, Name, pair_at, pair_eq}
 
+-- no name stands twice
 abbrev pub AreDistinctNames : List Name → Type 0
 AreDistinctNames ns = IsDistinct bytes_eq ns
 
+-- no pair stands twice
 abbrev pub AreDistinctPairs : List (ℕ × ℕ) → Type 0
 AreDistinctPairs ps = IsDistinct pair_eq ps
 

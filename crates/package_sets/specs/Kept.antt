@@ -3,6 +3,7 @@ use Rattle.std.specs.Prelude.{ℕ, ◌+◌, ◌≤◌, Bool, ◌&&◌, nat_eq, L
 use Rattle.std.specs.Coded.{Coded, code_by, coded×, coded_ℕ, coded_list}
 use Rattle.package_sets.specs.declared.sizes.Sizes.{Sizes}
 
+-- a name: its characters
 abbrev pub Name : Type 0
 Name = List ℕ
 
@@ -24,6 +25,7 @@ pub record Kept : Type 0 where
   pub externals : List (ℕ × ℕ)
   pub uses : List (ℕ × ℕ)
 
+-- what is kept, as one tuple
 abbrev pub Stored : Type 0
 Stored =
     List Name × (List Name × (List (ℕ × ℕ) × (List (ℕ × ℕ) × (List ℕ × (List (ℕ × ℕ) × List (ℕ × ℕ))))))
@@ -48,6 +50,7 @@ restored p = record {
   uses = p.1.1.1.1.1.1;
 }
 
+-- what is kept is told apart by its parts
 abbrev pub kept_code : Coded Kept
 kept_code = code_by Stored stored_code stored restored (λ _. refl)
 
@@ -71,6 +74,7 @@ name_at ns i = get_or ns i []
 abbrev pub pair_at : List (ℕ × ℕ) → ℕ → ℕ × ℕ
 pair_at ps i = get_or ps i (0, 0)
 
+-- whether two pairs of numbers are one
 abbrev pub pair_eq : ℕ × ℕ → ℕ × ℕ → Bool
 pair_eq p q = nat_eq p.0 q.0 && nat_eq p.1 q.1
 

@@ -5,6 +5,7 @@ use Rattle.package_sets.specs.Kept.{Kept}
 use Rattle.package_sets.specs.Consistent.{IsGood}
 use Rattle.package_sets.specs.Chained.{external_name, AreChained}
 
+-- what the sets of the program keep, as the logic has it
 abbrev pub kept_of : Inside → Kept
 kept_of a = record {
   names = a.names;

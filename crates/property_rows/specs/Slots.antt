@@ -10,6 +10,7 @@ use Rattle.property_rows.specs.declared.property.NumberedProperty.{NumberedPrope
 abbrev pub is_gone : Slot → Bool
 is_gone s = s.gone % 2 == 1
 
+-- the property that a slot has
 abbrev pub property_in : Slot → NumberedProperty
 property_in s = record { indicator = s.indicator; order = s.order; value = s.value }
 
@@ -34,6 +35,7 @@ abbrev pub full : ℕ → ℕ
 full zero = 0
 full (suc d) = full d + suc (full d)
 
+-- the slots before a node and after it are as the tree wants them
 abbrev pub IsNode : (List Slot → Type 0) → List Slot → List Slot → Type 0
 IsNode after before [] = Unit {0}
 IsNode after before (s ∷ ss) = (s.gone / 2 ≡ gone_in before) × after ss
@@ -62,6 +64,7 @@ shown s = (is_gone s, property_in s)
 abbrev pub blank : Slot
 blank = record { indicator = 0; gone = 0; order = 0; value = Char 0 }
 
+-- what stands for a property where there is none
 abbrev pub no_property : NumberedProperty
 no_property = record { indicator = 0; order = 0; value = Char 0 }
 

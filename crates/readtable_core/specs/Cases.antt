@@ -3,6 +3,7 @@ use Rattle.std.specs.Prelude.{ℕ, List, [], ◌∷◌, codes}
 use Rattle.readtable_core.specs.declared.table.Case.{Case}
 use Rattle.readtable_core.specs.declared.table.Case.TheVariants.{Upcase, Downcase, Preserve, Invert}
 
+-- the name of the keyword of a case
 abbrev pub case_name : Case → List ℕ
 case_name Upcase = codes "UPCASE"
 case_name Downcase = codes "DOWNCASE"

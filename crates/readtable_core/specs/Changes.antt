@@ -9,6 +9,7 @@ use Rattle.readtable_core.specs.Names.{dispatch_name}
 use Rattle.readtable_core.specs.Tables.{CharacterEntry, Table, entry_at}
 use Rattle.readtable_core.specs.Sound.{is_dispatching}
 
+-- the table with another entry at a character
 abbrev pub with_character_entry : Table → ℕ → CharacterEntry → Table
 with_character_entry table c e = record table { entries = set table.entries c e }
 
@@ -16,6 +17,7 @@ with_character_entry table c e = record table { entries = set table.entries c e 
 abbrev pub put_if : Bool → Table → ℕ → CharacterEntry → Table
 put_if succeeded table c e = if succeeded then with_character_entry table c e else table
 
+-- the syntax type of a macro character
 abbrev pub macro_syntax : Bool → Syntax
 macro_syntax non_terminating = if non_terminating then NonTerminatingMacro else TerminatingMacro
 

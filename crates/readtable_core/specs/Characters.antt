@@ -63,6 +63,7 @@ traits c =
     else (if is_upper_case c || is_lower_case c then Letter
     else Alphabetic)))))))
 
+-- whether a token may not have this character unless it is escaped
 abbrev pub is_invalid_trait : Traits → Bool
 is_invalid_trait InvalidTrait = true
 is_invalid_trait _ = false

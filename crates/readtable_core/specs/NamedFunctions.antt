@@ -7,6 +7,7 @@ use Rattle.readtable_core.specs.Characters.{syntax_number}
 use Rattle.readtable_core.specs.Names.{same_name}
 use Rattle.readtable_core.specs.Tables.{CharacterEntry, Table}
 
+-- whether both are no function, or the one of the same name
 abbrev pub same_function : Option (List ℕ) → Option (List ℕ) → Bool
 same_function = option_eq same_name
 

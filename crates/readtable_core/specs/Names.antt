@@ -8,9 +8,11 @@ use Rattle.std.specs.Cmp.Lexicographic.{pointwise}
 abbrev pub is_function_name : List ℕ → Bool
 is_function_name name = nat_le (length name) 32 && list_all is_ascii name
 
+-- whether two names are one
 abbrev pub same_name : List ℕ → List ℕ → Bool
 same_name = pointwise nat_eq
 
+-- whether a name is one of these
 abbrev pub is_among : List (List ℕ) → List ℕ → Bool
 is_among names name = list_any (λ x. same_name x name) names
 
@@ -78,5 +80,6 @@ is_standard name = is_among standard_names name
 abbrev pub dispatch_name : List ℕ
 dispatch_name = codes "STD-DISPATCH"
 
+-- whether a name is the one of the function at a dispatching character
 abbrev pub is_dispatch_name : List ℕ → Bool
 is_dispatch_name = same_name dispatch_name

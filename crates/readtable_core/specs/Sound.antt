@@ -6,15 +6,18 @@ use Rattle.readtable_core.specs.Characters.{is_lower_case, is_digit}
 use Rattle.readtable_core.specs.Names.{is_function_name, is_dispatch_name}
 use Rattle.readtable_core.specs.Tables.{CharacterEntry, Table, entry_at}
 
+-- whether a character of this type is a macro character
 abbrev pub is_macro : Syntax → Bool
 is_macro TerminatingMacro = true
 is_macro NonTerminatingMacro = true
 is_macro _ = false
 
+-- whether a function is the one at a dispatching character
 abbrev pub dispatches : Option (List ℕ) → Bool
 dispatches None = false
 dispatches (Some name) = is_dispatch_name name
 
+-- whether a character dispatches to sub-characters
 abbrev pub is_dispatching : CharacterEntry → Bool
 is_dispatching e = dispatches e.function
 

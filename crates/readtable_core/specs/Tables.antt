@@ -69,6 +69,7 @@ standard_sub_function sub =
     else (if char_set_contains standard_out sub then Some std_out
     else None)))))))))
 
+-- the functions at the sub-characters of a character in the standard readtable
 abbrev pub standard_dispatch : ℕ → List (Option (List ℕ))
 standard_dispatch c = if c == 35 then map standard_sub_function (range_with_len 0 128) else []
 

@@ -10,6 +10,7 @@ abbrev pub layer_items : Datum-F Datum → List Datum
 layer_items (Datum-F.List items tail) = items
 layer_items _ = []
 
+-- the parts of a datum, one level down
 abbrev pub items_inside : Datum → List Datum
 items_inside d = layer_items (out-Datum d)
 
@@ -24,6 +25,7 @@ changed_at change (pair x xs) zero = pair (change x) xs
 changed_at change (pair x xs) (suc i) = pair x (changed_at change xs i)
 changed_at change x i = x
 
+-- an object with another item at this place
 abbrev pub with_item : ℕ → (Object → Object) → Object → Object
 with_item i change x = changed_at change x i
 
@@ -36,6 +38,7 @@ with_part (i ∷ place) other x = with_item i (with_part place other) x
 abbrev pub no_form : Object
 no_form = uninterned []
 
+-- QUOTE without its argument
 abbrev pub quote_of_none : Object
 quote_of_none = list_of (symbol common_lisp (codes "QUOTE") ∷ [])
 

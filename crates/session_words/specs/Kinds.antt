@@ -8,5 +8,6 @@ abbrev pub kind_of : Mode → ℕ
 kind_of Current = 0
 kind_of Rescue = 1
 
+-- the mode that a record of this kind was read in
 abbrev pub mode_of : ℕ → Mode
 mode_of kind = if kind == 0 then Current else Rescue

@@ -6,10 +6,12 @@ use Rattle.plist_state.specs.declared.error.ReadtableError.TheVariants.{OutOfMem
 use Rattle.snapshot_lines.specs.declared.error.BuildError.{BuildError}
 use Rattle.snapshot_lines.specs.declared.error.BuildError.TheVariants.{Damaged, OutOfMemory}
 
+-- an error of the packages, as one of a world that is built
 abbrev pub of_packages : PackageError → BuildError
 of_packages NoMemoryForPackages = OutOfMemory
 of_packages _ = Damaged
 
+-- an error of a readtable, as one of a world that is built
 abbrev pub of_readtables : ReadtableError → BuildError
 of_readtables NoMemoryForReadtables = OutOfMemory
 of_readtables _ = Damaged

@@ -6,6 +6,7 @@ use Rattle.snapshot_lines.specs.declared.error.BuildError.TheVariants.{Damaged a
 use Rattle.snapshot_text.specs.declared.error.SnapshotError.{SnapshotError}
 use Rattle.snapshot_text.specs.declared.error.SnapshotError.TheVariants.{Damaged, MissingFunction, OutOfMemory}
 
+-- the numbers under which a snapshot is refused
 abbrev pub snapshot_error_number : SnapshotError → ℕ
 snapshot_error_number Damaged = DAMAGED
 snapshot_error_number MissingFunction = MISSING_MACRO

@@ -6,6 +6,7 @@ use Rattle.std_macros.specs.declared.kind.Standard.TheVariants.{List as AList, C
 use Rattle.std_macros.specs.declared.kind.StdGather.{StdGather}
 use Rattle.std_macros.specs.declared.kind.StdGather.TheVariants.{Nothing, One, List as ByList, Many, Text, Line, Block as ByBlock, Token, EscapedToken}
 
+-- the name under which a readtable has each of the standard functions
 abbrev pub name_of_standard : Standard → List ℕ
 name_of_standard AList = std_list
 name_of_standard Close = std_close
@@ -31,6 +32,7 @@ macro_kinds = AList ∷ Close ∷ Quote ∷ Comment ∷ String ∷ Out ∷ []
 abbrev pub dispatch_kinds : List Standard
 dispatch_kinds = Char ∷ Function ∷ Vector ∷ Uninterned ∷ Block ∷ Binary ∷ Octal ∷ Hex ∷ Radix ∷ []
 
+-- all standard functions
 abbrev pub kinds : List Standard
 kinds = macro_kinds ++ dispatch_kinds
 
@@ -39,6 +41,7 @@ abbrev pub kind_among : List Standard → List ℕ → Option Standard
 kind_among [] name = None
 kind_among (k ∷ ks) name = if same_name (name_of_standard k) name then Some k else kind_among ks name
 
+-- what each of them gathers
 abbrev pub way_of_standard : Standard → StdGather
 way_of_standard AList = ByList
 way_of_standard Close = Nothing

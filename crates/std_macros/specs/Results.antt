@@ -18,6 +18,7 @@ use Rattle.std_macros.specs.declared.gathered.Finished.{Finished}
 use Rattle.std_macros.specs.declared.gathered.Finished.TheVariants.{One, Nothing}
 use Rattle.std_macros.specs.Values.{Material, nothing, one, many, dotted, letters, marked, Value}
 
+-- the numbers under which the standard functions refuse
 abbrev pub std_refusal_number : StdRefusal → ℕ
 std_refusal_number StrayClose = STRAY_CLOSE
 std_refusal_number (Rational refusal) = meaning_refusal_number refusal
@@ -28,6 +29,7 @@ std_refusal_number VectorLength = VECTOR_LENGTH
 std_refusal_number UninternedToken = UNINTERNED_TOKEN
 std_refusal_number OutOfProfile = OUT_OF_PROFILE
 
+-- the number under which a call ends that has no value
 abbrev pub finish_error_number : FinishError → ℕ
 finish_error_number OutOfMemory = NO_MEMORY
 finish_error_number (Refused refusal) = std_refusal_number refusal
@@ -45,6 +47,7 @@ view_gathered (Marks marks) = marked marks.items
 abbrev pub IsSoundDatum : Datum → Type 0
 IsSoundDatum datum = (is_proper datum ≡ true) × IsSound (object_of datum)
 
+-- each of these is proper and sound
 abbrev pub AreSoundData : List Datum → Type 0
 AreSoundData items = (list_all is_proper items ≡ true) × All (λ d. IsSound (object_of d)) items
 

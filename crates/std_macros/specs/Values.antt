@@ -30,9 +30,11 @@ pub data Material : Type 0 where
 abbrev pub Value : Type 0
 Value = Result (Option Object) StdRefusal
 
+-- a call that gives one object
 abbrev pub given : Object → Value
 given x = Ok (Some x)
 
+-- a call that gives nothing
 abbrev pub no_value : Value
 no_value = Ok None
 
@@ -42,17 +44,20 @@ no_value = Ok None
 abbrev pub headed : List ℕ → Object → Object
 headed name x = list_of (symbol (codes "COMMON-LISP") name ∷ x ∷ [])
 
+-- a list of this name and the object that was gathered, as `'X` gives
 abbrev pub headed_value : List ℕ → Material → Value
 headed_value name (one x) = given (headed name x)
 headed_value name _ = no_value
 
 -- ---- lists and texts
 
+-- the list of what was gathered
 abbrev pub list_value : Material → Value
 list_value (many xs) = given (list_of xs)
 list_value (dotted xs tail) = given (pairs xs tail)
 list_value _ = no_value
 
+-- the text of what was gathered
 abbrev pub text_value : Material → Value
 text_value (letters cs) = given (text cs)
 text_value _ = no_value
@@ -76,6 +81,7 @@ code_named name =
     else (if is_named name (codes "Rubout") then Some 127
     else None)))))))
 
+-- the character, or the refusal where no character has the name
 abbrev pub character_or_refused : Option ℕ → Value
 character_or_refused (Some c) = given (character c)
 character_or_refused None = Err CharacterName
@@ -85,6 +91,7 @@ abbrev pub character_of : List ℕ → Value
 character_of (c ∷ []) = given (character c)
 character_of name = character_or_refused (code_named name)
 
+-- the character that a token names
 abbrev pub character_value : Material → Value
 character_value (marked marks) = character_of (characters marks)
 character_value _ = no_value
@@ -108,10 +115,12 @@ vector_with n xs (Some last) =
     if nat_lt n (length xs) then Err VectorLength
     else bounded (nat_lt (length xs) n) (vector (list_of (xs ++ replicate (n - length xs) last)))
 
+-- a vector, of the length that was written if one was
 abbrev pub vector_of : Option ℕ → List Object → Value
 vector_of None xs = given (vector (list_of xs))
 vector_of (Some n) xs = vector_with n xs (last_of xs)
 
+-- the vector of what was gathered
 abbrev pub vector_value : Option ℕ → Material → Value
 vector_value number (many xs) = vector_of number xs
 vector_value number _ = no_value
@@ -123,21 +132,25 @@ abbrev pub is_own_name : List Mark → Bool
 is_own_name [] = false
 is_own_name (m ∷ ms) = not (list_any is_package_marker (m ∷ ms))
 
+-- the symbol of no package with this name
 abbrev pub uninterned_of : Case → List Mark → Value
 uninterned_of case marks =
     if is_own_name marks then given (uninterned (characters (folded case marks))) else Err UninternedToken
 
+-- the symbol of no package that a token names
 abbrev pub uninterned_value : Case → Material → Value
 uninterned_value case (marked marks) = uninterned_of case marks
 uninterned_value case _ = no_value
 
 -- ---- rationals
 
+-- the number, or the refusal where the token is none in its base
 abbrev pub rational_or_refused : Option (Result Object MeaningRefusal) → Value
 rational_or_refused None = Err RadixToken
 rational_or_refused (Some (Ok x)) = given x
 rational_or_refused (Some (Err refusal)) = Err (Rational refusal)
 
+-- the number that a token is in this base
 abbrev pub rational_value : ℕ → Material → Value
 rational_value base (marked marks) = rational_or_refused (rational_of base marks)
 rational_value base _ = no_value

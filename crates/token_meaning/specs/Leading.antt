@@ -13,6 +13,7 @@ code_of (Plain c) = c
 code_of (Quoted c) = 0
 code_of Bar = 0
 
+-- the bytes of these marks
 abbrev pub codes_of : List Mark → List ℕ
 codes_of marks = map code_of marks
 
@@ -29,6 +30,7 @@ pub record Leads (base : ℕ) (text : List ℕ) (some : Bool) (size : Option ℕ
   pub there : some ≡ not (is_empty digits)
   pub worth : IsWorth size (numeral_value base digits)
 
+-- whether a digit of this base comes first
 abbrev pub begins_with_digit : ℕ → List ℕ → Bool
 begins_with_digit base [] = false
 begins_with_digit base (c ∷ cs) = is_digit_in base c

@@ -49,6 +49,7 @@ abbrev pub is_magnitude_in_range : Bool → ℕ → Bool
 is_magnitude_in_range true size = nat_le size (2 ^ 127)
 is_magnitude_in_range false size = nat_lt size (2 ^ 127)
 
+-- one more in front of the first part
 abbrev pub with_first : {X : Type 0} → X → List X × List X → List X × List X
 with_first x parts = (x ∷ parts.0, parts.1)
 

@@ -42,6 +42,7 @@ meaning_refusal_number NumberRange = NUMBER_RANGE
 meaning_refusal_number ZeroDenominator = ZERO_DENOMINATOR
 meaning_refusal_number PackageMarkers = PACKAGE_MARKERS
 
+-- the number under which a meaning is not given
 abbrev pub meaning_error_number : MeaningError → ℕ
 meaning_error_number OutOfMemory = NO_MEMORY
 meaning_error_number (Refused refusal) = meaning_refusal_number refusal
@@ -77,6 +78,7 @@ is_ascii_name (Keyword own) = list_all is_ascii own
 is_ascii_name (External prefix own) = list_all is_ascii prefix && list_all is_ascii own
 is_ascii_name (Internal prefix own) = list_all is_ascii prefix && list_all is_ascii own
 
+-- if it is a name, its bytes are below 128
 abbrev pub IsAsciiName : TokenMeaning → Type 0
 IsAsciiName (Number datum) = Unit {0}
 IsAsciiName Dot = Unit {0}

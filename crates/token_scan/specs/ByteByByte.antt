@@ -26,6 +26,7 @@ first_scan limit = record { marks = []; left = limit; stage = Outside }
 abbrev pub begun_escaped : ℕ → Scan
 begun_escaped limit = record { marks = []; left = limit; stage = EscapedOutside }
 
+-- a token from the stage on that a scan is in
 abbrev pub from_stage : Stage → ℕ → ℕ → List TypedByte → Scanned
 from_stage Outside left at text = outside left at text
 from_stage Inside left at text = inside left at text
@@ -37,6 +38,7 @@ from_stage (Refused refusal) left at text = fault_of_scan refusal at
 abbrev pub token_from : Scan → ℕ → List TypedByte → Scanned
 token_from scan at text = with_front scan.marks (from_stage scan.stage scan.left at text)
 
+-- whether a token would have no mark if it ended here
 abbrev pub is_empty_token : List Mark → Stage → Bool
 is_empty_token [] Outside = true
 is_empty_token _ _ = false
@@ -76,5 +78,6 @@ LeavesBy marks ends More old new = (new.marks ≡ old.marks ++ marks) × IsTrue 
 LeavesBy marks ends Ended old new = (new ≡ old) × (old.stage ≡ Outside) × IsTrue ends
 LeavesBy marks ends (FedRefused refusal) old new = new ≡ refused old refusal
 
+-- what a byte leaves of a scan
 abbrev pub ScanLeaves : FedByte → Scan → TypedByte → Scan → Type 0
 ScanLeaves fed old x new = LeavesBy (marks_of_byte old.stage x) (ends_tokens (kind x)) fed old new

@@ -8,6 +8,7 @@ abbrev pub is_bar : Mark → Bool
 is_bar Bar = true
 is_bar _ = false
 
+-- the character of a mark; a bar has none
 abbrev pub mark_character : Mark → Option ℕ
 mark_character (Plain c) = Some c
 mark_character (Quoted c) = Some c

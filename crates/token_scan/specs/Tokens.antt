@@ -35,6 +35,7 @@ pub record TokenFault : Type 0 where
 abbrev pub Scanned : Type 0
 Scanned = Result (List Mark × ℕ × List TypedByte) TokenFault
 
+-- a refusal at this offset
 abbrev pub fault_of_scan : ScanRefusal → ℕ → Scanned
 fault_of_scan refusal at = Err (record { refusal = refusal; at = at })
 
@@ -111,6 +112,7 @@ escaped_token limit at text = escaped_outside limit at text
 
 -- ---- the same of a text of bytes under a readtable
 
+-- a byte with its syntax type in this readtable
 abbrev pub typed : Table → ℕ → TypedByte
 typed table c = met (entry_at table c).syntax c
 
@@ -125,8 +127,10 @@ abbrev pub in_bytes : Scanned → ScannedBytes
 in_bytes (Ok (marks, at, rest)) = Ok (marks, at, map (λ x. x.byte) rest)
 in_bytes (Err e) = Err e
 
+-- the token at the front of a text, in this readtable
 abbrev pub token_in : Table → ℕ → ℕ → List ℕ → ScannedBytes
 token_in table limit at text = in_bytes (token limit at (typed_text table text))
 
+-- the same after an escape that began it
 abbrev pub escaped_token_in : Table → ℕ → ℕ → List ℕ → ScannedBytes
 escaped_token_in table limit at text = in_bytes (escaped_token limit at (typed_text table text))

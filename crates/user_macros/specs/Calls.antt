@@ -22,6 +22,7 @@ pub record MacroCall : Type 0 where
   pub number : Option ℕ
   pub gathered : Material
 
+-- what a macro function answers to a call
 pub data MacroAnswer : Type 0 where
   value : Object → MacroAnswer
   no_value : MacroAnswer
@@ -29,15 +30,18 @@ pub data MacroAnswer : Type 0 where
   improper : MacroAnswer
   refused : ℕ → MacroAnswer
 
+-- what a call gathered, as the logic has it
 abbrev pub material_of : Gathered → Material
 material_of Nothing = nothing
 material_of (One datum) = one (object_of datum)
 material_of (Many data') = many (map object_of data')
 material_of (Text bytes) = text bytes
 
+-- a call of the program, as one of the logic
 abbrev pub call_of : Call → MacroCall
 call_of c = record { character = c.character; sub = c.sub; number = c.number; gathered = material_of c.gathered }
 
+-- an answer of the program, as one of the logic
 abbrev pub answer_of : Answer → MacroAnswer
 answer_of (OneAnswer datum) = if is_proper datum then value (object_of datum) else improper
 answer_of NoAnswer = no_value

@@ -12,6 +12,7 @@ IsProperMaterial (One datum) = is_proper datum ≡ true
 IsProperMaterial (Many data') = All (λ datum. is_proper datum ≡ true) data'
 IsProperMaterial (Text bytes) = All (λ byte. byte < 128) bytes
 
+-- a call as the reader makes it: its characters are below 128, and what it gathered is sound
 pub record IsSoundCall (c : Call) : Type 0 where
   pub character : c.character < 128
   pub sub : IfSome c.sub (λ s. s < 128)

@@ -17,6 +17,7 @@ use Rattle.value_functions.specs.FunctionAnswers.{FunctionValue, if_of_kind, if_
 abbrev pub integer_in : Object → ℤ
 integer_in x = unwrap_or (an_integer x) (pos 0)
 
+-- what each of these functions is of two integers
 abbrev pub operation : Arithmetic → ℤ → ℤ → ℤ
 operation Plus n m = n +ℤ m
 operation Minus n m = n -ℤ m
@@ -39,6 +40,7 @@ result_of Minus [] = Err ARGUMENT_KIND
 result_of Minus (n ∷ []) = from_left Minus (pos 0) (n ∷ [])
 result_of Minus (n ∷ ms) = from_left Minus n ms
 
+-- what such a function gives of its arguments, which are integers
 abbrev pub arithmetic : Arithmetic → List Object → FunctionValue
 arithmetic function xs = if list_all (λ x. is_some (an_integer x)) xs then result_of function (map integer_in xs) else Err ARGUMENT_KIND
 

@@ -18,6 +18,7 @@ appended [] = Ok nil
 appended (x ∷ []) = Ok x
 appended (x ∷ xs) = then_value (appended xs) (followed_by x)
 
+-- what APPEND and VECTOR give of their arguments
 abbrev pub building : Building → List Object → FunctionValue
 building Append xs = then_value (appended xs) if_within
 building Vector xs = if_within (vector (list_of xs))

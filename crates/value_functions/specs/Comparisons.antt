@@ -24,6 +24,7 @@ fraction_of _ = (pos 0, 1)
 abbrev pub is_less : Object → Object → Bool
 is_less x y = int_lt ((fraction_of x).0 *ℤ pos (fraction_of y).1) ((fraction_of y).0 *ℤ pos (fraction_of x).1)
 
+-- whether two numbers are in the order that a comparison asks for
 abbrev pub compares : Comparison → Object → Object → Bool
 compares Same x y = not (is_less x y) && not (is_less y x)
 compares Different x y = not (not (is_less x y) && not (is_less y x))
@@ -37,6 +38,7 @@ abbrev pub is_chain : Comparison → Object → List Object → Bool
 is_chain test x [] = true
 is_chain test x (y ∷ ys) = compares test x y && is_chain test y ys
 
+-- what a comparison gives of its arguments, which are numbers
 abbrev pub comparison : Comparison → List Object → FunctionValue
 comparison test [] = Err ARGUMENT_KIND
 comparison test (x ∷ xs) = if list_all is_number (x ∷ xs) then Ok (truth_value (is_chain test x xs)) else Err ARGUMENT_KIND
@@ -46,10 +48,12 @@ abbrev pub is_further : Extreme → Object → Object → Bool
 is_further Min x y = is_less y x
 is_further Max x y = is_less x y
 
+-- the least or the greatest of these
 abbrev pub furthest : Extreme → Object → List Object → Object
 furthest way x [] = x
 furthest way x (y ∷ ys) = if is_further way x y then furthest way y ys else furthest way x ys
 
+-- what MIN and MAX give of their arguments, which are numbers
 abbrev pub extreme : Extreme → List Object → FunctionValue
 extreme way [] = Err ARGUMENT_KIND
 extreme way (x ∷ xs) = if list_all is_number (x ∷ xs) then Ok (furthest way x xs) else Err ARGUMENT_KIND

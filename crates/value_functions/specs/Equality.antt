@@ -23,10 +23,12 @@ is_equal (text a) (text b) = bytes_eq a b
 is_equal (pair a b) (pair c d) = is_equal a c && is_equal b d
 is_equal x y = is_eql x y
 
+-- whether two objects are one to EQL, or to EQUAL
 abbrev pub is_same : Equality → Object → Object → Bool
 is_same Eql x y = is_eql x y
 is_same Equal x y = is_equal x y
 
+-- what EQL and EQUAL give of their two arguments
 abbrev pub equality : Equality → List Object → FunctionValue
 equality test (x ∷ y ∷ []) = Ok (truth_value (is_same test x y))
 equality test _ = Err ARGUMENT_KIND

@@ -28,6 +28,7 @@ use Rattle.value_functions.specs.Lists.{on_lists}
 use Rattle.value_functions.specs.Sequences.{on_sequences}
 use Rattle.value_functions.specs.Building.{building}
 
+-- the functions on values, by their names
 abbrev pub all_functions : List (Name × ValueFunction)
 all_functions =
     (codes "EQL", Equality Eql) ∷
@@ -79,6 +80,7 @@ function_among (row ∷ rows) name = if bytes_eq row.0 name then Some row.1 else
 abbrev pub function_rows : List (Bor Name × ValueFunction) → List (Name × ValueFunction)
 function_rows = map (λ row. (row.0.now, row.1))
 
+-- the function with this name
 unfoldable pub function_named : Name → Option ValueFunction
 function_named name = function_among all_functions name
 

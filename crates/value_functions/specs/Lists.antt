@@ -53,11 +53,13 @@ assoc x end = past_end end
 abbrev pub adjoin : Object → Object → FunctionValue
 adjoin x list = then_value (member x list) (λ found. if is_pair found then Ok list else if_within (pair x list))
 
+-- what a function of one list gives
 abbrev pub of_list : OnLists → Object → FunctionValue
 of_list Car x = car x
 of_list Cdr x = cdr x
 of_list _ x = Err ARGUMENT_KIND
 
+-- what a function of an object and a list gives
 abbrev pub function_of_list : OnLists → Object → Object → FunctionValue
 function_of_list Cons x y = if_within (pair x y)
 function_of_list Nth x y = nth_value x y
@@ -66,6 +68,7 @@ function_of_list Assoc x y = assoc x y
 function_of_list Adjoin x y = adjoin x y
 function_of_list _ x y = Err ARGUMENT_KIND
 
+-- what a function on lists gives of its arguments: one or two of them
 abbrev pub on_lists : OnLists → List Object → FunctionValue
 on_lists function (x ∷ []) = of_list function x
 on_lists function (x ∷ y ∷ []) = function_of_list function x y

@@ -14,6 +14,7 @@ is_vector (vector xs) = true
 is_vector (text characters) = true
 is_vector _ = false
 
+-- whether an object is what a predicate asks for
 abbrev pub has_predicate : Predicate → Object → Bool
 has_predicate Not x = not (is_true x)
 has_predicate Consp x = is_pair x
@@ -23,6 +24,7 @@ has_predicate Integerp x = is_some (an_integer x)
 has_predicate Characterp x = is_some (a_character x)
 has_predicate Vectorp x = is_vector x
 
+-- what a predicate gives of its one argument
 abbrev pub predicate : Predicate → List Object → FunctionValue
 predicate test (x ∷ []) = Ok (truth_value (has_predicate test x))
 predicate test _ = Err ARGUMENT_KIND

@@ -69,16 +69,19 @@ abbrev pub item_at : List Object → ℤ → FunctionValue
 item_at xs (pos n) = item_in n xs
 item_at xs (negsuc n) = Err INTEGER_RANGE
 
+-- what a function of one sequence gives
 abbrev pub of_sequence : OnSequences → Object → FunctionValue
 of_sequence Length x = if_of_kind (a_sequence x) (λ s. if_in_range (pos (length_of s)))
 of_sequence Reverse x = if_of_kind (a_sequence x) (λ s. Ok (object_of_sequence (reversed s)))
 of_sequence _ x = Err ARGUMENT_KIND
 
+-- what a function of an object and a sequence gives
 abbrev pub with_sequence : OnSequences → Object → Object → FunctionValue
 with_sequence Remove x y = if_of_kind (a_sequence y) (λ s. Ok (object_of_sequence (without x s)))
 with_sequence Svref x y = if_of_kind (a_vector x) (λ xs. if_of_kind (an_integer y) (item_at xs))
 with_sequence _ x y = Err ARGUMENT_KIND
 
+-- what a function on sequences gives of its arguments: one or two of them
 abbrev pub on_sequences : OnSequences → List Object → FunctionValue
 on_sequences function (x ∷ []) = of_sequence function x
 on_sequences function (x ∷ y ∷ []) = with_sequence function x y

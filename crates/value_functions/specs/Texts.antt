@@ -34,18 +34,22 @@ abbrev pub place_or_nil : Option ℕ → FunctionValue
 place_or_nil (Some at) = if_in_range (pos at)
 place_or_nil None = Ok nil
 
+-- what a function of two texts gives
 abbrev pub of_strings : OnTexts → List ℕ → List ℕ → FunctionValue
 of_strings SameText a b = Ok (truth_value (bytes_eq a b))
 of_strings TextLess a b = place_or_nil (less_at 0 a b)
 of_strings SymbolName a b = Err ARGUMENT_KIND
 
+-- the same of two arguments, which are texts or symbols
 abbrev pub with_text : OnTexts → Object → Object → FunctionValue
 with_text function x y = if_of_kind (a_string x) (λ a. if_of_kind (a_string y) (of_strings function a))
 
+-- what a function of one argument gives
 abbrev pub of_text : OnTexts → Object → FunctionValue
 of_text SymbolName x = if_of_kind (a_symbol_name x) (λ name. Ok (text name))
 of_text _ x = Err ARGUMENT_KIND
 
+-- what a function on texts gives of its arguments: one or two of them
 abbrev pub on_texts : OnTexts → List Object → FunctionValue
 on_texts function (x ∷ []) = of_text function x
 on_texts function (x ∷ y ∷ []) = with_text function x y

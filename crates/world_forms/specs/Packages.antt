@@ -30,6 +30,7 @@ change_line operator home name p =
 abbrev pub import_line : Name → Name × Name → List ℕ
 import_line p r = change_line (codes "IMPORT") r.1 r.0 p
 
+-- the line with the form that makes a symbol external
 abbrev pub export_form_line : Name → Name → List ℕ
 export_form_line p n = change_line (codes "EXPORT") p n p
 

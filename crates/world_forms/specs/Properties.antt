@@ -26,6 +26,7 @@ abbrev pub form_setting : Table → Setting
 form_setting t =
     setting_of (record { text = 1048576; token = 4096; nesting = 100 }) readtable.standard 10 t common_lisp_user no_functions
 
+-- whether a form was read that ends here
 abbrev pub ends_at : Outcome → ℕ → Bool
 ends_at (form x start end next) n = end == n
 ends_at _ n = false

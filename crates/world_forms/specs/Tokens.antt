@@ -13,6 +13,7 @@ line_of_form form = form ++ 10 ∷ []
 
 -- ---- symbols
 
+-- whether a character after the first needs no mark round the token
 abbrev pub is_plain_after : ℕ → Bool
 is_plain_after c = is_ascii_uppercase c || is_ascii_digit c || c == byte "-"
 
@@ -67,6 +68,7 @@ quoted_text = value_text (codes "'") []
 abbrev pub keyword_argument : Name → List ℕ
 keyword_argument name = codes " " ++ symbol_text keyword name
 
+-- a character, as an argument of a form
 abbrev pub character_argument : ℕ → List ℕ
 character_argument c = codes " " ++ printed_character c
 

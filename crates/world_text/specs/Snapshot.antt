@@ -22,6 +22,7 @@ use Rattle.plist_state.specs.Changes.{plist}
 use Rattle.plist_state.specs.Readers.{readtable_names, symbols_with_properties}
 use Rattle.canon_printer.specs.Printed.{printed}
 
+-- the list of these texts
 abbrev pub texts : List Name → Object
 texts names = list_of (map (λ n. text n) names)
 
