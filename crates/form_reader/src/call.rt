@@ -9,7 +9,7 @@ ghost use Rattle.std_macros.specs.Results.{view_gathered, IsProperGathered};
 ghost use Rattle.lisp_reading.specs.Answering.{may_be_answered};
 ghost use Rattle.lisp_reading.specs.Setting.{macro_call, user_material, Setting};
 ghost use Rattle.form_reader.specs.Context.{setting};
-ghost use Rattle.lisp_reading.specs.Reading.{bytes_back, finished, plan_after_answer, completed, gathering_plan, closed};
+ghost use Rattle.lisp_reading.specs.Reading.{bytes_back, finished, plan_after_answer, completed, closed};
 ghost use Rattle.form_reader.specs.Call.{plan_of, value_lookahead, CallComesTo};
 ghost use Rattle.form_reader.specs.State.{space, Brings, IsReady, IsEnd};
 ghost use Rattle.form_reader.specs.declared.stack.Frame.{Frame};
@@ -53,9 +53,9 @@ pub(crate) fn call_value<R: MacroFunctions>(
     gathered: StdGathered,
 ) -> Result<CallValue, AllocError>
     requires answers { R.answers with.now.macros.now }
-    requires proper { IsProperGathered gathering_plan }
+    requires proper { IsProperGathered gathered }
     ensures gives { let setting = setting R.functions with.now in
-        IfOk result (λ r. completed setting depth call.now token spaced (view_gathered gathering_plan) ≡ plan_of r) }
+        IfOk result (λ r. completed setting depth call.now token spaced (view_gathered gathered) ≡ plan_of r) }
     ensures ends { IfOk result (λ r. value_lookahead r ≤ space (token || spaced)) }
 {
     match call.function() {
@@ -91,9 +91,9 @@ fn standard_value(
     token: bool,
     gathered: StdGathered,
 ) -> Result<CallValue, AllocError>
-    requires { IsProperGathered gathering_plan }
+    requires { IsProperGathered gathered }
     ensures gives { IfOk result (λ r.
-        finished token (value_of kind case number (view_gathered gathering_plan)) ≡ plan_of r) }
+        finished token (value_of kind case number (view_gathered gathered)) ≡ plan_of r) }
     ensures ends { IfOk result (λ r. value_lookahead r ≤ space token) }
 {
     match finish(alloc, kind, case, number, gathered) {
@@ -158,8 +158,8 @@ fn fits(packages: &Packages, nesting: u32, depth: usize, datum: &Datum) -> bool
 
 /// The call that a function of a user gets.
 fn macro_call(alloc: Global, call: &Invoked, gathered: StdGathered) -> Result<Call, AllocError>
-    requires { IsProperGathered gathering_plan }
-    ensures value { IfOk result (λ c. call_of c ≡ macro_call call.now (view_gathered gathering_plan)) }
+    requires { IsProperGathered gathered }
+    ensures value { IfOk result (λ c. call_of c ≡ macro_call call.now (view_gathered gathered)) }
     ensures sound { IfOk result IsSoundCall }
 {
     Ok(Call {
@@ -172,8 +172,8 @@ fn macro_call(alloc: Global, call: &Invoked, gathered: StdGathered) -> Result<Ca
 
 #[tactic(auto, using(crate::proofs::Calls::all_proper, lisp_object::proofs::Sound::all_below, token_meaning::proofs::Ascii::ascii_characters))]
 fn user_gathered(alloc: Global, gathered: StdGathered) -> Result<Gathered, AllocError>
-    requires { IsProperGathered gathering_plan }
-    ensures value { IfOk result (λ g. material_of g ≡ user_material (view_gathered gathering_plan)) }
+    requires { IsProperGathered gathered }
+    ensures value { IfOk result (λ g. material_of g ≡ user_material (view_gathered gathered)) }
     ensures sound { IfOk result IsProperMaterial }
 {
     match gathered {
@@ -214,11 +214,11 @@ pub(crate) fn end_call<R: MacroFunctions>(
     at: usize,
 ) -> Result<Event, AllocError>
     requires answers { R.answers with.now.macros.now }
-    requires proper { IsProperGathered gathering_plan }
+    requires proper { IsProperGathered gathered }
     ensures brings { let setting = setting R.functions with.now in
         (stack : List Frame) (cs : List ℕ) → depth ≡ length stack
         → IfOk result (λ event. Brings setting stack at cs event
-        (plan_gives setting stack (completed setting (length stack) call.now token false (view_gathered gathering_plan)) at cs)) }
+        (plan_gives setting stack (completed setting (length stack) call.now token false (view_gathered gathered)) at cs)) }
     ensures ends { IfOk result (IsEnd (space token) at) }
 {
     Ok(event_of(call_value(with, depth, call, token, false, gathered)?, at))

@@ -99,7 +99,7 @@ fn is_form(
     end: usize,
 ) -> Result<bool, AllocError>
     requires { readtable.now ≡ standard }
-    ensures { IfOk result (λ is. is ≡ ends_at (reads (form_setting packages.now.0) line_of_form.now) end) }
+    ensures { IfOk result (λ is. is ≡ ends_at (reads (form_setting packages.now.0) line.now) end) }
 {
     let read = read_form(alloc, readtable, packages, line)?;
     Ok(ends_at(&read, end))
