@@ -14,6 +14,7 @@ pub(crate) struct KeptBytes {
 }
 
 impl KeptBytes {
+    /// Keeps the bytes of a file, all of them.
     pub(crate) fn new(bytes: Vec<u8>) -> KeptBytes
         ensures kept { IsKeptOf result bytes.items }
         ensures whole { IsKeptWhole result }
@@ -26,6 +27,7 @@ impl KeptBytes {
         KeptBytes { bytes, first, len }
     }
 
+    /// How many bytes the file has.
     pub(crate) fn len(&self) -> u64
         ensures { (file : List ℕ) → IsKeptOf self.now file → result ≡ length file }
     {

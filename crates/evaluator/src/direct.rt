@@ -73,7 +73,8 @@ fn is_call(form: &Datum, operator: &[u8], count: usize) -> bool
     }
 }
 
-/// The items of such a list, moved out; or the form.
+/// The items of a list that is headed by the symbol of COMMON-LISP with this name, where there are so many, moved out;
+/// or the form.
 pub(crate) fn into_call(form: Datum, operator: &[u8], count: usize) -> Result<Vec<Datum>, Datum>
     requires { IsProper form }
     ensures form { IfOk result (λ items. form ≡ Datum.List items.items None) }
@@ -165,7 +166,7 @@ fn literal(form: &Datum) -> Option<&Datum>
     }
 }
 
-/// Whether there is such an object.
+/// Whether a form is a literal: an object that is its own value, or a quoted one.
 pub(crate) fn is_literal(form: &Datum) -> bool
     requires { IsProper form.now }
     ensures { result ≡ true → (x : Object) × IsLiteral (object_of form.now) x }
@@ -238,7 +239,7 @@ pub(crate) fn literal_assignment(items: &[Datum]) -> Option<Assignment<'_>>
     Some(Assignment { property, literal })
 }
 
-/// GET of such a property. It changes nothing.
+/// GET of a property that two quoted symbols name. It changes nothing.
 pub(crate) fn get_directly(
     alloc: Global,
     world: &World,

@@ -105,7 +105,7 @@ impl Names {
         }
     }
 
-    /// The same. The first names, `front` of them, are compared with it before, the last of these first.
+    /// The number of a name. The first names, `front` of them, are compared with it before, the last of these first.
     pub fn find_from_front(&self, front: u32, name: &[u8]) -> Option<u32>
         ensures { result ≡ position (bytes_eq name.now) self.now }
     {

@@ -97,7 +97,7 @@ pub fn text_of(alloc: Global, written: &[u8]) -> Result<Bytes, AllocError>
     Bytes::from_vec(text)
 }
 
-/// The text that is written so, of characters below 128. `Damaged` where a character is above.
+/// The text that is written between quotes in this way, of characters below 128. `Damaged` where a character is above.
 pub fn name_of(alloc: Global, written: &[u8]) -> Result<Bytes, BuildError>
     ensures same { IfOk result (λ name. name ≡ unescaped written.now) }
     ensures below { IfOk result (λ name. All (λ b. b < 128) name) }

@@ -28,7 +28,7 @@ pub(crate) fn proper_items(datum: &Datum) -> Option<&[Datum]>
     }
 }
 
-/// Copies of these.
+/// Copies of these data. It fails only for want of memory.
 pub(crate) fn copied(alloc: Global, items: &[Datum]) -> Result<Vec<Datum>, AllocError>
     ensures { IfOk result (λ v. v.items ≡ items.now) }
 {

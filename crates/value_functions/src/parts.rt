@@ -47,7 +47,7 @@ pub(crate) fn past_end(alloc: Global, end: Option<&Datum>) -> Result<Datum, Eval
     }
 }
 
-/// Copies of these.
+/// Copies of these data. It fails only for want of memory.
 pub(crate) fn copied(alloc: Global, items: &[Datum]) -> Result<Vec<Datum>, AllocError>
     ensures { IfOk result (λ v. v.items ≡ items.now) }
 {

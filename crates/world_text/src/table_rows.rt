@@ -289,7 +289,7 @@ pub(crate) fn tables_of(alloc: Global, world: &World) -> Result<Datum, AllocErro
     Datum::list(alloc, items, None)
 }
 
-/// The same in version 1, which has no base.
+/// The readtables, what is current, as version 1 has them: without the base.
 pub(crate) fn tables_of_1(alloc: Global, world: &World) -> Result<Datum, AllocError>
     ensures object { IfOk result (λ d. object_of d ≡ tables_object_1 world.now.0) }
     ensures proper { IfOk result (λ d. is_proper d ≡ true) }

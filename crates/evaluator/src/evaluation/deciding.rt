@@ -27,8 +27,8 @@ use plist_state::World;
 use readtable_core::FnName;
 use std::alloc::Global;
 
-/// What such an operator gives, of a form with a right number of arguments. After an error the world may have changed,
-/// but for its marks.
+/// What an operator that decides gives, of a form with a right number of arguments. After an error the world may have
+/// changed, but for its marks.
 #[cycle(evaluation)]
 pub(crate) fn decided(
     alloc: Global,
