@@ -32,7 +32,7 @@ pub data Action : Type 0 where
   seeks : Bool → Action
   selects : Action
   guards : Bool → Action
-  -- the first value of all; nothing, where the first form is true
+  -- the first value of all; NIL where the first form is true, and else a refusal
   keeps_first : Action
   asserts : Action
   -- a place that GET names, of which it is known whether it has a default, and the forms after it

@@ -52,7 +52,7 @@ rest _ = nil
 abbrev pub has_default : Object → Bool
 has_default place = count (rest place) == 3
 
--- the place that READTABLE-CASE names
+-- whether READTABLE-CASE is at the head of a place
 abbrev pub is_case_place : Object → Bool
 is_case_place place = is_standard (codes "READTABLE-CASE") (first place)
 

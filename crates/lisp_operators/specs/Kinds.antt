@@ -72,12 +72,12 @@ module _ {A : Type 0} (kind : Object → Option A) where
   one_or_each (symbol home name) = if is_nil home name then Some [] else option_map (λ y. y ∷ []) (kind (symbol home name))
   one_or_each x = option_map (λ y. y ∷ []) (kind x)
 
-  -- the last argument where it was given, and else what stands for it
+  -- what the first of these arguments stands for, and else what is put in its place
   abbrev pub given_or : A → List Object → Option A
   given_or default [] = Some default
   given_or default (x ∷ xs) = kind x
 
--- whatever was given last, and else NIL
+-- the first of these arguments, and NIL where there is none
 abbrev pub given_or_nil : List Object → Object
 given_or_nil [] = nil
 given_or_nil (x ∷ xs) = x

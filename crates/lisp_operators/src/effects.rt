@@ -1,5 +1,5 @@
-//! GET, SETF and PUSH of a property, where the value that they give is not asked for. The property that GET finds, the value
-//! of SETF, and a list to which PUSH adds, are not copied.
+//! GET, where it is only asked whether its value is true; SETF and PUSH of a property, where their values are not asked for. The
+//! property that GET finds, the value of SETF, and a list to which PUSH adds, are not copied.
 ghost use Rattle.std.specs.Prelude.{◌≡◌, Some, IfErr};
 ghost use Rattle.lisp_object.specs.Datum.{object_of};
 ghost use Rattle.plist_state.specs.Changes.{property};

@@ -6,7 +6,7 @@
 //! of which operator, the crate `evaluator` says.
 //!
 //! - `properties`, `places`, `packages`, `package_lists`, `look_ups`, `readtables`, `read_base`: the operators of each family;
-//!   `effects`: SETF and PUSH of a property, where their values are not asked for
+//!   `effects`: GET, where its truth alone is asked for, and SETF and PUSH of a property, where their values are not
 //! - `error`, `evaluated`: what an operator gives, `EvaluationError` and `Evaluated`
 //! - `arguments`, `owned_arguments`, `kinds`, `lists`, `values`: so many arguments, what each stands for, lists of them, and
 //!   values that are built; `list_builder`: a list that is built of one value after the other, by the sizes of its items
