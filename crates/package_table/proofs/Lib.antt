@@ -12,6 +12,7 @@ pub mod First
 pub mod FirstNames
 pub mod Found
 pub mod FoundBy
+pub mod FoundNumbers
 pub mod Frames
 pub mod Growing
 pub mod Inheriting

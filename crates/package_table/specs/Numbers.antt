@@ -1,12 +1,12 @@
 -- The numbers of symbols. They are beside the table and no part of it: packages with the same symbols are equal, whatever
 -- their numbers.
-use Rattle.std.specs.Prelude.{ℕ, ◌++◌, List, [], ◌∷◌, Option, None, option_and_then, if◌then◌else◌, refl}
+use Rattle.std.specs.Prelude.{◌≡◌, ℕ, ◌++◌, List, [], ◌∷◌, Option, None, Some, option_and_then, if◌then◌else◌, refl}
 use Rattle.std.specs.Option.{option_map_or}
 use Rattle.std.specs.Borrow.{Bor}
 use Rattle.std.specs.Coded.{Coded, code_by, coded×, coded_list, coded_ℕ}
 use Rattle.std.specs.FinMap as finite
 use Rattle.package_table.specs.Table.{Name, name_cmp, name_code, Present, Table, table_code, with_entry, with_used, with_new_package}
-use Rattle.package_table.specs.Lookup.{is_symbol}
+use Rattle.package_table.specs.Lookup.{found, is_symbol}
 
 -- for each package, the number of the symbol that is present by each name
 abbrev pub Numbers : Type 0
@@ -75,6 +75,12 @@ with_package_made s p = (with_new_package s.0 p, finite.insert s.1 p finite.empt
 -- the number of the symbol of this home and name, if there is one
 abbrev pub number_of : Numbered → Name → Name → Option ℕ
 number_of s h n = if is_symbol s.0 h n then number_at s.1 h n else None
+
+-- the number of the symbol that p finds by the name n, and where that is at home
+pub record IsFoundNumber (s : Numbered) (p n : Name) (i : ℕ) : Type 0 where
+  pub home : Name
+  pub finds : found s.0 p n ≡ Some home
+  pub number : number_of s home n ≡ Some i
 
 -- the home and the name of a symbol that is given by borrow
 abbrev pub names_of_symbol : Bor Name × Bor Name → Name × Name

@@ -5,7 +5,7 @@ ghost use Rattle.package_sets.specs.Kept.{name_at, pair_at, pair_eq, positions_o
 ghost use Rattle.package_table.specs.Table.{IsJoined, Name};
 ghost use Rattle.package_table.specs.Lookup.{external_home, found, is_present, is_symbol, is_used};
 ghost use Rattle.package_table.specs.Changes.{is_full_of_packages};
-ghost use Rattle.package_table.specs.Numbers.{names_of_symbol, number_of};
+ghost use Rattle.package_table.specs.Numbers.{names_of_symbol, number_of, IsFoundNumber};
 ghost use Rattle.package_table.specs.Meaning.{first_shown, found_number, home_in, is_shown_in, number_in, numbered_of, shown_number, symbol_name};
 
 use crate::limits::{LOCKED_PACKAGES, MAX_PACKAGES};
@@ -273,6 +273,22 @@ pub(crate) fn found_home<'a>(sets: &'a PackageSets, owner: u32, name: &[u8]) -> 
         Some(symbol) => Some(home_name(sets, symbol)),
         None => None,
     }
+}
+
+/// The number of the symbol that the package of a name finds by this name.
+#[inline(always)]
+pub(crate) fn found_by_names(sets: &PackageSets, owner: &[u8], name: &[u8]) -> Option<u32>
+    requires { IsJoined (numbered_of sets.now).0 }
+    ensures { IfSome result (IsFoundNumber (numbered_of sets.now) owner.now name.now) }
+{
+    sets.goodness();
+    let Some(owner) = sets.find_package(owner) else {
+        return None;
+    };
+    let Some(name) = sets.find_name(name) else {
+        return None;
+    };
+    found_number(sets, owner, name)
 }
 
 /// The home of the symbol that a package finds by this name.

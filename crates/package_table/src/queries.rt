@@ -1,16 +1,16 @@
 //! What callers ask of the packages. Package names are full here: a nickname names none. No question takes memory.
-ghost use Rattle.std.specs.Prelude.{◌≡◌, ◌↔◌, IsTrue, Some, is_some, nat_lt, option_map};
+ghost use Rattle.std.specs.Prelude.{◌≡◌, ◌↔◌, IfSome, IsTrue, Some, is_some, nat_lt, option_map};
 ghost use Rattle.std.specs.FinMap as finite;
 ghost use Rattle.package_table.specs.Table.{Name, IsExternal, IsPresent, Uses, symbol_count};
-ghost use Rattle.package_table.specs.Numbers.{names_of_symbol, number_of, numbered};
+ghost use Rattle.package_table.specs.Numbers.{names_of_symbol, number_of, numbered, IsFoundNumber};
 ghost use Rattle.package_table.specs.Changes.{is_full_of_packages, is_full_of_symbols};
 ghost use Rattle.package_table.specs.Lookup.{is_external, is_present, is_symbol, is_used};
 
 use crate::Packages;
 use crate::limits::MAX_SYMBOLS;
 use crate::look_ups::{
-    external_home, has_package, is_full_of_packages, is_present, is_symbol, is_used, number_of,
-    symbol_of,
+    external_home, found_by_names, has_package, is_full_of_packages, is_present, is_symbol,
+    is_used, number_of, symbol_of,
 };
 
 impl Packages {
@@ -35,6 +35,13 @@ impl Packages {
         ensures { result ≡ number_of (numbered self.now) home.now name.now }
     {
         number_of(&self.sets, home, name)
+    }
+
+    /// The number of the symbol that a package finds by this name, if it finds one.
+    pub fn found(&self, owner: &[u8], name: &[u8]) -> Option<u32>
+        ensures { IfSome result (IsFoundNumber (numbered self.now) owner.now name.now) }
+    {
+        found_by_names(&self.sets, owner, name)
     }
 
     /// The home and the name of the symbol of this number, as the packages have them: `number_of` turned round. There
