@@ -1,8 +1,8 @@
 //! The packages, and the calls on them.
-ghost use Rattle.std.specs.Prelude.{◌≡◌, [], IfOk, IfErr, IfSome, All, option_map};
+ghost use Rattle.std.specs.Prelude.{◌≡◌, [], IfOk, IfErr, IfSome, option_map};
 ghost use Rattle.package_table.specs.Table.{initial, is_locked, package_named, symbol_count, IsPackage, AreSoundPackages};
 ghost use Rattle.package_table.specs.Numbers.{numbered, without_marks};
-ghost use Rattle.package_table.specs.Numbering.{IsNumbered, IsNumberedSound};
+ghost use Rattle.package_table.specs.Numbering.{IsNumbered};
 ghost use Rattle.package_table.specs.Resolving.{resolution, external_resolution, internal_resolution, resolution_of, AnswersLookUp};
 ghost use Rattle.package_table.specs.Readers.{names_of, package_names, used_names, own_names, external_names, imports, ListRefused};
 
@@ -96,13 +96,6 @@ impl Packages {
     /// nothing.
     pub fn numbering(&self)
         ensures { IsNumbered (numbered self.now) (symbol_count self.now.0) }
-    {
-        self.sets.goodness();
-    }
-
-    /// Both of the packages as they were at each mark. For proofs: it does nothing.
-    pub fn marks_soundness(&self)
-        ensures { All IsNumberedSound self.now.1.marked }
     {
         self.sets.goodness();
     }
