@@ -28,6 +28,7 @@
 //! - proofs/EarlierOperators.antt: the operators that earlier programs had are among those there are.
 //! - proofs/Decisions.antt: AND, OR, COND, WHEN and UNLESS have the values of the forms that the standard gives for them.
 //! - proofs/WithoutBase.antt: what a form gives where `*READ-BASE*` is no variable.
+//! - proofs/QuotedKeys.antt: GET and SETF of a property that two quoted symbols name.
 //! - proofs/Induction.antt: one induction over the value of a form, in which what holds of each step holds of it (`every_value`).
 #![tactic(auto)]
 
@@ -43,7 +44,7 @@ pub mod laws;
 mod operation;
 mod perform;
 mod place;
-mod trimmed;
+pub mod trimmed;
 mod values;
 mod wanted;
 

@@ -6,7 +6,7 @@ use std::mem;
 
 /// The same datum. Its lists and vectors, but for one behind a dot, keep no room for more items than they have.
 #[cycle(trimming)]
-pub(crate) fn trimmed(datum: Datum) -> Datum
+pub fn trimmed(datum: Datum) -> Datum
     ensures { result ≡ datum }
 {
     match datum.into_list() {

@@ -14,6 +14,8 @@
 //! - proofs/Accepted.antt: what holds of a form as one transaction: it is silent, sound, covered, or refused under
 //!   a number of evaluation.
 //! - proofs/KnownSymbols.antt: symbols that are there are interned by changing nothing.
+//! - proofs/SoundSymbols.antt: a form whose symbols were interned may be evaluated.
+//! - proofs/Applied.antt: what a form comes to as one transaction, from what its evaluation comes to.
 #![tactic(auto)]
 
 mod application;

@@ -1,6 +1,5 @@
 mod Calls
 mod Coming
-mod DirectForms
 mod Fronts
 mod Items
 mod Listing
@@ -9,3 +8,5 @@ mod Runs
 mod Strings
 mod There
 mod Whole
+mod WrittenItems
+mod Writing

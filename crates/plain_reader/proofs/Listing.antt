@@ -10,7 +10,7 @@ use Rattle.lisp_reading.specs.Setting.{Setting}
 use Rattle.lisp_reading.specs.Reading.{is_whitespace, attempt}
 use Rattle.plain_reader.specs.Coming.{ReadsOnAs}
 use Rattle.plain_reader.specs.Plain.{setting, Gathers, Closes, TakesList, Puts, items_from}
-use Rattle.plain_reader.specs.Direct.{TakesObject}
+use Rattle.plain_reader.specs.Written.{TakesObject}
 use Rattle.plain_reader.specs.declared.context.PlainContext.{PlainContext}
 use Rattle.plain_reader.specs.declared.objects.ClosedList.{ClosedList}
 use Rattle.plain_reader.proofs.Calls.{list_taken, quote_taken}

@@ -10,9 +10,7 @@ use Rattle.lisp_reading.specs.declared.limits.Limits.{Limits}
 use Rattle.lisp_reading.specs.Setting.{Setting, setting_of}
 use Rattle.lisp_reading.specs.Reading.{attempt, form, outcome, reads_in, reads}
 use Rattle.plain_reader.specs.Coming.{ReadsOnAs}
-use Rattle.plain_reader.specs.declared.forms.TakenForm.{TakenForm}
 use Rattle.plain_reader.specs.declared.objects.ClosedList.{ClosedList}
-use Rattle.plain_reader.specs.Direct.{object_of_direct}
 
 pub form_given : (setting : Setting) (text rest more : List ℕ) (token : Bool) (x : Object) (end : ℕ) → length text ≤ setting.limits.text → token ≡ false
     → end ≡ length text - length rest → ReadsOnAs setting (attempt setting setting.limits.nesting) text (gives (one token x)) rest
@@ -42,18 +40,3 @@ form_taken limits table base packages current text start more o g x functions fi
     form_given setting text g.rest.now more false (list_of g.items) (length text - length g.rest.now) fits refl refl
     (subst (λ cs. ReadsOnAs setting (attempt setting limits.nesting) cs (gives (one false (list_of g.items))) g.rest.now) whole comes)
     ∙ ap (λ (x : Object). form x 0 (length text - length g.rest.now) (length text - length g.rest.now)) (sym object)
-
--- of what was not made, whatever the functions of users are
-pub direct_taken : (limits : Limits) (table : Table) (base : ℕ) (packages : Packages) (current : Name) (text start more : List ℕ) (o : Option TakenForm) (t : TakenForm)
-    (functions : Functions) → length text ≤ limits.text → start ≡ text → o ≡ Some t
-    → IfSome o (λ t. (functions : Functions) → let setting = setting_of limits table base packages current functions in
-    ReadsOnAs setting (attempt setting limits.nesting) start (gives (one false (object_of_direct t.form))) t.rest.now)
-    → reads (setting_of limits table base packages current functions) (text ++ more)
-    ≡ form (object_of_direct t.form) 0 (length text - length t.rest.now) (length text - length t.rest.now)
-direct_taken limits table base packages current text start more o t functions fits whole is takes =
-    let setting = setting_of limits table base packages current functions in
-    let comes : ReadsOnAs setting (attempt setting limits.nesting) start (gives (one false (object_of_direct t.form))) t.rest.now =
-    subst (λ o. IfSome o (λ (t : TakenForm). (functions : Functions) → let setting = setting_of limits table base packages current functions in
-    ReadsOnAs setting (attempt setting limits.nesting) start (gives (one false (object_of_direct t.form))) t.rest.now)) is takes functions in
-    form_given setting text t.rest.now more false (object_of_direct t.form) (length text - length t.rest.now) fits refl refl
-    (subst (λ cs. ReadsOnAs setting (attempt setting limits.nesting) cs (gives (one false (object_of_direct t.form))) t.rest.now) whole comes)

@@ -1,7 +1,7 @@
 pub mod Coming
-pub mod Direct
 pub mod Plain
 pub mod SelfEvaluating
 pub mod Texts
 pub mod Tokens
 pub mod Words
+pub mod Written

@@ -3,11 +3,11 @@ ghost use Rattle.std.specs.Prelude.{◌≡◌, ◌∷◌, ◌<◌, [], ℕ, leng
 ghost use Rattle.lisp_object.specs.Object.{IsSound};
 ghost use Rattle.lisp_object.specs.Datum.{object_of};
 ghost use Rattle.plain_reader.specs.Plain.{AreThere, IfStill, Takes};
-ghost use Rattle.plain_reader.specs.Direct.{literal_of, TakesItems};
+ghost use Rattle.plain_reader.specs.Written.{literal_of, TakesItems};
 ghost use Rattle.plain_reader.specs.SelfEvaluating.{is_self_evaluating};
 
 use crate::context::PlainContext;
-use crate::direct::Literal;
+use crate::literal::Literal;
 use crate::objects::{Taken, is_blank, put, spells, string};
 use crate::tokens::token;
 use lisp_object::Datum;
@@ -22,6 +22,7 @@ pub(crate) struct ReadLiteral<'a> {
 }
 
 /// The literal behind whitespace, as the next item of a list, where `room` calls may be opened.
+#[inline(always)]
 pub(crate) fn literal<'a>(
     with: &PlainContext<'_>,
     room: u32,
@@ -99,6 +100,7 @@ fn only(items: HeldObjects) -> Option<HeldObject>
 }
 
 // What evaluates to itself, as the next item of a list.
+#[inline(always)]
 fn itself<'a>(
     with: &PlainContext<'_>,
     known: &mut bool,
@@ -137,6 +139,7 @@ fn itself<'a>(
 }
 
 // A text or a token at the front of the text.
+#[inline(always)]
 fn atom<'a>(
     with: &PlainContext<'_>,
     known: &mut bool,
@@ -157,6 +160,7 @@ fn atom<'a>(
 
 // Whether it evaluates to itself.
 #[tactic(auto, using(lisp_object::proofs::Objects::object_laws))]
+#[inline(always)]
 fn is_self_evaluating(datum: &Datum) -> bool
     ensures { result ≡ true → is_self_evaluating (object_of datum.now) ≡ true }
 {

@@ -9,12 +9,14 @@ ghost use Rattle.package_table.specs.Symbols.{are_there};
 ghost use Rattle.user_macros.specs.Functions.{Functions};
 ghost use Rattle.lisp_reading.specs.Setting.{setting_of};
 ghost use Rattle.lisp_reading.specs.Reading.{is_whitespace, form, reads};
-ghost use Rattle.plain_reader.specs.Direct.{object_of_direct};
+ghost use Rattle.package_table.specs.Resolving.{found_at, resolution};
+ghost use Rattle.package_table.specs.Table.{Name};
+ghost use Rattle.plain_reader.specs.Written.{setf_at};
 
 use crate::context::PlainContext;
-use crate::direct::DirectForm;
-use crate::forms::direct;
+use crate::literal::Literal;
 use crate::objects::{calls, is_blank, list};
+use crate::written::written_setf;
 use lisp_object::Datum;
 use lisp_reading::Limits;
 use package_table::Packages;
@@ -104,45 +106,49 @@ pub fn read_plain(
     }
 }
 
-/// A form that begins a text and is not made, its end, and whether each of its symbols is known to be one of the packages.
+/// SETF of the property of two quoted symbols to a literal, by the names that stand in the text; where it ends, and whether each
+/// symbol of the literal is known to be one of the packages.
 #[derive(Drop)]
-pub struct ReadDirect {
-    pub form: DirectForm,
+pub struct ReadSetf<'a> {
+    pub symbol: &'a [u8],
+    pub indicator: &'a [u8],
+    pub literal: Literal,
     pub end: usize,
     pub known: bool,
 }
 
-/// What `read_plain` gives of the text `bytes`, where it is GET of two quoted symbols, or SETF of that place to a literal, with
-/// one whitespace character between its parts. It is not made: what it says is given, so that it can be carried out from its
-/// text. None says nothing of the text.
-pub fn read_direct(
+/// What `read_plain` gives of the text `bytes`, where it is such a SETF with one whitespace character between its parts, and its
+/// names, in capitals and without a package prefix, find symbols. They are not sought: whoever sets the property finds them. None
+/// says nothing of the text.
+#[inline(always)]
+pub fn read_setf<'a>(
     alloc: Global,
     limits: Limits,
     readtable: &Readtable,
     base: u8,
     packages: &Packages,
     current: &[u8],
-    bytes: &[u8],
-) -> Result<Option<ReadDirect>, AllocError>
+    bytes: &'a [u8],
+) -> Result<Option<ReadSetf<'a>>, AllocError>
     requires lowest_base { 2 ≤ base }
     requires highest_base { base ≤ 36 }
     requires current { IsPackage packages.now.0 current.now }
-    ensures form { (functions : Functions) (more : List ℕ) →
+    ensures form { (functions : Functions) (more : List ℕ) (h i : Name) →
         let setting = setting_of limits readtable.now base packages.now.0 current.now functions in
         IfOk result (λ found. IfSome found
-        (λ d. reads setting (bytes.now ++ more) ≡ form (object_of_direct d.form) 0 d.end d.end)) }
-    ensures known { IfOk result (λ found. IfSome found
-        (λ d. d.known ≡ true → are_there packages.now.0 (object_of_direct d.form) ≡ true)) }
-    ensures sound { IfOk result (λ found. IfSome found (λ d. IsSound (object_of_direct d.form))) }
-
-    // The form ends within the bytes, behind the first.
-    ensures some { IfOk result (λ found. IfSome found (λ d. 0 < d.end)) }
-    ensures within { IfOk result (λ found. IfSome found (λ d. d.end ≤ length bytes.now)) }
+        (λ s. resolution packages.now.0 current.now s.symbol.now ≡ Ok (found_at h)
+        → resolution packages.now.0 current.now s.indicator.now ≡ Ok (found_at i)
+        → reads setting (bytes.now ++ more) ≡ form (setf_at h s.symbol.now i s.indicator.now s.literal) 0 s.end s.end)) }
+    ensures known { (h i : Name) → IfOk result (λ found. IfSome found
+        (λ s. resolution packages.now.0 current.now s.symbol.now ≡ Ok (found_at h)
+        → resolution packages.now.0 current.now s.indicator.now ≡ Ok (found_at i)
+        → s.known ≡ true → are_there packages.now.0 (setf_at h s.symbol.now i s.indicator.now s.literal) ≡ true)) }
+    ensures sound { (h i : Name) → IfOk result (λ found. IfSome found
+        (λ s. resolution packages.now.0 current.now s.symbol.now ≡ Ok (found_at h)
+        → resolution packages.now.0 current.now s.indicator.now ≡ Ok (found_at i)
+        → IsSound (setf_at h s.symbol.now i s.indicator.now s.literal))) }
 {
-    if bytes.len() > limits.text {
-        return Ok(None);
-    }
-    if limits.nesting > MAX_NESTING {
+    if bytes.len() > limits.text || limits.nesting > MAX_NESTING {
         return Ok(None);
     }
     match bytes {
@@ -154,6 +160,7 @@ pub fn read_direct(
                 return Ok(None);
             }
             readtable.soundness();
+            packages.soundness();
             let with = PlainContext {
                 alloc,
                 limits,
@@ -166,10 +173,12 @@ pub fn read_direct(
                 quotes: true,
             };
             let mut known = true;
-            match direct(&with, limits.nesting, &mut known, rest)? {
+            match written_setf(&with, limits.nesting, &mut known, rest)? {
                 None => Ok(None),
-                Some(taken) => Ok(Some(ReadDirect {
-                    form: taken.form,
+                Some(taken) => Ok(Some(ReadSetf {
+                    symbol: taken.symbol,
+                    indicator: taken.indicator,
+                    literal: taken.literal,
                     end: bytes.len() - taken.rest.len(),
                     known,
                 })),

@@ -1,5 +1,5 @@
 //! Tokens without escapes.
-ghost use Rattle.std.specs.Prelude.{◌≡◌, ◌≤◌, ◌<◌, ℕ, ◌∷◌, map, length, true, false, None, IfOk, IfSome, IsTrue};
+ghost use Rattle.std.specs.Prelude.{◌≡◌, ◌≤◌, ◌<◌, ℕ, ◌∷◌, map, length, take, true, false, None, IfOk, IfSome, IsTrue};
 ghost use Rattle.std.specs.List.{list_all};
 ghost use Rattle.lisp_object.specs.Ascii.{is_ascii};
 ghost use Rattle.readtable_core.specs.Characters.{has_invalid_trait};
@@ -7,6 +7,7 @@ ghost use Rattle.token_scan.specs.Marks.{are_ascii};
 ghost use Rattle.token_scan.specs.Tokens.{typed, kind};
 ghost use Rattle.plain_reader.specs.Plain.{Takes, Puts, LeavesLessText, AreThere, AllAreThere, IfStill};
 ghost use Rattle.plain_reader.specs.Tokens.{IsTokenRun, IsToken, marks_of_bytes};
+ghost use Rattle.plain_reader.specs.Words.{is_word};
 
 use crate::context::PlainContext;
 use crate::objects::Taken;
@@ -82,7 +83,33 @@ pub(crate) fn put_token<'a>(
     }
 }
 
+/// How many bytes a token at the front of the text has, where it is a name without a package prefix, whatever the base is.
+#[inline(always)]
+pub(crate) fn word_length(with: &PlainContext<'_>, text: &[u8]) -> Option<usize>
+    ensures standard { IfSome result (λ _. IsTrue with.now.standard) }
+    ensures run { IfSome result (IsTokenRun with.now.readtable.now text.now) }
+    ensures word { IfSome result (λ n. IsTrue (is_word (take n text.now))) }
+    ensures fits { IfSome result (λ n. n ≤ with.now.limits.token) }
+    ensures within { IfSome result (λ n. n < length text.now) }
+{
+    if !with.standard {
+        return None;
+    }
+    let Some(count) = token_length(with.readtable, text) else {
+        return None;
+    };
+    if count > with.limits.token {
+        return None;
+    }
+    if is_word(&text[..count]) {
+        Some(count)
+    } else {
+        None
+    }
+}
+
 /// How many bytes at the front of the text a token has there; None where it has an escape, or nothing ends it.
+#[inline(always)]
 fn token_length(readtable: &Readtable, text: &[u8]) -> Option<usize>
     ensures run { IfSome result (IsTokenRun readtable.now text.now) }
     ensures within { IfSome result (λ n. n < length text.now) }

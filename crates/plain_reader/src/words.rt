@@ -70,9 +70,9 @@ fn upcased(alloc: Global, bytes: &[u8]) -> Result<Bytes, AllocError>
     }
 }
 
-// Whether a byte is a lower-case letter.
+/// Whether a byte is a lower-case letter.
 #[inline(always)]
-fn has_lower(bytes: &[u8]) -> bool
+pub(crate) fn has_lower(bytes: &[u8]) -> bool
     ensures { result ≡ list_any is_lower_case bytes.now }
 {
     bytes.iter().any(|c| c.is_ascii_lowercase())
@@ -102,9 +102,9 @@ fn upcase(name: &mut [u8])
     }
 }
 
-/// The upper-case letter of a lower-case one, and any other character as it is.
+// The upper-case letter of a lower-case one, and any other character as it is.
 #[inline(always)]
-pub(crate) fn upper_case(c: u8) -> u8
+fn upper_case(c: u8) -> u8
     ensures { result ≡ upper_case c }
 {
     if c.is_ascii_lowercase() { c - 32 } else { c }

@@ -24,3 +24,4 @@ pub mod Viewed
 pub mod Pushed
 pub mod Popped
 pub mod Sized
+pub mod Putting

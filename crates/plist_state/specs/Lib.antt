@@ -19,3 +19,4 @@ pub mod PropertyListViews
 pub mod Pushed
 pub mod Popped
 pub mod Shortened
+pub mod Found

@@ -21,7 +21,7 @@
 //!
 //! - `world`: `World`, and what is asked of it
 //! - `readers`: the lists that it gives
-//! - `properties`, `packages`, `readtables`, `base`: the calls that write
+//! - `properties`, `packages`, `readtables`, `base`: the calls that write; `found_names`: a property by the names that find it
 //! - `marks`: `mark`, `put_in_place`, `mark_count`, `back_to`, `settle`, over `journal` (notes under marks), `undo` (notes
 //!   undone) and `replaced` (what another world was put in the place of)
 //! - `note`: what is noted of a change; `overwritten`: what need not be
@@ -39,7 +39,7 @@
 //!   `with_list`
 //! - specs/Changes.antt: what each call makes of a state; specs/Pushed.antt: `pushed`, `with_pushed`, `holds_pair`, `pair_size`;
 //!   specs/Popped.antt: `first_item`, `with_popped`
-//! - specs/Sound.antt: what holds of each state; specs/Readers.antt: the lists that a world gives
+//! - specs/Found.antt: `PutsFound`; specs/Sound.antt: what holds of each state; specs/Readers.antt: the lists that a world gives
 //! - specs/Views.antt: `symbol_of`, `symbol_named`, `property_of`; specs/ErrorNumbers.antt: `readtable_error_number`; specs/Codes.antt: `state_code`
 //!
 //! # Laws for the crates above
@@ -59,6 +59,7 @@ mod base;
 mod copies;
 mod error;
 mod first_items;
+mod found_names;
 mod journal;
 mod marks;
 mod note;

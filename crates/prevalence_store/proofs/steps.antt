@@ -1,6 +1,7 @@
 -- From what the functions below the calls do to what the calls answer.
 pub mod Fitting
 pub mod Settings
+pub mod Naming
 pub mod Committing
 pub mod ForgettingForms
 pub mod Grouping

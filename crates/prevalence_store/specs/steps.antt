@@ -2,6 +2,7 @@
 pub mod Failure
 pub mod Together
 pub mod Setting
+pub mod Named
 pub mod Batch
 pub mod Group
 pub mod Open

@@ -38,7 +38,8 @@
 //! - `store` with `open`, `execute`, `execute_all`, `snapshot` and `run`: the store. `batch`: forms that are evaluated one after the other
 //!   and logged together, one or many, all or none; `log`: the halves of `gate_log`, and whether the device has failed. `group`
 //!   adds texts to a batch;
-//!   `replay` makes the world again from the records of a log; `setting` says under what a text is read, by the mode, and what it is
+//!   `replay` makes the world again from the records of a log. `named` carries SETF of a property out from the text of a record;
+//!   `tries` says when that is tried. `setting` says under what a text is read, by the mode, and what it is
 //!   as one form (`form_reader`).
 //! - `transaction`: a form as it is carried out, and as a question: what `form_eval` says, and FORGET-NAMES (`forgetting`), which no crate below knows.
 //! - `turn`: what is done between a mark of the world and the log, which is one call, `together` of `store`; `one_text` and
@@ -71,6 +72,7 @@ mod forgetting;
 mod group;
 mod laws;
 mod log;
+mod named;
 mod one_text;
 mod open_fault;
 mod outcome;
@@ -79,6 +81,7 @@ mod setting;
 mod step;
 mod store;
 mod transaction;
+mod tries;
 mod turn;
 mod visit;
 mod whole_macros;

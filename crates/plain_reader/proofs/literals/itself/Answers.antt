@@ -1,7 +1,7 @@
 use Rattle.std.proofs.Common.{IfSome, subst, sym}
 use Rattle.lisp_object.specs.Datum.{object_of}
 use Rattle.plain_reader.specs.Plain.{Takes, AreThere, IfStill}
-use Rattle.plain_reader.proofs.DirectForms.{object_item, same_there, still}
+use Rattle.plain_reader.proofs.WrittenItems.{object_item, same_there, still}
 use Rattle.plain_reader.proofs.literals.itself.Goals as goal
 
 pub returns-then-is_self_evaluating-clause-takes : goal.returns-then-is_self_evaluating-clause-takes

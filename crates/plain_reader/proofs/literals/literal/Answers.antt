@@ -1,6 +1,6 @@
 use Rattle.std.proofs.Common.{refl, sym, ◌∙◌, ◌-◌, ◌∷◌, take, drop, length, get_or}
 use Rattle.std.proofs.lemmas.Bool.{ltb-false}
-use Rattle.plain_reader.proofs.DirectForms.{fronts, literal_spaced}
+use Rattle.plain_reader.proofs.WrittenItems.{fronts, literal_spaced}
 use Rattle.plain_reader.proofs.Fronts.{front}
 use Rattle.plain_reader.proofs.literals.literal.Goals as goal
 

@@ -1,7 +1,7 @@
 use Rattle.std.proofs.Common.{IfSome, subst, sym, ◌-◌, ◌∷◌, [], arith}
-use Rattle.plain_reader.specs.Direct.{quote_of, TakesItems}
+use Rattle.plain_reader.specs.Written.{quote_of, TakesItems}
 use Rattle.plain_reader.specs.Plain.{Puts, AreThere, IfStill}
-use Rattle.plain_reader.proofs.DirectForms.{quoted_items, quoted_there, still}
+use Rattle.plain_reader.proofs.WrittenItems.{quoted_items, quoted_there, still}
 use Rattle.plain_reader.proofs.Listing.{only_put}
 use Rattle.plain_reader.proofs.There.{only_there}
 use Rattle.plain_reader.proofs.literals.quoted.Goals as goal
