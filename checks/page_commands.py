@@ -136,21 +136,21 @@ def options_of_script(command):
             "--wait SECONDS": (of_name["WAIT"], "and then starts the program"),
         },
         "show": {
+            "--where CONDITION": (of_name["WHERE"], "by a look of the program"),
             "--html FILE": (of_name["HTML"], "by looks of the program"),
             "--force": (of_name["FORCE"], "by looks of the program"),
             "--values": (of_name["VALUES"], "by a look of the program"),
         },
         "log": {"--follow": (of_name["FOLLOW"], "by looks of the program")},
+        "verify": {"--sums FILE": (of_name["SUMS"], "by looks of the program")},
         "backup": {"--at N": (of_name["AT"], "by looks of the program")},
         "check": {"--run": (of_name["RUN"], "by sessions of the program")},
     }.get(command, {})
 
 
 def line_of(usage):
-    """How a command is called, with the options that its own line leaves out."""
-    command = usage.split(" ")[0]
-    left_out = [] if command == "check" or "--existing" in usage else ["--existing"]
-    return " ".join([usage, *(f"[{it}]" for it in [*left_out, *options_of_script(command)])])
+    """How a command is called, with the option that its own line leaves out."""
+    return usage if usage.startswith("check ") or "--existing" in usage else f"{usage} [--existing]"
 
 
 def rows_of_script(command):
@@ -162,8 +162,9 @@ def rows_of_script(command):
 def rows(usage, known):
     for place in re.findall(r"\[([A-Z]+)\]", usage):
         yield f"| `{place}` | {known[place][1]} |"
+    own = {option.split(" ")[0] for option in options_of_script(usage.split(" ")[0])}
     for name in re.findall(r"--([a-z-]+)", usage):
-        if name != "existing" and name in known:
+        if name != "existing" and name in known and f"--{name}" not in own:
             value, does = known[name]
             yield f"| `--{name}{' ' + value if value else ''}` | {does} |"
     yield from rows_of_script(usage.split(" ")[0])

@@ -21,8 +21,8 @@ _pazturrok() {
         upgrade) words='--existing --help' ;;
         export) words='--existing --data --help' ;;
         dump) words='--existing --at --help' ;;
-        verify) words='--existing --json --help' ;;
-        show) words='--existing --package --indicator --like --forms --json --count --help --html --force --values' ;;
+        verify) words='--existing --json --help --sums' ;;
+        show) words='--existing --package --indicator --like --forms --json --count --help --where --html --force --values' ;;
         info) words='--existing --files --json --help' ;;
         log) words='--existing --from --places --json --help --follow' ;;
         backup) words='--existing --help --at' ;;
@@ -33,9 +33,9 @@ _pazturrok() {
         kind=
     fi
     case ${COMP_WORDS[COMP_CWORD - 1]} in
-        --at | --from | --indicator | --like | --package | --snapshot-every | --snapshot-ratio | --wait) return ;;
+        --at | --from | --indicator | --like | --package | --snapshot-every | --snapshot-ratio | --wait | --where) return ;;
         --store) kind=-d words='' ;;
-        --html) kind=-f words='' ;;
+        --html | --sums) kind=-f words='' ;;
     esac
     if [ -z "$kind" ] || [ "${word#-}" != "$word" ]; then
         mapfile -t COMPREPLY < <(compgen -W "$words" -- "$word")

@@ -201,6 +201,8 @@ help_of_command() {
         run) printf '\n%s\n' "$OWN_HELP" ;;
         check) printf '\n%s\n' "$OWN_HELP_OF_CHECK" ;;
         show) printf '\n%s\n' "$OWN_HELP_OF_SHOW" ;;
+        log) printf '\n%s\n' "$OWN_HELP_OF_LOG" ;;
+        verify) printf '\n%s\n' "$OWN_HELP_OF_VERIFY" ;;
         backup) printf '\n%s\n' "$OWN_HELP_OF_BACKUP" ;;
     esac
 }
@@ -231,14 +233,7 @@ words_of() {
     usage=$(printf '%s_USAGE' "$1" | tr '[:lower:]' '[:upper:]')
     case $1," $* " in run,*' --messages '*) usage=MESSAGES_USAGE ;; esac
     text_of "$usage" | sed -n "1s/^.*pazturrok $1 //p" | sed 's/ --messages/ [--messages]/'
-    case $1 in
-        run) echo '[--operators] [--wait SECONDS]' ;;
-        check) echo '[--run]' ;;
-        show) echo '[--html FILE] [--force] [--values] [--existing]' ;;
-        backup) echo '[--at N] [--existing]' ;;
-        log) echo '[--follow] [--existing]' ;;
-        info) echo '[--existing]' ;;
-    esac
+    case $1 in show | backup | log | info) echo '[--existing]' ;; esac
 }
 
 # Refuses an option that a command has not.

@@ -126,7 +126,8 @@ install_program() {
     put "$top/pazturrok" "$prefix/bin/pazturrok" 755
     put_all "$prefix/libexec/pazturrok" "$top/tools/pages.awk" "$top/tools/turns.sh" "$top/tools/words.sh" "$top/tools/lines.py" \
         "$top/tools/check_run.sh" "$top/tools/show_html.sh" "$top/tools/world.html" "$top/tools/back_to.sh" "$top/tools/follow_log.sh" \
-        "$top/tools/halves.sh" "$top/tools/show_values.sh" "$top/tools/json_values.awk" "$top/tools/uninstall.sh"
+        "$top/tools/halves.sh" "$top/tools/show_values.sh" "$top/tools/json_values.awk" "$top/tools/show_where.sh" "$top/tools/where.awk" \
+        "$top/tools/compare_sums.sh" "$top/tools/uninstall.sh"
     put_all "$prefix/share/pazturrok" "$top/lisp/operators.lisp" "$top/lisp/load-export.lisp"
     put "$room/pages" "$prefix/share/pazturrok/pages.txt" 644
     put "$room/manual" "$prefix/share/man/man1/pazturrok.1" 644

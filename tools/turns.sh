@@ -9,7 +9,7 @@ find_folder() {
     for word in "$@"; do
         count=$((count + 1))
         case $place,$before,$word in
-            *,--snapshot-every,* | *,--snapshot-ratio,* | *,--wait,* | *,--at,* | *,--from,* | *,--package,* | *,--indicator,* | *,--like,* | *,--store,* | *,--html,*) word= ;;
+            *,--snapshot-every,* | *,--snapshot-ratio,* | *,--wait,* | *,--at,* | *,--from,* | *,--package,* | *,--indicator,* | *,--like,* | *,--where,* | *,--store,* | *,--html,* | *,--sums,*) word= ;;
             *,*,-*) ;;
             0,*) folder=$word place=$count ;;
         esac

@@ -12,9 +12,10 @@ own_options() {
     case $1 in
         run) echo --operators --wait ;;
         check) echo --run ;;
-        show) echo --html --force --values ;;
+        show) echo --where --html --force --values ;;
         log) echo --follow ;;
         backup) echo --at ;;
+        verify) echo --sums ;;
     esac
 }
 
@@ -108,7 +109,7 @@ look_at_option_words() {
         case $command,$word in
             *,--) return 0 ;;
             *,--help | *,--help=*) continue ;;
-            run,--o* | run,--w* | check,--r* | show,--h* | show,--forc* | show,--v* | log,--fo* | backup,--a*) ;;
+            run,--o* | run,--w* | check,--r* | show,--h* | show,--forc* | show,--v* | show,--w* | log,--fo* | backup,--a* | verify,--s*) ;;
             *) continue ;;
         esac
         word=${word%%=*}
