@@ -6,8 +6,9 @@ ghost use Rattle.clap.specs.Words.{app_of, first_of, found_of, rows_of, subcomma
 ghost use Rattle.command_words.specs.LookLine.{plain_number_of, looking_line, place_given, place_of, written_number, AreRecords, AsksToLook, IsInfo, IsLook, IsLooked, IsShown};
 ghost use Rattle.command_words.specs.Rules.{FindsCommand};
 
+use crate::help::{DUMP_USAGE, LOG_USAGE, SHOW_USAGE};
 use crate::look_lines::looking_command;
-use crate::rules::{DIRECTORY, flag_is_set};
+use crate::rules::{DIRECTORY, PROGRAM, flag_is_set};
 use crate::tips::with_tip;
 use crate::words::{DUMP, VERIFY, nothing_asked};
 use clap::error::ErrorKind;
@@ -221,8 +222,8 @@ enum Mistake<'a> {
 fn error_of(alloc: Global, command: &mut Command<'_>, mistake: Mistake<'_>) -> Error {
     let told = match mistake {
         Mistake::NoCommand => return nothing_asked(command),
-        Mistake::FormsWith(other) => two_layouts(alloc, command, other),
-        Mistake::NoPlace(option, value) => no_place(alloc, command, option, value),
+        Mistake::FormsWith(other) => two_layouts(alloc, other),
+        Mistake::NoPlace(option, value) => no_place(alloc, option, value),
     };
     match told {
         Ok(error) => error,
@@ -230,20 +231,18 @@ fn error_of(alloc: Global, command: &mut Command<'_>, mistake: Mistake<'_>) -> E
     }
 }
 
-fn two_layouts(alloc: Global, command: &mut Command<'_>, other: &str) -> Result<Error, AllocError> {
+fn two_layouts(alloc: Global, other: &str) -> Result<Error, AllocError> {
     let text = format!(in alloc; "the argument '--forms' cannot be used with '--{other}'")?;
-    command.error(ErrorKind::ArgumentConflict, text.as_str())
+    let mut show = Command::new(alloc, PROGRAM).override_usage(SHOW_USAGE);
+    show.error(ErrorKind::ArgumentConflict, text.as_str())
 }
 
-fn no_place(
-    alloc: Global,
-    command: &mut Command<'_>,
-    option: &str,
-    value: &str,
-) -> Result<Error, AllocError> {
+fn no_place(alloc: Global, option: &str, value: &str) -> Result<Error, AllocError> {
     let wanted = "the number of a record, or G.N: N in the half of generation G";
     let text = format!(in alloc; "invalid value '{value}' for '--{option} <N>': {wanted}")?;
-    command.error(ErrorKind::ValueValidation, text.as_str())
+    let usage = if option == AT { DUMP_USAGE } else { LOG_USAGE };
+    let mut line = Command::new(alloc, PROGRAM).override_usage(usage);
+    line.error(ErrorKind::ValueValidation, text.as_str())
 }
 
 // What was found.
