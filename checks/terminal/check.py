@@ -272,7 +272,7 @@ with tempfile.TemporaryDirectory() as room:
             TOLD % (7, 1, 30, QUOTED % ("HELP", "HELP"), 30) + TOLD % (7, 6, 30, QUOTED % ("GET", "GET"), 30) + BESIDE % "GET" + "> ")
     it.step("help of a number", "help 31\n", "! 30 NOT-A-FORM\n31\n", TOLD % (8, 1, 30, QUOTED % ("HELP", "HELP"), 30) + BESIDE % "31" + "> ")
     it.step("an operator of PAZTURROK", "(+ 1 2)\n", "! 31 UNKNOWN-OPERATOR\n",
-            TOLD % (9, 1, 31, "no operator |+|: run DIR --operators makes it known", 31) + "> ")
+            TOLD % (9, 1, 31, "no operator +: run DIR --operators makes it known", 31) + "> ")
     it.step("a package without operators", '(MAKE-PACKAGE "BOOK")\n(IN-PACKAGE "BOOK")\n', '"BOOK"\n"BOOK"\n', "> > ")
     it.step("its first form", "(LIST 1)\n", "! 31 UNKNOWN-OPERATOR\n",
             TOLD % (12, 1, 31, "no operator LIST" + WITHOUT_STANDARD, 31) + "> ")

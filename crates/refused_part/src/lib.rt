@@ -8,10 +8,11 @@
 //! - `part`: `refused_part`, which goes inwards from the form
 //! - `trials`: whether a part is evaluated, and refused; `placed`: a part with its place; `trial`: whether a form is refused with a number
 //! - `filling`: a form with another part in its place; `marks`: what is put there
-//! - `text`: `refused_text`, what is told of it; `quotes`: the text of a part; `ways`: how it is accepted; `operators`: the names of operators,
-//!   and which PAZTURROK has; `near`: which of them is near to another name
+//! - `text`: `refused_text`, what is told of it; `quotes`: the text of a part; `ways`: how it is accepted; `clashes`: which name two symbols would
+//!   have; `operators`: the names of operators, and which PAZTURROK has; `near`: which of them is near to another name
 #![tactic(auto)]
 
+mod clashes;
 mod filling;
 mod marks;
 mod near;

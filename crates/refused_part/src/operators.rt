@@ -131,6 +131,14 @@ pub(crate) fn is_counting(datum: &Datum) -> bool {
     }
 }
 
+/// A printed name without its bars, if it is that of an operator: `+` is printed with bars, and written without them.
+pub(crate) fn without_bars(printed: &[u8]) -> &[u8] {
+    match printed {
+        [b'|', name @ .., b'|'] if is_of_pazturrok(name) => name,
+        _ => printed,
+    }
+}
+
 /// Whether it is the name of one of PAZTURROK, which COMMON-LISP does not have.
 pub(crate) fn is_of_pazturrok(name: &[u8]) -> bool {
     if name == FORGET_NAMES || DECIDING.iter().any(|deciding| *deciding == name) {

@@ -5,9 +5,12 @@ ghost use Rattle.lisp_object.specs.Datum.{object_of, is_proper};
 ghost use Rattle.lisp_object.specs.Object.{AllAtoms};
 ghost use Rattle.refused_part.specs.Search.{MayTry};
 
+use crate::clashes::add_clash;
 use crate::filling::item_at;
 use crate::marks::{call_of, quotation};
-use crate::operators::{PAZTURROK, is_in_pazturrok, is_of_pazturrok, meant_by, name_of_symbol};
+use crate::operators::{
+    PAZTURROK, is_in_pazturrok, is_of_pazturrok, meant_by, name_of_symbol, without_bars,
+};
 use crate::part::refused_part;
 use crate::quotes::told_of;
 use crate::trial::{MOST_LEVELS, is_refused_form};
@@ -15,7 +18,7 @@ use crate::ways::{ALONE, WITHOUT_COMMON_LISP, add_way_to_own, uses, way_on};
 use canon_printer::print;
 use form_eval::{EvaluationError, ReadForm, accept};
 use lisp_object::Datum;
-use lisp_object::refusal::{NOT_A_FORM, UNKNOWN_OPERATOR, name_of};
+use lisp_object::refusal::{NAME_CONFLICT, NOT_A_FORM, UNKNOWN_OPERATOR, name_of};
 use package_table::standardized::COMMON_LISP;
 use plist_state::World;
 use std::alloc::{AllocError, Global};
@@ -97,7 +100,7 @@ fn operator_text<M: Meaning>(
 {
     let name = printed(alloc, world, macros, operator)?;
     let mut text = Vec::from_slice(alloc, b"no operator ")?;
-    text.extend_from_slice(name.as_slice())?;
+    text.extend_from_slice(without_bars(name.as_slice()))?;
     add_way(alloc, &mut text, world, operator)?;
     Ok(text)
 }
@@ -122,6 +125,9 @@ fn part_text<M: Meaning>(
         text.extend_from_slice(name.as_slice())?;
     }
     text.extend_from_slice(way_on(world, part, number))?;
+    if number == NAME_CONFLICT {
+        add_clash(alloc, &mut text, world, part)?;
+    }
     Ok(text)
 }
 
