@@ -75,7 +75,7 @@ def symbols(looks: Looks) -> None:
         looks.check(f"show {name} --json", found, [{"symbol": name, "home": home}, *properties])
     for name in ("NOPE", "apple", "foo bar", "P:APPLE", "Q::APPLE", ""):
         status, out, err = looks.look("show", name)
-        is_told = err.startswith("error: there is no such symbol") and err.count("\n") == 1
+        is_told = "': there is no such symbol (" in err and err.count("\n") == 1
         looks.check(f"show {name!r}", (status, out, is_told), (2, "", True))
     looks.check("a symbol of a package", looks.told("show", "APPLE", "--package", "P"), looks.told("show", "P::APPLE"))
     looks.check("as it is printed", looks.told("show", "P::APPLE", "--package", "P"), looks.told("show", "P::APPLE"))
@@ -218,7 +218,7 @@ def unread(looks: Looks) -> None:
         looks.check(f"{words} without a reader", (running.returncode, err), (0, b""))
     with open("/dev/full", "wb") as full:
         done = subprocess.run([looks.program, "show", looks.store], stdout=full, stderr=subprocess.PIPE, check=False)
-    looks.check("an output that takes nothing", (done.returncode, done.stderr), (3, b"! 68 OUTPUT\n"))
+    looks.check("an output that takes nothing", (done.returncode, done.stderr), (3, b"! 68 OUTPUT\nstandard output: no storage space\n"))
 
 
 PARTS: List[Callable[[Looks], None]] = [symbols, patterns, counts, objects, figures, verified, unreadable, unread]

@@ -68,7 +68,7 @@ where
     match checked_in(rt.alloc(), words) {
         Ok(asked) => match check_asked(rt, macros, asked, input, output) {
             Ok(status) => end_with(faults, status),
-            Err(unlooked) => end_unlooked(faults, unlooked),
+            Err(unlooked) => end_unlooked(faults, unlooked, None),
         },
         Err(error) => {
             let status = answer_words(&error, output, faults);

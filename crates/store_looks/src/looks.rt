@@ -37,7 +37,7 @@ use store_commands::{
     Folders, HALF_LIMIT, Opening, Status, TellsCause, Told, answer_words, end_with, end_with_told,
     open_folder, report_on, status_of_output,
 };
-use store_reports::{BackupError, LogPart, Notation, StorePlaces, backup, log_lines};
+use store_reports::{BackupError, LogPart, Notation, ShowError, StorePlaces, backup, log_lines};
 use user_macros::MacroFunctions;
 
 /// Looks into the store in a folder, as the words ask (`Way::Look` of `command_words`), and answers how that ended. The first word is the
@@ -78,7 +78,7 @@ where
     match looked_in(rt.alloc(), words) {
         Ok(looked) => match look_at(rt, folders, macros, looked, output) {
             Ok(status) => end_with(faults, status),
-            Err(unlooked) => end_unlooked(faults, unlooked),
+            Err(unlooked) => end_unlooked(faults, unlooked, Some(looked.look)),
         },
         Err(error) => {
             let status = answer_words(&error, output, faults);
@@ -87,8 +87,12 @@ where
     }
 }
 
-// Ends where nothing is told of a store, and says why.
-pub(crate) fn end_unlooked<F: Write>(faults: &mut F, unlooked: Unlooked) -> Status
+// Ends where nothing is told of a store, by such a look if it was one, and says why.
+pub(crate) fn end_unlooked<F: Write>(
+    faults: &mut F,
+    unlooked: Unlooked,
+    look: Option<Look<'_>>,
+) -> Status
     ensures told { (told : Told) × TellsFault result told (F.contents faults.old) (F.contents faults.new) }
     ensures quiet { IsQuiet result → faults.new ≡ faults.old }
     ensures refused { EndsUnlooked result }
@@ -101,7 +105,10 @@ pub(crate) fn end_unlooked<F: Write>(faults: &mut F, unlooked: Unlooked) -> Stat
             end_with_told(faults, status, &Told::Cause(error))
         }
         Unlooked::Show(error) => {
-            tell_error(faults, &error);
+            match name_sought(look, &error) {
+                Some(name) => tell_error_of(faults, name, &error),
+                None => tell_error(faults, &error),
+            }
             Status::WordsRefused
         }
         Unlooked::NoPlace(error) => {
@@ -118,6 +125,25 @@ pub(crate) fn end_unlooked<F: Write>(faults: &mut F, unlooked: Unlooked) -> Stat
             Status::WordsRefused
         }
     }
+}
+
+// The name that a look at properties was asked for and did not find.
+fn name_sought<'a>(look: Option<Look<'a>>, error: &ShowError) -> Option<&'a str> {
+    let Look::Show(shown) = look? else {
+        return None;
+    };
+    match error {
+        ShowError::NoPackage => shown.package,
+        ShowError::NoSymbol => shown.symbol,
+        ShowError::NoIndicator => shown.indicator,
+        ShowError::OutOfMemory => None,
+    }
+}
+
+// Tells why what has this name is not there.
+fn tell_error_of<F: Write, E: Display>(faults: &mut F, name: &str, error: &E) {
+    let mut shown = program_streams::ShownText::new(faults);
+    let _ = writeln!(shown, "error: '{name}': {error}");
 }
 
 // Tells why what is asked for is not there. A name in it goes to a terminal.
