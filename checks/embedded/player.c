@@ -29,7 +29,7 @@ static void write_all(int file, const char *bytes, size_t count) {
         ssize_t written = write(file, bytes, count);
         if (written < 0 && errno == EINTR) continue;
         if (written <= 0) {
-            static const char LINE[] = "! 68 OUTPUT\n";
+            static const char LINE[] = "! 68 OUTPUT\nstandard output: no storage space\n";
             if (file == 1) write_all(2, LINE, sizeof LINE - 1);
             exit(3);
         }

@@ -62,7 +62,7 @@ def reader_gone(room):
                              stderr=subprocess.PIPE)
     os.close(write)
     _, faults = child.communicate(form(1) + form(2), timeout=PATIENCE)
-    want((child.returncode, faults) == (3, OUTPUT), "nobody reads:", child.returncode, faults)
+    want((child.returncode, faults) == (3, OUTPUT + b"standard output: broken pipe\n"), "nobody reads:", child.returncode, faults)
     want(count_in(room) in (0, 1), "nobody reads: the world")
     return 1
 

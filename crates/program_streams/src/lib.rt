@@ -7,7 +7,8 @@
 //! - `ShownText`: a writer of text that lets no control character through to a terminal (module `shown`).
 //! - `Refusals`: an output that lets the refusals among answers through, and counts; `write_counts` writes the line on the counts (module
 //!   `refusals`, over `answer_text`, which tells where an answer ends).
-//! - `Pipe`: an output that takes note of it when its reader has gone, and `BesidePipe`, a writer that tells nothing any more then (module `pipe`).
+//! - `Pipe`: an output that takes note of why it takes no more, and `BesidePipe`, a writer that tells nothing any more once the reader has gone
+//!   (module `pipe`).
 //! - `Progress`: an input that tells how much of it was read, and `Cleared`, a writer that takes this line away first (module `progress`).
 #![tactic(auto)]
 
@@ -20,7 +21,7 @@ mod typed_lines;
 mod typed_words;
 mod uninterrupted;
 
-pub use pipe::{BesidePipe, Pipe};
+pub use pipe::{BesidePipe, Pipe, has_lost_reader};
 pub use progress::{Cleared, Progress};
 pub use refusals::{Counts, Refusals, write_counts};
 pub use shown::ShownText;

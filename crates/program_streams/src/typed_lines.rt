@@ -6,7 +6,7 @@ use std::io::{Read, Write};
 const LONGEST: usize = 4096;
 
 const CUT: &[u8] =
-    b"A terminal hands on 4,095 bytes of a line, and dropped the rest of this one. The form is open: Ctrl-C ends the session without it.\nWrite it in shorter lines, or send it from a file: run DIR < FILE\n";
+    b"A terminal hands on 4,095 bytes of a line, and dropped the rest of this one, so the form that was begun is not whole.\nCtrl-C ends the session, and the store gets nothing of that form. Write it in shorter lines, or send it from a file: run DIR < FILE\n";
 
 /// An input at a terminal, which tells of each line that the terminal has cut.
 #[derive(Drop)]

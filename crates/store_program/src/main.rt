@@ -2,10 +2,12 @@
 //! the files of the system, and ends with its status.
 //!
 //! - `opening`: at a terminal, how much there is to open; `pages`: where prompts go, and what the pages say
-//! - `counted`: the refusals among answers, and how many answers there were; `reasons`: which refused forms standard error tells of
+//! - `counted`: the refusals among answers, and how many answers there were; `reasons`: which refused forms standard error tells of;
+//!   `ends`: what it tells at the end
 #![tactic(auto)]
 
 mod counted;
+mod ends;
 mod opening;
 mod pages;
 mod reasons;
@@ -15,6 +17,7 @@ ghost use Rattle.user_macros.specs.Sound.{IsSoundCall};
 ghost use Rattle.user_macros.specs.Functions.{are_registered};
 
 use crate::counted::Counted;
+use crate::ends::{tell_cause, tell_counts};
 use crate::opening::Telling;
 use crate::pages::Pages;
 use crate::reasons::{reasons_for, tell_unread};
@@ -22,7 +25,8 @@ use command_words::{CommandWay, asks_for_quiet, way_of};
 use lisp_object::refusal::NO_MEMORY;
 use message_command::run_messages;
 use program_streams::{
-    BesidePipe, Cleared, Counts, Pipe, Progress, Refusals, TypedLines, Uninterrupted, write_counts,
+    BesidePipe, Cleared, Counts, Pipe, Progress, Refusals, TypedLines, Uninterrupted,
+    has_lost_reader,
 };
 use readtable_core::FnName;
 use six_functions::{SixFunctions, macro_functions};
@@ -91,16 +95,11 @@ fn serve_words<M: MacroFunctions + Drop, F: Write>(
     if take_stack(words.len()) > 1 {
         return end_with(faults, Status::Fault(NO_MEMORY));
     }
-    let mut output = Uninterrupted::new(rt.stdout());
     match way_of(words) {
         way @ (CommandWay::Look | CommandWay::Check | CommandWay::See) => tell(
             rt, way, macros, words,
         ),
-        CommandWay::Messages => {
-            let mut input = Uninterrupted::new(rt.stdin());
-            let folders = Telling::new(rt, rt);
-            run_messages(&folders, macros, words, &mut input, &mut output, faults)
-        }
+        CommandWay::Messages => serve_messages(rt, macros, words, faults),
         CommandWay::Serve if asks_for_quiet(words) => serve_quietly(rt, macros, words, faults),
         CommandWay::Serve if rt.stdin().is_terminal() => serve_at_terminal(
             rt, macros, words, faults,
@@ -110,10 +109,28 @@ fn serve_words<M: MacroFunctions + Drop, F: Write>(
             &Telling::new(rt, rt),
             macros,
             words,
-            output,
+            Uninterrupted::new(rt.stdout()),
             rt.stderr(),
         ),
     }
+}
+
+// The same of messages with numbers.
+fn serve_messages<M: MacroFunctions + Drop, F: Write>(
+    rt: &HostRuntime,
+    macros: M,
+    words: &[String],
+    faults: &mut F,
+) -> Status
+    requires answers { M.answers macros }
+{
+    let failure = Cell::new(None);
+    let mut input = Uninterrupted::new(rt.stdin());
+    let mut output = Pipe::new(Uninterrupted::new(rt.stdout()), &failure);
+    let folders = Telling::new(rt, rt);
+    let status = run_messages(&folders, macros, words, &mut input, &mut output, faults);
+    tell_cause(faults, status, failure.get());
+    status
 }
 
 // Tells what the words ask for, in this way. If the reader of the output goes before its end, as `head` does, that is no fault.
@@ -125,9 +142,9 @@ fn tell<M: MacroFunctions + Drop>(
 ) -> Status
     requires answers { M.answers macros }
 {
-    let closed = Cell::new(false);
-    let mut output = Pipe::new(Uninterrupted::new(rt.stdout()), &closed);
-    let mut faults = BesidePipe::new(rt.stderr(), &closed);
+    let failure = Cell::new(None);
+    let mut output = Pipe::new(Uninterrupted::new(rt.stdout()), &failure);
+    let mut faults = BesidePipe::new(rt.stderr(), &failure);
     let status = match way {
         CommandWay::Look => look(
             rt,
@@ -153,7 +170,13 @@ fn tell<M: MacroFunctions + Drop>(
             )
         }
     };
-    if closed.get() { Status::Done } else { status }
+    if has_lost_reader(failure.get()) {
+        return Status::Done;
+    }
+    if way != CommandWay::See {
+        tell_cause(&mut rt.stderr(), status, failure.get());
+    }
+    status
 }
 
 // The same with refusals alone on standard output, and a count at the end on standard error.
@@ -175,16 +198,6 @@ fn serve_quietly<M: MacroFunctions + Drop, F: Write>(
     status
 }
 
-// Tells on standard error how many answers there were, unless no session was asked for.
-fn tell_counts<F: Write>(faults: &mut F, status: Status, counts: Counts) {
-    match status {
-        Status::Helped | Status::WordsRefused => {}
-        _ => {
-            let _ = write_counts(faults, counts);
-        }
-    }
-}
-
 // The same where standard input is no terminal, and folders are opened by another system. At a terminal standard error has a line on how far
 // it is.
 fn serve_pipe<R, M, O, F>(
@@ -203,6 +216,7 @@ where
     requires answers { M.answers macros }
 {
     let (heard, stands) = (Cell::new(Heard::Nothing), Cell::new(false));
+    let failure = Cell::new(None);
     let reasons = reasons_for(rt, words);
     let history = History::new(rt.alloc());
     let stdin = Uninterrupted::new(rt.stdin());
@@ -213,7 +227,7 @@ where
     };
     let mut input = Piped::new(Lines::new(progress, &history), &heard);
     let mut output = SessionOutput {
-        output: Answers::new(output, &heard),
+        output: Answers::new(Pipe::new(output, &failure), &heard),
         teller: RefusalTeller::new(
             rt.alloc(),
             Cleared::new(rt.stderr(), &stands),
@@ -224,6 +238,7 @@ where
     let mut faults = Cleared::new(faults, &stands);
     let status = program(folders, macros, words, &mut input, &mut output, &mut faults);
     faults.clear();
+    tell_cause(&mut faults, status, failure.get());
     if reasons != Reasons::None {
         tell_unread(rt, &mut faults, &input, &history, status);
     }
@@ -258,14 +273,17 @@ fn serve_at_terminal<M: MacroFunctions + Drop, F: Write>(
     requires answers { M.answers macros }
 {
     let (heard, history) = (Cell::new(Heard::Nothing), History::new(rt.alloc()));
+    let failure = Cell::new(None);
     let lines = Lines::new(typed_lines(rt), &history);
     let mut input = Terminal::new(rt.alloc(), lines, Pages::new(rt), &heard);
     let mut output = SessionOutput {
-        output: Answers::new(Uninterrupted::new(rt.stdout()), &heard),
+        output: Answers::new(Pipe::new(Uninterrupted::new(rt.stdout()), &failure), &heard),
         teller: RefusalTeller::new(rt.alloc(), rt.stderr(), &history, Reasons::Few),
     };
     let folders = Telling::new(rt, rt);
-    program_at_terminal(&folders, macros, words, &mut input, &mut output, faults)
+    let status = program_at_terminal(&folders, macros, words, &mut input, &mut output, faults);
+    tell_cause(faults, status, failure.get());
+    status
 }
 
 // What is noted of the answers of a quiet session.
@@ -292,6 +310,7 @@ fn serve_quietly_at_terminal<M: MacroFunctions + Drop, F: Write>(
     requires answers { M.answers macros }
 {
     let history = History::new(rt.alloc());
+    let failure = Cell::new(None);
     let noted = Noted {
         heard: Cell::new(Heard::Nothing),
         counts: Cell::new(Counts {
@@ -302,13 +321,15 @@ fn serve_quietly_at_terminal<M: MacroFunctions + Drop, F: Write>(
     let (heard, counts) = noted.lent();
     let lines = Lines::new(typed_lines(rt), &history);
     let mut input = Terminal::new(rt.alloc(), lines, Pages::new(rt), heard);
-    let refusals = Counted::new(rt.alloc(), Uninterrupted::new(rt.stdout()), counts);
+    let written = Pipe::new(Uninterrupted::new(rt.stdout()), &failure);
+    let refusals = Counted::new(rt.alloc(), written, counts);
     let mut output = SessionOutput {
         output: Answers::new(refusals, heard),
         teller: RefusalTeller::new(rt.alloc(), rt.stderr(), &history, Reasons::Few),
     };
     let folders = Telling::new(rt, rt);
     let status = program_at_terminal(&folders, macros, words, &mut input, &mut output, faults);
+    tell_cause(faults, status, failure.get());
     tell_counts(faults, status, counts.get());
     status
 }
