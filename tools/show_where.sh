@@ -2,8 +2,13 @@
 # `show DIR --where CONDITION`: the properties of the symbols of which a condition holds, as PRICE>5, in one look of the program. It is a part of the
 # script `pazturrok`, and no command.
 
-# Takes a condition, in a line of its own.
+# Takes a condition, in a line of its own. What another language writes in the place of one of the six is refused.
 take_condition() {
+    sign=${1#"${1%%[=\<\>!]*}"}
+    case $sign in
+        '<>'* | '!'* | '=='*) refuse "--where writes /= for not equal, and = for equal, and not as in '$1'" ;;
+        '=<'* | '=>'*) refuse "--where writes <= and >=, and not as in '$1'" ;;
+    esac
     case $1 in
         '' | [=\<\>/]* | *"
 "*) ;;

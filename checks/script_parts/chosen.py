@@ -55,7 +55,7 @@ def check_chosen(script: str, room: str) -> None:
     check("values", (status, [json.loads(line)["value"] for line in out.splitlines()], err), (0, ["Z\u00fcrich", []], b""))
     headed = subprocess.run(["sh", "-c", '"$0" "$@" | head -n 1', script, "show", store, "--where", "PRICE/=8"], capture_output=True, check=False)
     check("a reader that goes", (headed.stdout, headed.stderr), (whole[:whole.index(b"\n") + 1], b""))
-    for words, says in ((asked("PRICE"), "takes a condition"), (asked("=7"), "takes a condition"), (asked(""), "takes a condition"), (["--where"], "is missing after --where"),
+    for words, says in ((asked("PRICE"), "takes a condition"), (asked("=7"), "takes a condition"), (asked(""), "takes a condition"), (asked("A<>7"), "writes /="), (asked("A!=7"), "writes /="), (asked("A==7"), "writes /="), (asked("A=>7"), "writes <= and >="), (["--where"], "is missing after --where"),
                         ([*asked("A=1"), "--forms"], "knows no --forms"), ([*asked("A=1"), "APPLE"], "takes one folder"), ([*asked("A=1"), "--values", "--count"], "and not both"),
                         (asked("COST=7"), "no property has an indicator of the name COST"), ([*asked("PRICE=7"), "--indicator", "X"], "of the name X"), (["--wher", "A=1"], "did you mean --where?")):
         is_refused("show --where", script, "show", store, *words, says=says)
