@@ -1,4 +1,4 @@
-use Rattle.std.proofs.Common.{◌≡◌, Unit, Some, Ok, sym, subst}
+use Rattle.std.proofs.Common.{◌≡◌, Some, Ok, sym, subst}
 use Rattle.lisp_object.specs.Datum.{object_of}
 use Rattle.package_table.specs.Lookup.{found}
 use Rattle.package_table.specs.Numbers.{numbered}
@@ -18,12 +18,12 @@ pub invariant_of-self : goal.invariant_of-self
 invariant_of-self c =
     let a = c.self.inside in
     let x = c.in-Some.ensures in
-    let i = c.in-Some-2.ensures in
+    let i = c.in-Some-found.ensures in
     let v = object_of c.args.value in
     let here : (name home : Name) → found (numbered a.packages).0 c.args.current.now name ≡ Some home → found c.args.self.now.0.packages c.args.current.now name ≡ Some home =
     λ name home. subst (λ (w : Worlds). found w.0.packages c.args.current.now name ≡ Some home) c.self.view_is in record {
       now = part_put a.packages a.stored a.marks.items a.sizes.entries c.self.invariant.now c.numbering.ensures (x.home, c.args.symbol.now) (i.home, c.args.indicator.now)
-          c.in-Some.owner c.in-Some-2.place x.number i.number v c.put.result c.put.new.stored c.put.new.marks.items c.forget.new.sizes.entries
+          c.in-Some.owner c.in-Some-found.place x.number i.number v c.put.result c.put.new.stored c.put.new.marks.items c.forget.new.sizes.entries
           (subst (λ (w : Worlds). IsValue w.0.packages v) (sym c.self.view_is)
           (c.requires.value x.home i.home (here c.args.symbol.now x.home x.finds) (here c.args.indicator.now i.home i.finds)))
           c.put.ensures.ok c.put.ensures.err c.put.ensures.wider c.put.ensures.indexed c.put.ensures.marked c.forget.ensures;
@@ -34,12 +34,12 @@ pub invariant_of-self-2 : goal.invariant_of-self-2
 invariant_of-self-2 c =
     let a = c.self.inside in
     let x = c.in-Some.ensures in
-    let i = c.in-Some-2.ensures in
+    let i = c.in-Some-found.ensures in
     let v = object_of c.args.value in
     let here : (name home : Name) → found (numbered a.packages).0 c.args.current.now name ≡ Some home → found c.args.self.now.0.packages c.args.current.now name ≡ Some home =
     λ name home. subst (λ (w : Worlds). found w.0.packages c.args.current.now name ≡ Some home) c.self.view_is in record {
       now = part_put a.packages a.stored a.marks.items a.sizes.entries c.self.invariant.now c.numbering.ensures (x.home, c.args.symbol.now) (i.home, c.args.indicator.now)
-          c.in-Some.owner c.in-Some-2.place x.number i.number v c.put.result c.put.new.stored c.put.new.marks.items c.forget.new.sizes.entries
+          c.in-Some.owner c.in-Some-found.place x.number i.number v c.put.result c.put.new.stored c.put.new.marks.items c.forget.new.sizes.entries
           (subst (λ (w : Worlds). IsValue w.0.packages v) (sym c.self.view_is)
           (c.requires.value x.home i.home (here c.args.symbol.now x.home x.finds) (here c.args.indicator.now i.home i.finds)))
           c.put.ensures.ok c.put.ensures.err c.put.ensures.wider c.put.ensures.indexed c.put.ensures.marked c.forget.ensures;
@@ -50,9 +50,9 @@ pub returns-clause-put : goal.returns-clause-put
 returns-clause-put c = λ done.
     let a = c.self.inside in
     let x = c.in-Some.ensures in
-    let i = c.in-Some-2.ensures in
+    let i = c.in-Some-found.ensures in
     let n = c.in-Some.owner in
-    let j = c.in-Some-2.place in
+    let j = c.in-Some-found.place in
     let v = object_of c.args.value in
     let here : (name home : Name) → found (numbered a.packages).0 c.args.current.now name ≡ Some home → found c.args.self.now.0.packages c.args.current.now name ≡ Some home =
     λ name home. subst (λ (w : Worlds). found w.0.packages c.args.current.now name ≡ Some home) c.self.view_is in record {
