@@ -11,9 +11,11 @@ use Rattle.command_words.specs.declared.check.Check.{Check}
 abbrev pub file_rule : Rule
 file_rule = record (new_rule (codes "FILE")) { action = Some Set }
 
+-- `check FILE`, and how it writes what it found
 abbrev pub check_line : App
 check_line = with_rule (with_rule (with_rule (new_app (codes "check")) file_rule) (option_rule (codes "store"))) (flag_rule (codes "json"))
 
+-- the command line that has this command alone
 abbrev pub checking_line : App
 checking_line = with_subcommand bare_line check_line.top
 

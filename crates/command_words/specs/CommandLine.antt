@@ -32,13 +32,15 @@ abbrev pub flags_line : App
 flags_line =
     with_rule (with_rule (with_rule (folder_line (codes "run")) (flag_rule (codes "rescue"))) (flag_rule (codes "strict"))) (flag_rule (codes "group"))
 
+-- `run`, with all its options
 abbrev pub session_line : App
 session_line = with_rule (with_rule flags_line every_rule) ratio_rule
 
--- and a flag of which a session knows nothing
+-- `run` with its last flag, of which a session knows nothing
 abbrev pub run_line : App
 run_line = with_rule session_line (flag_rule (codes "quiet"))
 
+-- `export`, with its folder and its option
 abbrev pub export_line : App
 export_line = with_rule (folder_line (codes "export")) (flag_rule (codes "data"))
 
@@ -46,11 +48,13 @@ export_line = with_rule (folder_line (codes "export")) (flag_rule (codes "data")
 abbrev pub program_line : App
 program_line = on_top (λ s. record s { has_version = true }) (new_app (codes "pazturrok"))
 
+-- with `run`, `snapshot` and `upgrade`
 abbrev pub writing_line : App
 writing_line =
     with_subcommand (with_subcommand (with_subcommand program_line
     run_line.top) (folder_line (codes "snapshot")).top) (folder_line (codes "upgrade")).top
 
+-- and with `export`, `dump` and `verify`
 abbrev pub command_line : App
 command_line =
     with_subcommand (with_subcommand (with_subcommand writing_line

@@ -39,18 +39,23 @@ layouts_line = with_rule (with_rule names_line (flag_rule (codes "forms"))) (fla
 abbrev pub show_line : App
 show_line = with_rule layouts_line (flag_rule (codes "count"))
 
+-- `info`, with its folder and its options
 abbrev pub info_line : App
 info_line = with_rule (with_rule (folder_line (codes "info")) (flag_rule (codes "files"))) (flag_rule (codes "json"))
 
+-- `log`, with its folder and its options
 abbrev pub log_line : App
 log_line = with_rule (with_rule (with_rule (folder_line (codes "log")) (option_rule (codes "from"))) (flag_rule (codes "places"))) (flag_rule (codes "json"))
 
+-- `backup`, with its folder and the place of the copy
 abbrev pub backup_line : App
 backup_line = with_rule (folder_line (codes "backup")) (place_rule (codes "DEST"))
 
+-- `dump`, with its folder and its option
 abbrev pub dump_line : App
 dump_line = with_rule (folder_line (codes "dump")) (option_rule (codes "at"))
 
+-- the program with `show`, `info` and `log` alone
 abbrev pub telling_line : App
 telling_line =
     with_subcommand (with_subcommand (with_subcommand bare_line show_line.top) info_line.top) log_line.top
@@ -59,9 +64,11 @@ telling_line =
 abbrev pub verify_line : App
 verify_line = with_rule (folder_line (codes "verify")) (flag_rule (codes "json"))
 
+-- and with `backup` and `dump`
 abbrev pub worlds_line : App
 worlds_line = with_subcommand (with_subcommand telling_line backup_line.top) dump_line.top
 
+-- and with `verify`: all commands that look
 abbrev pub looking_line : App
 looking_line = with_subcommand worlds_line verify_line.top
 
@@ -78,6 +85,7 @@ plain_number_of text = if list_all is_ascii_digit text then written_number text 
 abbrev pub is_dot_byte : ℕ → Bool
 is_dot_byte byte = byte == 46
 
+-- the record that a text names
 abbrev pub place_of : Text → Option RecordPlace
 place_of text =
     if nat_lt (position_or_len is_dot_byte text) (length text)
@@ -92,6 +100,7 @@ place_given least (Some text) = option_and_then (λ place. if nat_le least place
 
 -- ---- what is found asks for
 
+-- the value of an option, where it was given
 abbrev pub text_of : Option (Bor Text) → Option Text
 text_of = option_map (λ (text : Bor Text). text.now)
 

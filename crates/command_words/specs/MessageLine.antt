@@ -6,6 +6,7 @@ use Rattle.clap.specs.declared.error.kind.ErrorKind.TheVariants.{MissingRequired
 use Rattle.command_words.specs.CommandLine.{IsNoOption, IsNumberIn, every_rule, existing_for, number_among_rows}
 use Rattle.command_words.specs.Rules.{bare_line, flag_rule, folder_line, is_set}
 
+-- `run --messages`, with the options that it takes
 abbrev pub message_line : App
 message_line = with_rule (with_rule (folder_line (codes "run")) (flag_rule (codes "messages"))) every_rule
 

@@ -14,6 +14,7 @@ unfoldable pub has_option : Text → List Text → Bool
 has_option option [] = false
 has_option option (word ∷ words) = if bytes_eq word (codes "--") then false else (is_option option word || has_option option words)
 
+-- whether an option asks for the help of the command
 abbrev pub asks_for_help : List Text → Bool
 asks_for_help options = has_option (codes "--help") options || has_option (codes "-h") options
 
@@ -21,6 +22,7 @@ asks_for_help options = has_option (codes "--help") options || has_option (codes
 abbrev pub is_look : Text → Bool
 is_look command = bytes_eq command (codes "show") || (bytes_eq command (codes "info") || (bytes_eq command (codes "log") || bytes_eq command (codes "backup")))
 
+-- whether a command reports on a store, so that it has a notation
 abbrev pub is_report : Text → Bool
 is_report command = bytes_eq command (codes "dump") || (bytes_eq command (codes "verify") || bytes_eq command (codes "export"))
 

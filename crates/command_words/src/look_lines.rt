@@ -112,7 +112,7 @@ fn symbol_place<'a>(alloc: Global) -> Arg<'a>
         .action(ArgAction::Set)
 }
 
-/// The same command, which may write JSON.
+/// The same command, which may write JSON. It fails only for want of memory.
 pub(crate) fn with_json<'a>(command: Command<'a>, alloc: Global) -> Result<Command<'a>, AllocError>
     requires { (fields_of command).has_globals ≡ false }
     ensures line { IfOk result (λ new. app_of new

@@ -65,7 +65,7 @@ pub(crate) fn new_command<'a>(alloc: Global, name: &'a str, help: Help<'a>) -> C
         .after_help(help.end)
 }
 
-/// The command with one more argument.
+/// The command with one more argument. It fails only for want of memory.
 pub(crate) fn with_arg<'a>(command: Command<'a>, arg: Arg<'a>) -> Result<Command<'a>, AllocError>
     requires { (arg.global ≡ false) × ((fields_of command).has_globals ≡ false) }
     ensures line { IfOk result (λ new. app_of new ≡ with_rule (app_of command.entry) (rule_of arg.entry)) }
@@ -74,7 +74,7 @@ pub(crate) fn with_arg<'a>(command: Command<'a>, arg: Arg<'a>) -> Result<Command
     command.arg(arg)
 }
 
-/// The command with one more flag.
+/// The command with one more flag. It fails only for want of memory.
 pub(crate) fn with_flag<'a>(
     command: Command<'a>,
     alloc: Global,
@@ -89,7 +89,7 @@ pub(crate) fn with_flag<'a>(
     with_arg(command, flag(alloc, name, help))
 }
 
-/// The command with one more option of one value, which the help calls so.
+/// The command with one more option of one value, which the help calls so. It fails only for want of memory.
 pub(crate) fn with_option<'a>(
     command: Command<'a>,
     alloc: Global,
@@ -105,7 +105,7 @@ pub(crate) fn with_option<'a>(
     with_arg(command, option(alloc, name, value, help))
 }
 
-/// A command with its folder and `--existing`, of which the help says this.
+/// A command with its folder and `--existing`, of which the help says this. It fails only for want of memory.
 pub(crate) fn folder_command<'a>(
     alloc: Global,
     name: &'a str,

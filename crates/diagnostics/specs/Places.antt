@@ -17,6 +17,7 @@ column_from column (byte ∷ bytes) = column_from (if byte == 10 then 1 else col
 abbrev pub line_at : List ℕ → ℕ
 line_at text = line_from 1 text
 
+-- the column that comes after a text without a newline
 abbrev pub column_at : List ℕ → ℕ
 column_at text = column_from 1 text
 
@@ -40,5 +41,6 @@ IsMovedFrom before text later = (spot : Spot) × (before ≡ Some spot) × IsMov
 abbrev pub KeepsIn : Option Spot → (older newer : List ℕ) → List ℕ → Type 0
 KeepsIn before older newer bytes = IfSome before (λ spot. (early : List ℕ) × (bytes ≡ early ++ (older ++ newer)) × IsSpotAfter spot early)
 
+-- the last of these bytes are kept, and it is known how many went before
 abbrev pub GivenKeeps : GivenBytes → List ℕ → Type 0
 GivenKeeps given bytes = KeepsIn given.before given.older.items given.newer.items bytes

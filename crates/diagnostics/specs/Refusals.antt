@@ -23,6 +23,7 @@ refused_text number form = codes "refused with " ++ (decimal number ++ (codes " 
 abbrev pub start_text : (line column : ℕ) → List ℕ
 start_text line column = codes "which began at line " ++ (decimal line ++ (codes ", column " ++ (decimal column ++ 10 ∷ [])))
 
+-- a refusal with its line and its column
 abbrev pub place_line : ℕ → ℕ → Spots → List ℕ
 place_line number form spots = spot_text spots.at.line spots.at.column ++ (refused_text number form ++ start_text spots.start.line spots.start.column)
 
@@ -30,16 +31,20 @@ place_line number form spots = spot_text spots.at.line spots.at.column ++ (refus
 abbrev pub byte_text : ℕ → List ℕ
 byte_text bytes = codes "after " ++ (decimal bytes ++ codes " bytes: ")
 
+-- where the refused form began, in bytes
 abbrev pub start_byte_text : ℕ → List ℕ
 start_byte_text bytes = codes "which began after " ++ (decimal bytes ++ (codes " bytes" ++ 10 ∷ []))
 
+-- a refusal with its offset in bytes, where its line is not known
 abbrev pub byte_line : ℕ → ℕ → Place → List ℕ
 byte_line number form place = byte_text place.at ++ (refused_text number form ++ start_byte_text place.start)
 
+-- one of the two
 abbrev pub line_with : ℕ → ℕ → Place → Option Spots → List ℕ
 line_with number form place None = byte_line number form place
 line_with number form place (Some spots) = place_line number form spots
 
+-- the line of a refusal
 abbrev pub line_of : Refusal → List ℕ
 line_of refusal = line_with refusal.number (form_of refusal) refusal.place refusal.spots
 
@@ -47,6 +52,7 @@ line_of refusal = line_with refusal.number (form_of refusal) refusal.place refus
 abbrev pub number_text : ℕ → List ℕ
 number_text number = decimal number ++ codes ": "
 
+-- where the refused form began
 abbrev pub start_with : Place → Option Spots → List ℕ
 start_with place None = byte_text place.start
 start_with place (Some spots) = spot_text spots.start.line spots.start.column

@@ -7,6 +7,7 @@ use Rattle.diagnostics.specs.declared.fault.Unwritten.{Unwritten}
 abbrev pub IsFront : List ℕ → Option (List ℕ) → List ℕ → Type 0
 IsFront held written text = (front : List ℕ) × (rest : List ℕ) × (text ≡ front ++ rest) × (written ≡ Some (held ++ front))
 
+-- what was written on is a front of this text
 abbrev pub WritesFront : Option (List ℕ) → Option (List ℕ) → List ℕ → Type 0
 WritesFront old new text = (held : List ℕ) → old ≡ Some held → IsFront held new text
 

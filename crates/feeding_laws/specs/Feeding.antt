@@ -49,6 +49,7 @@ pub record IsFirst {D : Type 0} (account : MessageAccount D) : Type 0 where
 abbrev pub request_of : Sent → Request
 request_of frame = record { number = message_number frame.0; text = record { ref_ptr = (0, 0); now = frame.1 } }
 
+-- the requests of each handing, in their order
 abbrev pub rounds_of_frames : {D R : Type 0} → List (FrameHanding D R) → List (List Request)
 rounds_of_frames handings = map (λ one. map request_of one.frames) handings
 

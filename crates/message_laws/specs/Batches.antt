@@ -22,9 +22,11 @@ at_first last world = record { told = []; last = (first_round last world).last; 
 abbrev pub with_batch : BatchProgress → Round → BatchProgress
 with_batch far round = record { told = far.told ++ round.told; last = round.last; world = left_after round.wrote far.world round.left }
 
+-- how far one comes with one batch more
 abbrev pub one_batch : Functions → BatchProgress → List Request → BatchProgress
 one_batch functions far requests = with_batch far (round_after_requests functions (first_round far.last far.world) requests)
 
+-- how far one comes with these batches, one after the other
 abbrev pub in_batches : Functions → BatchProgress → List (List Request) → BatchProgress
 in_batches functions far batches = fold (λ far batch. one_batch functions far batch) far batches
 

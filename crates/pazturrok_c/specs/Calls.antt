@@ -15,8 +15,8 @@ pub record IsCopied (from : List ℕ) (at : ℕ) (old new : List ℕ) (count : �
   pub bytes : take count new ≡ take count (drop at from)
 
 -- two files of these bytes are refused with this number, or there was no room for a copy of them
-abbrev pub MayRefuse : List ℕ → List ℕ → ℕ → ℕ → Type 0
-MayRefuse a b limit number = IsUnopenedOn a b limit number ⊎ (number ≡ NO_MEMORY)
+abbrev pub MayRefuseToOpen : List ℕ → List ℕ → ℕ → ℕ → Type 0
+MayRefuseToOpen a b limit number = IsUnopenedOn a b limit number ⊎ (number ≡ NO_MEMORY)
 
 -- there is no answer, and there are no orders
 abbrev pub TellsNothing : Done → Type 0
@@ -29,7 +29,7 @@ orders_of engine = length (orders_bytes (pending_of engine.store.disk))
 -- what an empty slot holds after an opening: the store of two files of these bytes, and its orders; or nothing still
 abbrev pub Opens : List ℕ → List ℕ → ℕ → Option Engine → Done → Type 0
 Opens a b limit (Some engine) done = (done.number ≡ 0) × (done.answer ≡ 0) × (done.orders ≡ orders_of engine) × IsOpenedOn a b limit engine.store
-Opens a b limit None done = TellsNothing done × MayRefuse a b limit done.number
+Opens a b limit None done = TellsNothing done × MayRefuseToOpen a b limit done.number
 
 -- how a call ended: its number; how many bytes the answer has, 0 if it was refused; and how many the orders have
 pub record TellsEnd (engine : Engine) (number answer : ℕ) (done : Done) : Type 0 where
@@ -54,12 +54,15 @@ module _ (old new : Engine) (rescue : Bool) where
   ExecutesForms texts ends done =
       EngineIsAsked old new (length new.answer.items) done (ExecutesMany old.store new.store (mode_in rescue) texts ends done.number new.answer.items)
 
+-- what a call for a snapshot does
 abbrev pub TakesSnapshot : Engine → Engine → Done → Type 0
 TakesSnapshot old new done = EngineIsAsked old new 0 done (IsSnapshotted old.store new.store done.number)
 
+-- what the call does that begins with messages
 abbrev pub BeginsWithMessages : Engine → Engine → ℕ → Done → Type 0
 BeginsWithMessages old new position done = EngineIsAsked old new 0 done (IsBegun old.store new.store done.number position)
 
+-- what a call with several requests does
 abbrev pub AnswersEach : Engine → Engine → ℕ → List ℕ → List RequestHead → Done → Type 0
 AnswersEach old new last texts heads done =
     EngineIsAsked old new (length new.answer.items) done (AnswersAll old.store new.store last texts heads done.number new.answer.items)

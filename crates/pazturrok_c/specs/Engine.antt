@@ -24,6 +24,7 @@ use Rattle.prevalence_store.specs.declared.outcome.Outcome.TheVariants.{Accepted
 use Rattle.pazturrok_c.specs.Texts.{texts_in}
 use Rattle.six_functions.specs.MacroFunctions.{six_functions}
 
+-- the mode that a flag asks for
 abbrev pub mode_in : Bool → Mode
 mode_in true = Rescue
 mode_in false = Current
@@ -45,6 +46,7 @@ IsAnswered left (Refused refusal) number answer = number ≡ refusal
 abbrev pub numbered_answer : ℕ → List ℕ → List ℕ
 numbered_answer number answer = to_le_bytes w16 number ++ (to_le_bytes w64 (length answer) ++ answer)
 
+-- the answer to a form, as bytes: its number, and the text of its value
 abbrev pub outcome_bytes : Option WorldState → Outcome → List ℕ
 outcome_bytes left (Accepted value) = numbered_answer 0 (value_text_in left (object_of value))
 outcome_bytes left Snapshotted = numbered_answer 0 []

@@ -14,7 +14,7 @@ use std::alloc::{AllocError, Global};
 /// The store of an engine.
 pub(crate) type EngineStore = Store<DeferredDisk, Fixed<SixFunctions>>;
 
-/// A value, as it is printed in the world of a store that has one.
+/// A value, as it is printed in the world of a store that has one. It fails only for want of memory.
 pub(crate) fn printed(
     alloc: Global,
     store: &EngineStore,

@@ -49,7 +49,8 @@ fn mode_of(rescue: bool) -> Mode
 impl Engine {
     ghost use Rattle.pazturrok_c.specs.Calls.{IsPerformed};
 
-    /// Opens the store of two files that hold these bytes.
+    /// Opens the store of two files that hold these bytes. Else the number of the refusal: where the store is not
+    /// opened on them, or there was no memory for a copy.
     pub(crate) fn open(
         alloc: Global,
         a: Vec<u8>,

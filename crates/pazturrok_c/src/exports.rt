@@ -4,7 +4,7 @@ ghost use Rattle.deferred_disk.specs.Bytes.{orders_bytes};
 ghost use Rattle.deferred_disk.specs.Disk.{pending_of};
 ghost use Rattle.lisp_object.specs.Refusal.{name_of as name};
 ghost use Rattle.lisp_object.specs.declared.refusal.TheConstants.{REOPEN as reopen};
-ghost use Rattle.pazturrok_c.specs.Calls.{AnswersEach, BeginsWithMessages, ExecutesForm, ExecutesForms, IsCopied, IsPerformed, MayRefuse, OnEngine, Opens, ShowsAnswer, TakesSnapshot, TellsNothing};
+ghost use Rattle.pazturrok_c.specs.Calls.{AnswersEach, BeginsWithMessages, ExecutesForm, ExecutesForms, IsCopied, IsPerformed, MayRefuseToOpen, OnEngine, Opens, ShowsAnswer, TakesSnapshot, TellsNothing};
 ghost use Rattle.pazturrok_c.specs.Engine.{IsOpenedOn};
 ghost use Rattle.pazturrok_c.specs.declared.engine.Engine.{Engine as AnEngine};
 
@@ -23,7 +23,7 @@ const NO_ENGINE: Done = Done {
 
 fn opened(alloc: Global, a: &[u8], b: &[u8], setting: &Setting) -> Result<Box<Engine>, u16>
     ensures opened { IfOk result (λ engine. IsOpenedOn a.now b.now setting.now.limit engine.value.store) }
-    ensures refused { IfErr result (MayRefuse a.now b.now setting.now.limit) }
+    ensures refused { IfErr result (MayRefuseToOpen a.now b.now setting.now.limit) }
 {
     let Ok(a) = Vec::from_slice(alloc, a) else {
         return Err(NO_MEMORY);

@@ -9,7 +9,7 @@ use crate::answer::{EngineStore, printed};
 use prevalence_store::Outcome;
 use std::alloc::{AllocError, Global};
 
-/// The texts that end at these places.
+/// The texts that end at these places. It fails only for want of memory.
 pub(crate) fn texts_of<'a>(
     alloc: Global,
     bytes: &'a [u8],
@@ -30,7 +30,8 @@ pub(crate) fn texts_of<'a>(
     Ok(texts)
 }
 
-/// What is told of one form more: its number, the length of its answer, and the answer.
+/// What is told of one form more: its number, the length of its answer, and the answer. After an error, want of memory
+/// alone, a part may be added.
 pub(crate) fn tell(bytes: &mut Vec<u8>, number: u16, answer: &[u8]) -> Result<(), AllocError>
     ensures { OnOk result (bytes.new.items ≡ bytes.old.items ++ numbered_answer number answer.now) }
 {
@@ -59,7 +60,7 @@ fn tell_outcome(
     }
 }
 
-/// What is told of these forms, one after the other.
+/// What is told of these forms, one after the other. It fails only for want of memory.
 pub(crate) fn answers_to(
     alloc: Global,
     store: &EngineStore,

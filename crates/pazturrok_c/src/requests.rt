@@ -8,7 +8,7 @@ use crate::many::tell;
 use messages::{Answer, Request};
 use std::alloc::{AllocError, Global};
 
-/// The requests whose texts end at these places.
+/// The requests whose texts end at these places. It fails only for want of memory.
 pub(crate) fn requests_of<'a>(
     alloc: Global,
     bytes: &'a [u8],
@@ -34,7 +34,7 @@ pub(crate) fn requests_of<'a>(
     Ok(requests)
 }
 
-/// What is told of these answers, one after the other.
+/// What is told of these answers, one after the other. It fails only for want of memory.
 pub(crate) fn told_of(alloc: Global, answers: &[Answer]) -> Result<Vec<u8>, AllocError>
     ensures { IfOk result (λ bytes. bytes.items ≡ flat_map bytes_of_answer answers.now) }
 {

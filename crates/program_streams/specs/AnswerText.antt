@@ -13,12 +13,15 @@ in_value byte =
     else (if byte == 92 then ValueEscape
     else Value)))
 
+-- where one is in an answer after this byte of a text
 abbrev pub in_text : ℕ → At
 in_text byte = if byte == 34 then Value else (if byte == 92 then TextEscape else Text)
 
+-- where one is after this byte of a name between bars
 abbrev pub in_name : ℕ → At
 in_name byte = if byte == 124 then Value else (if byte == 92 then NameEscape else Name)
 
+-- where one is after this byte of the line of a refusal
 abbrev pub in_refusal : ℕ → At
 in_refusal byte = if byte == 10 then Start else Refusal
 
@@ -26,6 +29,7 @@ in_refusal byte = if byte == 10 then Start else Refusal
 abbrev pub at_start : ℕ → At
 at_start byte = if byte == 33 then Mark else in_value byte
 
+-- where one is after this byte behind the mark with which the line of a refusal begins
 abbrev pub at_mark : ℕ → At
 at_mark byte = if byte == 32 then Refusal else in_value byte
 
@@ -68,6 +72,7 @@ abbrev pub is_end : At → Bool
 is_end Start = true
 is_end _ = false
 
+-- whether one is in the line of a refusal
 abbrev pub is_refusal_line : At → Bool
 is_refusal_line Refusal = true
 is_refusal_line _ = false

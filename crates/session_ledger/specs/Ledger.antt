@@ -16,6 +16,7 @@ pub record LedgerView (D R O : Type 0) : Type 0 where
   pub name : ℕ
   pub past : List (StoreView D R × ℕ)
 
+-- a ledger is told apart by its parts
 abbrev pub ledger_code : {D R O : Type 0} → Coded D → Coded R → Coded O → Coded (LedgerView D R O)
 ledger_code {D} {R} {O} disk macros output =
     code_by (O × (ℕ × List (StoreView D R × ℕ)))
@@ -29,6 +30,7 @@ abbrev pub account_past : {D R : Type 0} → Account D → List (StoreView D R �
 account_past account [] = account
 account_past account (one ∷ more) = account_past (with_forms one.1 one.0 account) more
 
+-- the account after these steps, where it was begun
 abbrev pub account_from : {D R : Type 0} → Option (Account D) → List (StoreView D R × ℕ) → Option (Account D)
 account_from {D} first past = option_map (λ (account : Account D). account_past account past) first
 
@@ -46,5 +48,6 @@ pub record IsOf (functions : Functions) {D R : Type 0} (state : D → State) (fi
   pub out : GoesOut functions R state first held written
   pub account_is : account_after first (handings_of out.sent) ≡ account_past first past
 
+-- the account of a session stands at each of these steps
 abbrev pub IsAccountOf : (functions : Functions) {D R : Type 0} (state : D → State) → Option (Account D) → (held written : Option (List ℕ)) → List (StoreView D R × ℕ) → Type 0
 IsAccountOf functions {D} state first held written past = (begun : Account D) → first ≡ Some begun → IsOf functions state begun held written past

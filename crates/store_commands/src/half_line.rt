@@ -28,7 +28,8 @@ pub fn write_half_line<W: Write>(
     write_out(output, line.as_bytes())
 }
 
-/// The same, and after it a line on the position, where there is one.
+/// Writes the line on the half in use, and after it a line on the position, where there is one. It fails as the output
+/// does.
 pub(crate) fn write_half_and_position<W: Write>(
     output: &mut W,
     half: Half,

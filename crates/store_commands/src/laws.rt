@@ -30,9 +30,10 @@ pub fn existing_stores_are_open<R: Folders>()
         → IsHonest (R.Disk.state disk) → HoldsStore (R.Disk.state disk).reads }
 {}
 
-/// Where a recipient begins the account of another session, as `begin_again` asks, the session goes on where the last one ended: between
-/// them there is a call of the store that acknowledges nothing. What was done each time before lines were handed on is one too
-/// (`what_is_answered_is_stored` of sessions). So `headline` holds of sessions in a row, at each moment.
+/// Where a recipient begins the account of another session, as `begin_again` asks, the session goes on where the last
+/// one ended: between them there is a call of the store that acknowledges nothing. What was done each time before lines
+/// were handed on is one too (`what_is_answered_is_stored` of sessions). So `headline` holds of sessions in a row, at
+/// each moment. For proofs: it does nothing.
 pub fn sessions_go_on<D: Disk, R>()
     ensures { (functions : Functions) (account : Account D) (store : StoreView D R) (world : WorldState)
         → (mode : Mode) (had : Option (List ℕ))

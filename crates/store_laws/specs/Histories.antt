@@ -33,6 +33,7 @@ disk_by (stopped now) = now
 disk_by (stopped_in_call call now) = now
 disk_by (stopped_in_opening there now) = now
 
+-- the world that an event left, where it left one that is known
 abbrev pub world_left_by : {D : Type 0} → Event D → Option WorldState
 world_left_by (opened now world) = Some world
 world_left_by (refused limit fault back) = None
@@ -124,6 +125,7 @@ abbrev pub last_disk : {D : Type 0} → D → List (Event D) → D
 last_disk disk [] = disk
 last_disk disk (event ∷ events) = last_disk (disk_by event) events
 
+-- the world after these events
 abbrev pub last_left : {D : Type 0} → Option WorldState → List (Event D) → Option WorldState
 last_left left [] = left
 last_left left (event ∷ events) = last_left (world_left_by event) events

@@ -70,6 +70,7 @@ pub data Step (D R : Type 0) : Type 0 where
   -- a call that takes no form, as `snapshot`
   quiet : StoreView D R → Step D R
 
+-- the store after a step
 abbrev pub store_by : {D R : Type 0} → Step D R → StoreView D R
 store_by (requested requests result store) = store
 store_by (quiet store) = store
@@ -79,6 +80,7 @@ abbrev pub begun_in : {D R : Type 0} → Step D R → List (List Request)
 begun_in (requested requests result store) = requests ∷ []
 begun_in (quiet store) = []
 
+-- the requests that a step answered
 abbrev pub answered_in : {D R : Type 0} → Step D R → List (List Request)
 answered_in (requested requests (Ok replies) store) = requests ∷ []
 answered_in (requested requests (Err number) store) = []
@@ -89,6 +91,7 @@ abbrev pub rounds_of : {D R : Type 0} → List (Step D R) → List (List Request
 rounds_of [] = []
 rounds_of (step ∷ steps) = answered_in step ++ rounds_of steps
 
+-- the store after these steps
 abbrev pub store_after : {D R : Type 0} → StoreView D R → List (Step D R) → StoreView D R
 store_after old [] = old
 store_after old (step ∷ steps) = store_after (store_by step) steps

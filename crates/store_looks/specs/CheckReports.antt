@@ -36,6 +36,7 @@ pub record IsRefusalOfUnreadable (one : Unreadable) (refusal : Refusal) : Type 0
   pub number : refusal.number ≡ one.number
   pub place : refusal.place ≡ record { forms = one.forms; start = one.start; at = one.at }
 
+-- these refusals are those of the forms that cannot be read
 unfoldable pub AreRefusalsOf : List Unreadable → List Refusal → Type 0
 AreRefusalsOf [] [] = Unit {0}
 AreRefusalsOf [] (refusal ∷ refusals) = ⊥
@@ -68,14 +69,17 @@ unreadable_text Json refusal = refusal_object refusal
 abbrev pub checked_counts_line : (forms unreadable : ℕ) → List ℕ
 checked_counts_line forms unreadable = codes "forms " ++ decimal forms ++ codes " unreadable " ++ decimal unreadable ++ codes "\n"
 
+-- how many forms there are, as an object of JSON
 abbrev pub counts_object : (forms unreadable : ℕ) → List ℕ
 counts_object forms unreadable =
     123 ∷ [] ++ number_member (codes "forms") forms ++ later_member (codes "unreadable") unreadable ++ 125 ∷ 10 ∷ []
 
+-- how many forms there are, in this notation
 abbrev pub counts_text : Notation → (forms unreadable : ℕ) → List ℕ
 counts_text Lines forms unreadable = checked_counts_line forms unreadable
 counts_text Json forms unreadable = counts_object forms unreadable
 
+-- what `check` writes of what it found
 pub record IsCheckText (notation : Notation) (found : Checking) (text : List ℕ) : Type 0 where
   pub refusals : List Refusal
   pub are : AreRefusalsOf found.1 refusals

@@ -98,6 +98,7 @@ abbrev pub WithholdsProperties : Bool → Selection → WorldState → ShowError
 WithholdsProperties false selection world error = IsUnshown selection world error
 WithholdsProperties true selection world error = IsNoCount selection world error
 
+-- the part of the log that was asked for
 abbrev pub part_of : Records → LogPart
 part_of records = record {
   from = records.from.number;
@@ -113,6 +114,7 @@ unfoldable pub TellsLog : Option (List ℕ) → Option (List ℕ) → Records �
 TellsLog held written records sight status =
     (text : List ℕ) × IsLogText (part_of records) (state_of_sight sight).reads text × TellsText status held written text
 
+-- why the log of what was seen is not shown
 unfoldable pub WithholdsLog : Records → Sight → Unlooked → Type 0
 WithholdsLog records sight why =
     (error : LogError) × IsNoPlace (least_records records.from.number) records.from.generation error (state_of_sight sight).reads × (why ≡ of_log error)

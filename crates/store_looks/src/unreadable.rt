@@ -9,7 +9,7 @@ use sessions::Place;
 use std::alloc::{AllocError, Global};
 use store_reports::{Notation, push_figure, push_number_member, push_string_member};
 
-/// Adds what is told of a form that cannot be read.
+/// Adds what is told of a form that cannot be read. After an error, want of memory alone, a part may be added.
 pub(crate) fn push_refusal(
     alloc: Global,
     text: &mut Vec<u8>,
@@ -97,7 +97,8 @@ fn push_bytes(alloc: Global, text: &mut Vec<u8>, place: Place) -> Result<(), All
     Ok(())
 }
 
-/// Adds how many forms there are, and how many of them cannot be read.
+/// Adds how many forms there are, and how many of them cannot be read. After an error, want of memory alone, a part may
+/// be added.
 pub(crate) fn push_counts(
     alloc: Global,
     text: &mut Vec<u8>,

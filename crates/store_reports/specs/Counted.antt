@@ -22,6 +22,7 @@ use Rattle.store_reports.specs.declared.showing.ShowError.TheVariants as showing
 unfoldable pub sum_at_home : WorldState → (Symbol → ℕ) → Name → ℕ
 sum_at_home world f home = sum_by (λ name. f (home, name)) (own_names world.packages home)
 
+-- the sum of a number of each symbol of a world
 abbrev pub sum_at_homes : WorldState → (Symbol → ℕ) → ℕ
 sum_at_homes world f = sum_by (sum_at_home world f) (package_names world.packages)
 

@@ -13,5 +13,6 @@ escaped_byte byte =
     else (if nat_lt byte 32 || nat_lt 126 byte then 92 ∷ 120 ∷ hexadecimal (byte / 16) ∷ hexadecimal (byte % 16) ∷ []
     else byte ∷ [])
 
+-- a text as a terminal shows it: each byte as a line can have it
 abbrev pub shown_for_terminal : List ℕ → List ℕ
 shown_for_terminal text = flat_map escaped_byte text

@@ -67,6 +67,7 @@ told_number n = min n 18446744073709551615
 abbrev pub symbol_count : Table → ℕ
 symbol_count packages = sum_by (λ name. length (own_names packages name)) (package_names packages)
 
+-- how many properties a world has
 abbrev pub property_count : WorldState → ℕ
 property_count world = sum_by (λ symbol. length (plist world symbol)) (symbols_with_properties world)
 

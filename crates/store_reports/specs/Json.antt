@@ -23,5 +23,6 @@ json_number n = if nat_lt n (2 ^ 53) then decimal n else 34 ∷ [] ++ decimal n 
 unfoldable pub string_member : List ℕ → List ℕ → List ℕ
 string_member name text = json_string name ++ 58 ∷ [] ++ json_string text
 
+-- a member of an object of JSON, which is a number
 unfoldable pub number_member : List ℕ → ℕ → List ℕ
 number_member name n = json_string name ++ 58 ∷ [] ++ json_number n

@@ -36,11 +36,13 @@ numbers_text generation number =
 abbrev pub mode_name : ℕ → List ℕ
 mode_name kind = if nat_eq kind 0 then codes "current" else codes "rescue"
 
+-- a record, as an object of JSON
 abbrev pub record_object : ℕ → ℕ → LogRecord → List ℕ
 record_object generation number entry =
     numbers_text generation number ++ string_member (codes "mode") (mode_name entry.kind)
     ++ 44 ∷ [] ++ string_member (codes "form") entry.text ++ 125 ∷ 10 ∷ []
 
+-- a record, in this notation
 abbrev pub record_text : Notation → Bool → ℕ → ℕ → LogRecord → List ℕ
 record_text Lines with_generation generation number entry = record_line with_generation generation number entry
 record_text Json with_generation generation number entry = record_object generation number entry
@@ -52,6 +54,7 @@ record_lines part generation number (entry ∷ entries) =
     (if nat_le part.from number then record_text part.notation part.with_generation generation number entry else [])
     ++ record_lines part generation (number + 1) entries
 
+-- the records of this part of the log
 abbrev pub log_text : LogPart → Contents → List ℕ
 log_text part k = record_lines part k.generation 1 k.entries
 

@@ -28,7 +28,7 @@ impl AskedSymbol<'_> {
     }
 }
 
-/// The symbol that is asked for: its home, and its properties.
+/// The symbol that is asked for: its home, and its properties. It fails only for want of memory.
 #[tactic(auto, unfolding(crate::specs::ShownProperties::shown_by_home))]
 pub(crate) fn shown_by_home(
     alloc: Global,

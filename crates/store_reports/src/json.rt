@@ -10,7 +10,7 @@ use std::alloc::{AllocError, Global};
 /// The first number of which many readers of JSON keep no more than 53 bits.
 const WIDE: u64 = 9_007_199_254_740_992;
 
-/// Adds a string of JSON.
+/// Adds a string of JSON. After an error, want of memory alone, a part may be added.
 #[tactic(auto, unfolding(crate::specs::Json::json_string))]
 pub(crate) fn push_json_string(text: &mut Vec<u8>, value: &[u8]) -> Result<(), AllocError>
     ensures { OnOk result (text.new.items ≡ text.old.items ++ json_string value.now) }
@@ -44,7 +44,7 @@ fn push_json_byte(text: &mut Vec<u8>, byte: u8) -> Result<(), AllocError>
     }
 }
 
-/// Adds a number of JSON.
+/// Adds a number of JSON. After an error, want of memory alone, a part may be added.
 #[tactic(auto, unfolding(crate::specs::Json::json_number))]
 pub(crate) fn push_json_number(
     alloc: Global,

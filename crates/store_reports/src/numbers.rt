@@ -16,7 +16,7 @@ pub enum Notation {
     Json,
 }
 
-/// Adds a number in base 10.
+/// Adds a number in base 10. After an error, want of memory alone, a part may be added.
 pub(crate) fn push_number(alloc: Global, text: &mut Vec<u8>, number: u64) -> Result<(), AllocError>
     ensures { OnOk result (text.new.items ≡ text.old.items ++ decimal number) }
 {

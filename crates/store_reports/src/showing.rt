@@ -126,7 +126,7 @@ fn push_lists(
     Ok(())
 }
 
-/// Adds those properties of a symbol that are asked for.
+/// Adds those properties of a symbol that are asked for. After an error, want of memory alone, a part may be added.
 #[tactic(auto, unfolding(crate::specs::ShownProperties::shown_list))]
 pub(crate) fn push_list(
     alloc: Global,
@@ -279,7 +279,8 @@ fn push_form(
     Ok(())
 }
 
-/// The text of a symbol in COMMON-LISP-USER. The names of a world are bytes below 128; of others nothing is written.
+/// The text of a symbol in COMMON-LISP-USER. The names of a world are bytes below 128; of others nothing is written. It
+/// fails only for want of memory.
 #[tactic(auto, unfolding(crate::specs::ShownProperties::shown_symbol))]
 pub(crate) fn symbol_text(
     alloc: Global,
