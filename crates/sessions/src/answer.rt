@@ -311,7 +311,8 @@ fn tell_refusal<D: Disk, R: MacroFunctions, W: Recipient<D, R>>(
     }
 }
 
-/// Adds a form to a batch, and makes the line that answers it.
+/// Adds a form to a batch, and makes the line that answers it. After an error, want of memory alone, the world and the
+/// batch may have changed: the marks of the world lead back.
 pub(crate) fn reply_to<R: MacroFunctions>(
     world: &mut World,
     macros: &WholeMacros<R>,

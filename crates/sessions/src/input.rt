@@ -78,8 +78,9 @@ impl Pending {
         }
     }
 
-    /// The bytes of a piece, in the same world and mode as those since the last form, up to the first that decides something.
-    /// The readtable is looked up once.
+    /// The bytes of a piece, in the same world and mode as those since the last form, up to the first that decides
+    /// something. The readtable is looked up once. After an error, want of memory alone, nothing is known of what is
+    /// pending: it is not fed again.
     pub(crate) fn feed<R: MacroFunctions>(
         &mut self,
         alloc: Global,

@@ -12,7 +12,8 @@ use plist_state::World;
 use std::alloc::{AllocError, Global};
 use std::io::Write;
 
-/// Writes the text whole, or a part of it from its front.
+/// Writes the text whole, or a part of it from its front. The error is that of the output; a part is written then, or
+/// nothing.
 pub(crate) fn write_text<W: Write>(writer: &mut W, text: &[u8]) -> Result<(), OutputFault>
     ensures whole { OnOk result (Writes (W.contents writer.old) (W.contents writer.new) text.now) }
     ensures part { OnErr result
