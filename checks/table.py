@@ -47,6 +47,7 @@ CHECKS = [
     Check("the script", f"checks/script {PROGRAM}", "", 25),
     Check("the terminal", f"checks/terminal/run {PROGRAM}", "", 7),
     Check("the exports", f"checks/export/run {PROGRAM}", "", 15),
+    Check("the replays", f"checks/replays {PROGRAM}", "", 15),
     Check("the messages", f"checks/messages/run {PROGRAM}", "", 8),
     Check("the groups", f"checks/groups --program {PROGRAM} --sessions --kills 25", "", 35),
     Check("the calls", f"checks/calls/run --engine {ENGINE}", "rt", 15),
