@@ -34,7 +34,7 @@ def check_proved(script, room):
         is_refused("words", script, *words, says="takes")
     prefix = os.path.join(room, "prefix")
     done = called(script, "install", prefix)
-    check("install", (done[0], done[1].count(prefix.encode()), done[2]), (0, 22, b"pazturrok: installing the proved program of commit 0123abc\n"))
+    check("install", (done[0], done[1].count(prefix.encode()), done[2]), (0, 25, b"pazturrok: installing the proved program of commit 0123abc\n"))
     check_replaced(script, prefix)
     moved = os.path.join(room, "moved")
     os.rename(prefix, moved)
