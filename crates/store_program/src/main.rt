@@ -166,15 +166,16 @@ fn tell<M: MacroFunctions + Drop>(
                 macros,
                 words,
                 output,
-                faults,
+                &mut faults,
             )
         }
     };
     if has_lost_reader(failure.get()) {
         return Status::Done;
     }
+    // that is told already where it is told by a session
     if way != CommandWay::See {
-        tell_cause(&mut rt.stderr(), status, failure.get());
+        tell_cause(&mut faults, status, failure.get());
     }
     status
 }
