@@ -40,13 +40,17 @@ PLACE = re.compile(
 )
 
 
+# The line of a fault of the output, with the line with its cause.
+OF_OUTPUT = re.compile(rb"\A" + OUTPUT + rb"standard output: .*\n")
+
+
 def without_cause(faults: bytes) -> bytes:
     """What was told of a fault without the line with its cause, and of a refusal without its lines, which want of
     memory may hide; nor the lines on forms that were refused in a session which goes on."""
     faults = REFUSED.sub(b"", faults)
-    for fault in (DEVICE, OUTPUT):
-        if faults.startswith(fault) and faults.count(b"\n") == 2:
-            return fault
+    faults = OF_OUTPUT.sub(OUTPUT, faults)
+    if faults.startswith(DEVICE) and faults.count(b"\n") == 2:
+        return DEVICE
     place = PLACE.fullmatch(faults)
     return place[1] + place[2] if place else faults
 
