@@ -48,22 +48,7 @@ OF_TEXTS: list[tuple[str, Holds]] = [
      lambda forms, text, mine, theirs: re.search(r"CHAR(ACTER)? #\\\. ", " ".join(forms))),
 ]
 
-# The same of a call.
-OF_CALLS: list[tuple[str, Callable[[str, str, str], object]]] = [
-    ("an integer past 128 bits on the way", lambda form, mine, theirs: mine.startswith("! 44 ")),
-    # as the first of a clause of COND
-    ("a variable of SBCL's prompt", lambda form, mine, theirs: mine.startswith("! 30 ") and re.search(r"[( ][-+*][ )]", form)),
-    ("arithmetic of a ratio",
-     lambda form, mine, theirs: mine.startswith("! 33 ") and re.search("[0-9]/[0-9]", form)
-     and re.search(r"\(([-+*]|FLOOR|MOD|DECF|PAZTURROK::INCF) ", form)),
-]
-
 
 def of_text(trial: texts.Trial, mine: str, theirs: str) -> str | None:
     """The reason why the two differ on a text, if there is one."""
     return next((name for name, holds in OF_TEXTS if holds(trial.forms, trial.text, mine, theirs)), None)
-
-
-def of_call(form: str, mine: str, theirs: str) -> str | None:
-    """The same of a call."""
-    return next((name for name, holds in OF_CALLS if holds(form, mine, theirs)), None)
