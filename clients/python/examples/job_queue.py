@@ -4,75 +4,69 @@
     job_queue.py NODE put "send the letter"
     job_queue.py NODE work 3
 
-A job is a list of its number and of what there is to do, and may be done more than once. A lease is the time of its end,
-and its job. All leases are equally long, so in BUSY the worker whose lease ends first stands first.
+A job is a symbol of its own, with what there is to do and the end of its lease, and may be done more than once.
 """
 
 from __future__ import annotations
 
 import multiprocessing
-import os
 import sys
 import time
 from collections.abc import Callable
 
-from pazturrok import NIL, LostAnswerError, NodeStore, NoNodeError, Value, printed, quote
+from pazturrok import NIL, LostAnswerError, NodeStore, NoNodeError, Value
 
-FIRST = "(CAR (GET 'QUEUE 'BUSY))"
-
-
-def put(task: Value) -> str:
-    job = f"(LIST (PAZTURROK::INCF (GET 'QUEUE 'LAST 0)) {printed(quote(task))})"
-    return f"(PROGN (SETF (GET 'QUEUE 'JOBS) (APPEND (GET 'QUEUE 'JOBS) (LIST {job}))) (GET 'QUEUE 'LAST))"
+JOBS = "(SYMBOLS-WITH 'TASK)"
 
 
-def take(me: str, now: int, seconds: int) -> str:
-    """The job that this worker has, or else the first one. Before that a job whose lease is over goes back."""
-    return f"""(PROGN
-        (WHEN (AND (GET 'QUEUE 'BUSY) (< (CAR (GET {FIRST} 'LEASE)) {now}))
-          (PUSH (CDR (GET {FIRST} 'LEASE)) (GET 'QUEUE 'JOBS))
-          (REMPROP (POP (GET 'QUEUE 'BUSY)) 'LEASE))
-        (WHEN (AND (GET 'QUEUE 'JOBS) (NOT (GET '{me} 'LEASE)))
-          (SETF (GET 'QUEUE 'BUSY) (APPEND (GET 'QUEUE 'BUSY) '({me})))
-          (SETF (GET '{me} 'LEASE) (CONS {now + seconds} (POP (GET 'QUEUE 'JOBS)))))
-        (CDR (GET '{me} 'LEASE)))"""
+def put(store: NodeStore, task: Value) -> int:
+    number = store.do("(PAZTURROK::INCF (GET 'QUEUE 'LAST 0))")
+    store.put(f"JOB-{number:09}", "TASK", task)
+    return number
 
 
-def finish(me: str, number: int) -> str:
-    return f"""(WHEN (EQL (CAR (CDR (GET '{me} 'LEASE))) {number})
-        (SETF (GET 'QUEUE 'BUSY) (REMOVE '{me} (GET 'QUEUE 'BUSY)))
-        (REMPROP '{me} 'LEASE))"""
+def take(job: str, now: int, end: int) -> str:
+    """What there is to do, if no worker has the job now. Whoever gets it has the job until this end."""
+    return f"""(WHEN (AND (GET '{job} 'TASK) (< (GET '{job} 'END 0) {now}))
+        (SETF (GET '{job} 'END) {end}) (GET '{job} 'TASK))"""
 
 
-def work(node: str, me: str, do: Callable[[NodeStore, Value], object], seconds: int = 60) -> None:
-    """Does jobs until none waits, and no worker has one."""
+def finish(job: str, end: int) -> str:
+    """The job goes, if its lease is still the one with this end."""
+    return f"(WHEN (EQL (GET '{job} 'END) {end}) (REMPROP '{job} 'END) (REMPROP '{job} 'TASK))"
+
+
+def work(node: str, do: Callable[[NodeStore, Value], object], seconds: int = 60) -> None:
+    """Does jobs until there are none, also none that another worker has."""
     with NodeStore([node]) as store:
         while True:
             try:
-                job = store.do(take(me, int(time.time()), seconds))
-                if job != NIL:
-                    do(store, job)
-                    store.do(finish(me, job[0]))
-                elif store.get("QUEUE", "BUSY") == NIL:
+                if not (jobs := store.read(JOBS)):
                     return
-                else:
-                    time.sleep(0.2)
+                for job in jobs:
+                    end = (now := time.time_ns()) + seconds * 10**9
+                    task = store.do(take(job.name, now, end))
+                    if task != NIL:
+                        do(store, task)
+                        store.do(finish(job.name, end))
             except (LostAnswerError, NoNodeError):
-                pass  # the form was carried out, or will be, or not: the next one is right in each case
+                pass  # a job that is not finished comes again, at the latest where its lease ends
+            time.sleep(0.1)
 
 
 def main(node: str, command: str, word: str) -> None:
-    if command == "put":
-        with NodeStore([node]) as store:
-            print(store.do(put(word)))
-        return
-    fork, me = multiprocessing.get_context("fork"), f"W-{os.getpid()}"
-    words = [(node, f"{me}-{number}", lambda _, job: print(job[1], flush=True)) for number in range(int(word))]
-    workers = [fork.Process(target=work, args=its) for its in words]
-    for worker in workers:
-        worker.start()
-    for worker in workers:
-        worker.join()
+    with NodeStore([node]) as store:
+        if command == "put":
+            print(put(store, word))
+            return
+        fork = multiprocessing.get_context("fork")
+        arguments = (node, lambda _, task: print(task, flush=True))
+        workers = [fork.Process(target=work, args=arguments) for _ in range(int(word))]
+        for worker in workers:
+            worker.start()
+        for worker in workers:
+            worker.join()
+        store.do("(FORGET-NAMES)")  # jobs that are done are names that nothing needs
 
 
 if __name__ == "__main__":
