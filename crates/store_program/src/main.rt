@@ -274,17 +274,14 @@ fn serve_at_terminal<M: MacroFunctions + Drop, F: Write>(
     requires answers { M.answers macros }
 {
     let (heard, history) = (Cell::new(Heard::Nothing), History::new(rt.alloc()));
-    let failure = Cell::new(None);
     let lines = Lines::new(typed_lines(rt), &history);
     let mut input = Terminal::new(rt.alloc(), lines, Pages::new(rt), &heard);
     let mut output = SessionOutput {
-        output: Answers::new(Pipe::new(Uninterrupted::new(rt.stdout()), &failure), &heard),
+        output: Answers::new(Uninterrupted::new(rt.stdout()), &heard),
         teller: RefusalTeller::new(rt.alloc(), rt.stderr(), &history, Reasons::Few),
     };
     let folders = Telling::new(rt, rt);
-    let status = program_at_terminal(&folders, macros, words, &mut input, &mut output, faults);
-    tell_cause(faults, status, failure.get());
-    status
+    program_at_terminal(&folders, macros, words, &mut input, &mut output, faults)
 }
 
 // What is noted of the answers of a quiet session.
