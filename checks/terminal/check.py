@@ -67,8 +67,8 @@ Beside this session the command with the word help has all commands, and docs/us
 Ctrl-D at the beginning of a line ends. Each answer is in the store by then.
 """
 LEAVING = "Ctrl-D at the beginning of a line ends.\n"
-CUT = """A terminal hands on 4,095 bytes of a line, and dropped the rest of this one. The form is open: Ctrl-C ends the session without it.
-Write it in shorter lines, or send it from a file: run DIR < FILE
+CUT = """A terminal hands on 4,095 bytes of a line, and dropped the rest of this one, so the form that was begun is not whole.
+Ctrl-C ends the session, and the store gets nothing of that form. Write it in shorter lines, or send it from a file: run DIR < FILE
 """
 UNANSWERED = "Nothing was answered: a form is open, or the readtable makes comments of what is typed; --rescue reads under the standard one.\n"
 BESIDE = "Beside this session the command tells more, with the words help %s\n"
