@@ -6,7 +6,7 @@
 (load (merge-pathnames "printer.lisp" *load-truename*))
 
 (setf sb-ext:*evaluator-mode* :interpret)
-(defpackage "TRIAL" (:use "COMMON-LISP") (:shadow "+" "-" "*" "FLOOR" "MOD" "DECF"))
+(defpackage "TRIAL" (:use "COMMON-LISP") (:shadow "+" "-" "*" "FLOOR" "MOD" "NTH" "DECF"))
 ; (INCF with a default is written PAZTURROK::INCF)
 (defpackage "PAZTURROK" (:use "COMMON-LISP") (:shadow "INCF"))
 
@@ -22,6 +22,9 @@
 (defun trial::- (number &rest others) (if others (from-left #'- number others) (from-left #'- 0 (list number))))
 (defun trial::floor (number &optional (divisor 1)) (within (values (floor (within number) (within divisor)))))
 (defun trial::mod (number divisor) (within (mod (within number) (within divisor))))
+; (SBCL's NTH counts down from a large index, also behind the end of the list)
+(defun trial::nth (index list)
+  (nth (if (integerp index) (min index (loop for rest = list then (cdr rest) while (consp rest) count t)) index) list))
 (defmacro trial::decf (place &optional (amount 1)) `(setf ,place (trial::- ,place ,amount)))
 (defmacro pazturrok::incf (place &optional (amount 1)) `(setf ,place (trial::+ ,place ,amount)))
 
