@@ -15,17 +15,21 @@ sized text = decimal (length text) ++ 10 ∷ (text ++ 10 ∷ [])
 abbrev pub Sent : Type 0
 Sent = Kind × List ℕ
 
+-- the first line of a frame: its keyword, its number and its length
 abbrev pub frame_head : Kind → List ℕ
 frame_head (Do number) = codes "do " ++ (decimal number ++ 32 ∷ [])
 frame_head Ask = codes "ask "
 
+-- the same of an answer
 abbrev pub answer_head : Kind → List ℕ
 answer_head (Do number) = decimal number ++ 32 ∷ []
 answer_head Ask = codes "ask "
 
+-- a frame as it is sent
 abbrev pub frame_bytes : Sent → List ℕ
 frame_bytes frame = frame_head frame.0 ++ sized frame.1
 
+-- an answer as it is sent
 abbrev pub answer_bytes : Sent → List ℕ
 answer_bytes answer = answer_head answer.0 ++ sized answer.1
 
@@ -33,6 +37,7 @@ answer_bytes answer = answer_head answer.0 ++ sized answer.1
 abbrev pub position_bytes : ℕ → List ℕ
 position_bytes number = codes "at " ++ (decimal number ++ 10 ∷ [])
 
+-- the number of a frame has at most 64 bits
 abbrev pub IsKind : Kind → Type 0
 IsKind (Do number) = number < 2 ^ 64
 IsKind Ask = Unit {0}
@@ -46,6 +51,7 @@ pub record IsFrame (limit : ℕ) (frame : Sent) : Type 0 where
 abbrev pub IsBegunFrame : ℕ → List ℕ → Type 0
 IsBegunFrame limit = IsPart frame_bytes (IsFrame limit)
 
+-- these bytes are the beginning of no frame
 abbrev pub IsMalformed : ℕ → List ℕ → Type 0
 IsMalformed limit = BeginsNone frame_bytes (IsFrame limit)
 

@@ -8,6 +8,7 @@ pub record SplitsFrames (limit : ℕ) (bytes : List ℕ) (frames : List Sent) (r
   pub parts : AreFrames limit frames rest bytes
   pub whole : IsBegunFrame limit rest ⊎ IsMalformed limit rest
 
+-- bytes are frames in at most one way
 abbrev pub SplitsOneWay : Type 0
 SplitsOneWay = (limit : ℕ) → limit < 2 ^ 64 → (bytes : List ℕ) → (frames others : List Sent) → (rest after : List ℕ)
     → SplitsFrames limit bytes frames rest → SplitsFrames limit bytes others after → (frames ≡ others) × (rest ≡ after)

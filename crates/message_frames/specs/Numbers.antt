@@ -11,10 +11,12 @@ use Rattle.message_frames.specs.Words.{Reads}
 abbrev pub number_word : ℕ → ℕ → List ℕ
 number_word end number = decimal number ++ end ∷ []
 
+-- a number that was found, and what stands after it
 abbrev pub found_of : Result (ℕ × Bor (List ℕ)) NotWhole → Result (ℕ × List ℕ) NotWhole
 found_of (Ok found) = Ok (found.0, found.1.now)
 found_of (Err fault) = Err fault
 
+-- what was read at the front of these bytes is a number up to this one, that ends at this byte
 abbrev pub ReadsNumber : ℕ → ℕ → List ℕ → Result (ℕ × Bor (List ℕ)) NotWhole → Type 0
 ReadsNumber end most bytes result = Reads (number_word end) (λ n. n ≤ most) bytes (found_of result)
 
@@ -23,6 +25,7 @@ abbrev pub digits_of : Option ℕ → List ℕ
 digits_of None = []
 digits_of (Some number) = decimal number
 
+-- a decimal digit
 abbrev pub IsDigit : ℕ → Type 0
 IsDigit byte = (48 ≤ byte) × (byte ≤ 57)
 

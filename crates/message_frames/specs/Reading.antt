@@ -8,22 +8,27 @@ use Rattle.message_frames.specs.declared.frame.Keyword.{Keyword}
 use Rattle.message_frames.specs.declared.frame.Keyword.TheVariants as keyword
 use Rattle.message_frames.specs.Frames.{Sent, sent, sized}
 
+-- a frame that was found, and what stands after it
 abbrev pub found_frame : Result (MessageFrame × Bor (List ℕ)) NotWhole → Result (Sent × List ℕ) NotWhole
 found_frame (Ok found) = Ok (sent found.0, found.1.now)
 found_frame (Err fault) = Err fault
 
+-- a text that was found, and what stands after it
 abbrev pub found_text : Result (Bor (List ℕ) × Bor (List ℕ)) NotWhole → Result (List ℕ × List ℕ) NotWhole
 found_text (Ok found) = Ok (found.0.now, found.1.now)
 found_text (Err fault) = Err fault
 
+-- a keyword that was found, and what stands after it
 abbrev pub found_keyword : Result (Keyword × Bor (List ℕ)) NotWhole → Result (Keyword × List ℕ) NotWhole
 found_keyword (Ok found) = Ok (found.0, found.1.now)
 found_keyword (Err fault) = Err fault
 
+-- a keyword as it is sent, with what comes after it
 abbrev pub keyword_bytes : Keyword → List ℕ
 keyword_bytes keyword.Do = codes "do "
 keyword_bytes keyword.Ask = codes "ask "
 
+-- a message that was found, and what stands after it
 abbrev pub found_message : Result ((ℕ × Bor (List ℕ)) × Bor (List ℕ)) NotWhole → Result ((ℕ × List ℕ) × List ℕ) NotWhole
 found_message (Ok found) = Ok ((found.0.0, found.0.1.now), found.1.now)
 found_message (Err fault) = Err fault
@@ -32,5 +37,6 @@ found_message (Err fault) = Err fault
 abbrev pub message_bytes : ℕ × List ℕ → List ℕ
 message_bytes message = (decimal message.0 ++ 32 ∷ []) ++ sized message.1
 
+-- the number and the text of a message are within their limits
 abbrev pub IsMessage : ℕ → ℕ × List ℕ → Type 0
 IsMessage limit message = (message.0 < 2 ^ 64) × (length message.1 ≤ limit)

@@ -7,6 +7,7 @@ use Rattle.message_frames.specs.declared.words.NotWhole.{NotWhole}
 use Rattle.message_frames.specs.declared.words.NotWhole.TheVariants as not_whole
 use Rattle.message_frames.specs.Frames.{AreFrames, IsBegunFrame, IsMalformed, sent}
 
+-- what is told where no whole frame is there
 abbrev pub next_after : NotWhole → Next
 next_after not_whole.Begun = next.Begun
 next_after not_whole.Malformed = next.Malformed

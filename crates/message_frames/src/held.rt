@@ -67,7 +67,8 @@ impl Held {
         }
     }
 
-    /// Adds a piece. What was passed is let go, so each byte is moved once at most.
+    /// Adds a piece. What was passed is let go, so each byte is moved once at most. After an error, want of memory
+    /// alone, the bytes are as they were.
     pub fn feed(&mut self, piece: &[u8]) -> Result<(), AllocError>
         ensures fed { OnOk result (self.new ≡ self.old ++ piece.now) }
         ensures unchanged { OnErr result (self.new ≡ self.old) }

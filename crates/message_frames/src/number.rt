@@ -4,8 +4,8 @@ ghost use Rattle.message_frames.specs.Numbers.{AddsDigit, AddsNone, HasRole, Rea
 
 use crate::words::NotWhole;
 
-/// The number that the bytes begin with, in digits without a leading zero, at most this one, and what comes after the byte that
-/// ends it.
+/// The number that the bytes begin with, in digits without a leading zero, at most this one, and what comes after the
+/// byte that ends it. Else whether more bytes may still make one there.
 pub(crate) fn read_number(bytes: &[u8], most: u64, end: u8) -> Result<(u64, &[u8]), NotWhole>
     requires { end < 48 }
     ensures { ReadsNumber end most bytes.now result }

@@ -18,6 +18,7 @@ message_number Ask = None
 abbrev pub parts_of_request : Request → Option ℕ × List ℕ
 parts_of_request request = (request.number, request.text.now)
 
+-- the number of a frame, where it has one, and its text
 abbrev pub parts_of_frame : Sent → Option ℕ × List ℕ
 parts_of_frame frame = (message_number frame.0, frame.1)
 
@@ -29,6 +30,7 @@ AskAlike requests frames = map parts_of_request requests ≡ map parts_of_frame 
 abbrev pub one_frame : Functions → Round → Sent → Round
 one_frame functions round frame = by_number functions round (message_number frame.0) frame.1
 
+-- how far a round comes with these frames
 abbrev pub each_frame : Functions → Round → List Sent → Round
 each_frame functions round frames = fold (λ far frame. one_frame functions far frame) round frames
 
@@ -42,6 +44,7 @@ answers_to (frame ∷ frames) (one ∷ more) = (frame.0, one.0) ∷ answers_to f
 abbrev pub answers_of : Functions → ℕ → WorldState → List Sent → List Sent
 answers_of functions last world frames = answers_to frames (each_frame functions (first_round last world) frames).told
 
+-- the answers to these frames, as they are sent
 abbrev pub answered_bytes : Functions → ℕ → WorldState → List Sent → List ℕ
 answered_bytes functions last world frames = flat_map answer_bytes (answers_of functions last world frames)
 

@@ -15,8 +15,9 @@ use prevalence_store::{Unadded, WholeMacros};
 use user_macros::MacroFunctions;
 
 impl Round {
-    /// Answers the first of these requests, until their answers have so many bytes, or all; and makes the number of the last message the
-    /// position if a message wrote.
+    /// Answers the first of these requests, until their answers have so many bytes, or all; and makes the number of the
+    /// last message the position if a message wrote. After an error the world and the round may have changed: the marks
+    /// of the world lead back.
     pub(crate) fn answer_up_to<R: MacroFunctions>(
         &mut self,
         world: &mut World,

@@ -4,6 +4,7 @@ use Rattle.lisp_object.specs.declared.refusal.TheConstants.{NO_PACKAGE, NOT_EXTE
 use Rattle.package_table.specs.declared.error.PackageError.{PackageError}
 use Rattle.package_table.specs.declared.error.PackageError.TheVariants.{NoPackage, NotExternal, LockedPackage, EmptyName, NoSuchPackage, PackageExists, PackageIsLocked, NameConflict, NotAccessible, Limit, OutOfMemory}
 
+-- the numbers under which packages refuse
 abbrev pub package_error_number : PackageError → ℕ
 package_error_number NoPackage = NO_PACKAGE
 package_error_number NotExternal = NOT_EXTERNAL

@@ -1,6 +1,7 @@
 -- How many packages and symbols there may be, the first ones included, and how many bytes their names may have.
 use Rattle.std.specs.Prelude.{ℕ}
 
+-- how many packages a world has at most
 abbrev pub most_packages : ℕ
 most_packages = 1000
 

@@ -12,6 +12,7 @@ unfoldable pub entries_by_position : {X : Type 0} → List Name → (ℕ → Opt
 entries_by_position [] f = []
 entries_by_position (n ∷ ns) f = cons_option (option_map (λ x. (n, x)) (f 0)) (entries_by_position ns (λ i. f (1 + i)))
 
+-- what a function gives for each position, by the name that stands there
 unfoldable pub map_by : {X : Type 0} → List Name → (ℕ → Option X) → finite.FinMap name_cmp X
 map_by ns f = finite.from_entries (entries_by_position ns f)
 

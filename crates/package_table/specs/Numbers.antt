@@ -19,6 +19,7 @@ Numbered = Table × Numbers
 abbrev pub numbers_code : Coded Numbers
 numbers_code = finite.code name_code (finite.code name_code coded_ℕ)
 
+-- a table and its numbers are told apart by both
 abbrev pub numbered_code : Coded Numbered
 numbered_code = coded× table_code numbers_code
 

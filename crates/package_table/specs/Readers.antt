@@ -39,9 +39,11 @@ imported_among p es = map (λ s. (s.0, s.1.home)) (filter (λ s. not (bytes_eq s
 abbrev pub own_names : Table → Name → List Name
 own_names t p = own_among p (present t p)
 
+-- the names that are external in a package
 abbrev pub external_names : Table → Name → List Name
 external_names t p = external_among (present t p)
 
+-- the symbols of other packages that are present in a package
 abbrev pub imports : Table → Name → List (Name × Name)
 imports t p = imported_among p (present t p)
 

@@ -33,6 +33,7 @@ pub record Package : Type 0 where
 abbrev pub Table : Type 0
 Table = finite.FinMap name_cmp Package
 
+-- what is told apart here: names, what is present, packages, tables
 abbrev pub name_code : Coded Name
 name_code = coded_list coded_ℕ
 
@@ -48,6 +49,7 @@ package_code =
 abbrev pub table_code : Coded Table
 table_code = finite.code name_code package_code
 
+-- the three packages that are always there
 abbrev pub common_lisp : Name
 common_lisp = COMMON_LISP.now
 

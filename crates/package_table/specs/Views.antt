@@ -15,6 +15,7 @@ use Rattle.package_table.specs.Adds.{IsPlaced}
 abbrev pub tables_at : List Sizes → Kept → List Numbered
 tables_at ns k = map (λ n. numbered_of (cut n k)) ns
 
+-- the tables that the program keeps, as the logic has them
 abbrev pub tables_of : Inside → Tables
 tables_of a = ((numbered_of a.sets).0, record { numbers = (numbered_of a.sets).1; marked = tables_at a.marks.items a.sets })
 
@@ -35,6 +36,7 @@ abbrev pub IsRising : List Sizes → Type 0
 IsRising [] = Unit {0}
 IsRising (n ∷ ns) = AllByRecursion (AreUpTo n) ns × IsRising ns
 
+-- what holds of each table that the program keeps
 pub record HasKeptTable (a : Inside) : Type 0 where
   pub state : IsState a.sets
   pub marked : AllByRecursion (IsMark a.sets) a.marks.items

@@ -128,7 +128,7 @@ pub(crate) fn names(sets: &PackageSets, alloc: Global) -> Result<Items<Bytes>, A
     copies(alloc, names.as_slice())
 }
 
-/// The names of the packages that `owner` uses.
+/// The names of the packages that `owner` uses. `NoSuchPackage` where there is no such package.
 pub(crate) fn uses(
     sets: &PackageSets,
     alloc: Global,
@@ -147,7 +147,7 @@ pub(crate) fn uses(
     Ok(copies(alloc, names.as_slice())?)
 }
 
-/// The names at home in `owner`, as they are kept.
+/// The names at home in `owner`, as they are kept. `NoSuchPackage` where there is no such package.
 pub(crate) fn own_names<'a>(
     sets: &'a PackageSets,
     alloc: Global,
@@ -167,7 +167,8 @@ pub(crate) fn own_names<'a>(
     Ok(names)
 }
 
-/// The names external in `owner`, as they are kept. Looks at them alone.
+/// The names external in `owner`, as they are kept. Looks at them alone. `NoSuchPackage` where there is no such
+/// package.
 pub(crate) fn external_names<'a>(
     sets: &'a PackageSets,
     alloc: Global,
@@ -187,7 +188,7 @@ pub(crate) fn external_names<'a>(
     Ok(names)
 }
 
-/// The names at home in `owner`.
+/// The names at home in `owner`. `NoSuchPackage` where there is no such package.
 pub(crate) fn own(
     sets: &PackageSets,
     alloc: Global,
@@ -203,7 +204,7 @@ pub(crate) fn own(
     Ok(copies(alloc, names.as_slice())?)
 }
 
-/// The names external in `owner`. Looks at them alone.
+/// The names external in `owner`. Looks at them alone. `NoSuchPackage` where there is no such package.
 pub(crate) fn externals(
     sets: &PackageSets,
     alloc: Global,
@@ -256,7 +257,7 @@ fn with_homes(
     Ok(pairs)
 }
 
-/// The names present in `owner` with another home, each with that home.
+/// The names present in `owner` with another home, each with that home. `NoSuchPackage` where there is no such package.
 pub(crate) fn imports(
     sets: &PackageSets,
     alloc: Global,

@@ -60,7 +60,8 @@ impl Packages {
         Packages::with_seed(alloc, Seed::fixed())
     }
 
-    /// The same, with names hashed by this seed: who does not know it cannot choose names that fall together.
+    /// The first packages, as `new` makes them, with names hashed by this seed: who does not know it cannot choose
+    /// names that fall together.
     pub fn with_seed(alloc: Global, seed: Seed) -> Result<Packages, AllocError>
         ensures table { IfOk result (λ packages. packages.0 ≡ initial) }
         ensures marked { IfOk result (λ packages. packages.1.marked ≡ []) }

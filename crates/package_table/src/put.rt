@@ -14,7 +14,8 @@ use crate::look_ups::{found_number, number_in};
 use package_sets::PackageSets;
 use std::alloc::AllocError;
 
-/// Adds a package of this name, which has no symbols and uses nothing.
+/// Adds a package of this name, which has no symbols and uses nothing. After an error, want of memory alone, the
+/// packages are as they were.
 pub(crate) fn put_package(sets: &mut PackageSets, name: &[u8]) -> Result<(), AllocError>
     requires { finite.get (numbered_of sets.old).0 name.now ≡ None }
     ensures ok { OnOk result
@@ -28,7 +29,8 @@ pub(crate) fn put_package(sets: &mut PackageSets, name: &[u8]) -> Result<(), All
     Ok(())
 }
 
-/// Makes a new symbol of the package of a number, which is not COMMON-LISP, present there.
+/// Makes a new symbol of the package of a number, which is not COMMON-LISP, present there. After an error, want of
+/// memory alone, the packages are as they were.
 pub(crate) fn put_new(sets: &mut PackageSets, owner: u32, name: &[u8]) -> Result<(), AllocError>
     requires package { owner < length sets.old.packages }
     requires fresh { let p = name_at sets.old.packages owner in
@@ -49,6 +51,7 @@ pub(crate) fn put_new(sets: &mut PackageSets, owner: u32, name: &[u8]) -> Result
 }
 
 /// Makes the symbol of this home and name present in `owner`, which exists, is not locked and has none by that name.
+/// After an error, want of memory alone, the packages are as they were.
 pub(crate) fn put_import(
     sets: &mut PackageSets,
     owner: &[u8],
@@ -106,7 +109,8 @@ fn import_and_show(sets: &mut PackageSets, owner: u32, symbol: u32) -> Result<()
     Ok(())
 }
 
-/// Makes the symbol of this home, which `owner` finds by this name, external there. `owner` is not locked.
+/// Makes the symbol of this home, which `owner` finds by this name, external there. `owner` is not locked. After an
+/// error, want of memory alone, the packages are as they were.
 pub(crate) fn put_external(
     sets: &mut PackageSets,
     owner: &[u8],
@@ -144,7 +148,8 @@ pub(crate) fn put_external(
     Ok(())
 }
 
-/// Makes the package `owner`, which exists, use another, which it does not use yet.
+/// Makes the package `owner`, which exists, use another, which it does not use yet. After an error, want of memory
+/// alone, the packages are as they were.
 pub(crate) fn put_use(sets: &mut PackageSets, owner: &[u8], used: &[u8]) -> Result<(), AllocError>
     requires package { IsPackage (numbered_of sets.old).0 owner.now }
     requires other { IsPackage (numbered_of sets.old).0 used.now }

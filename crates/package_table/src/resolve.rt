@@ -18,7 +18,8 @@ pub enum Resolved<'a> {
     New(&'a [u8]),
 }
 
-/// The home of the external symbol after one package marker.
+/// The home of the external symbol after one package marker. Refused where there is no such package, or the symbol is
+/// not external in it.
 pub(crate) fn resolve_external<'a>(
     sets: &'a PackageSets,
     prefix: &[u8],
@@ -36,7 +37,8 @@ pub(crate) fn resolve_external<'a>(
     }
 }
 
-/// What the name stands for after two package markers.
+/// What the name stands for after two package markers. Refused where there is no such package, or a new symbol of it
+/// would be in COMMON-LISP.
 pub(crate) fn resolve_internal<'a>(
     sets: &'a PackageSets,
     prefix: &[u8],

@@ -57,6 +57,7 @@ LeavesLessText text t = length t.rest.now < length text
 abbrev pub AreThere : PlainContext → Object → Type 0
 AreThere with x = are_there with.packages.now.0 x ≡ true
 
+-- all symbols of these objects are there
 abbrev pub AllAreThere : PlainContext → List Object → Type 0
 AllAreThere with xs = list_all (are_there with.packages.now.0) xs ≡ true
 

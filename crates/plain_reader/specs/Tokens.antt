@@ -16,6 +16,7 @@ use Rattle.lisp_reading.specs.Naming.{told_meaning}
 use Rattle.lisp_reading.specs.declared.told.Told.TheVariants.{Object as told_object}
 use Rattle.plain_reader.specs.declared.context.PlainContext.{PlainContext}
 
+-- whether a character of this type is one of a token
 abbrev pub is_constituent : Syntax → Bool
 is_constituent Constituent = true
 is_constituent _ = false

@@ -50,7 +50,8 @@ pub(crate) fn token<'a>(
     }
 }
 
-/// A token at the front of the text, without escapes, that is an object, is put to the items of a list. Gives the text after it.
+/// A token at the front of the text, without escapes, that is an object, is put to the items of a list. Gives the text
+/// after it. If there is none, the items are as they were.
 #[inline(always)]
 pub(crate) fn put_token<'a>(
     with: &PlainContext<'_>,

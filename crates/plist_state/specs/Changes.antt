@@ -119,6 +119,7 @@ abbrev pub Refused : {B : Type 0} → ReadtableError → Result B ReadtableError
 Refused OutOfMemory said = IsOk said
 Refused e said = said ≡ Err e
 
+-- what was answered is what the definition gives, or its refusal
 abbrev pub AnswersReadtables : {A B : Type 0} → (A → B) → Result A ReadtableError → Result B ReadtableError → Type 0
 AnswersReadtables view (Ok x) said = said ≡ Ok (view x)
 AnswersReadtables view (Err e) said = Refused e said

@@ -33,12 +33,14 @@ syntax_back SingleEscape = refl
 syntax_back MultipleEscape = refl
 syntax_back Invalid = refl
 
+-- the number of a case, as a file has it
 abbrev pub case_number : Case → ℕ
 case_number Upcase = 0
 case_number Downcase = 1
 case_number Preserve = 2
 case_number Invert = 3
 
+-- and back
 abbrev pub numbered_case : ℕ → Case
 numbered_case n = if n == 0 then Upcase else (if n == 1 then Downcase else (if n == 2 then Preserve else Invert))
 

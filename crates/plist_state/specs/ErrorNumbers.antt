@@ -4,6 +4,7 @@ use Rattle.lisp_object.specs.declared.refusal.TheConstants.{NO_READTABLE, STANDA
 use Rattle.plist_state.specs.declared.error.ReadtableError.{ReadtableError}
 use Rattle.plist_state.specs.declared.error.ReadtableError.TheVariants.{NoReadtable, StandardReadtable, NotDispatching, DigitSubcharacter, Limit, OutOfMemory}
 
+-- the numbers under which readtables refuse
 abbrev pub readtable_error_number : ReadtableError → ℕ
 readtable_error_number NoReadtable = NO_READTABLE
 readtable_error_number StandardReadtable = STANDARD_READTABLE

@@ -14,6 +14,7 @@ use Rattle.plist_state.specs.Properties.{Symbol, Plist, Properties, value_beside
 abbrev pub NumberedPlist : Type 0
 NumberedPlist = List (ℕ × Object)
 
+-- whether two numbers are one
 abbrev pub same_number : ℕ → ℕ → Bool
 same_number i j = i == j
 

@@ -12,6 +12,7 @@ use Rattle.package_table.specs.Table.{Name, name_cmp, name_code}
 abbrev pub Symbol : Type 0
 Symbol = Name × Name
 
+-- the order of symbols: by their homes, and then by their names
 abbrev pub symbol_cmp : Symbol → Symbol → Ordering
 symbol_cmp a b = ordering_then (name_cmp a.0 b.0) (name_cmp a.1 b.1)
 
@@ -65,6 +66,7 @@ abbrev pub with_list : Properties → Symbol → Plist → Properties
 with_list m x [] = finite.remove m x
 with_list m x (p ∷ ps) = finite.insert m x (p ∷ ps)
 
+-- what is told apart here: symbols, property lists, properties
 abbrev pub symbol_code : Coded Symbol
 symbol_code = coded× name_code name_code
 

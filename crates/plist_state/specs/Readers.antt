@@ -10,6 +10,7 @@ use Rattle.plist_state.specs.State.{WorldState}
 abbrev pub borrowed_symbol : Bor Name × Bor Name → Symbol
 borrowed_symbol s = (s.0.now, s.1.now)
 
+-- symbols that are handed in, as those of the logic
 abbrev pub borrowed_symbols : List (Bor Name × Bor Name) → List Symbol
 borrowed_symbols symbols = map borrowed_symbol symbols
 

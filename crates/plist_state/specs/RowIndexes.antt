@@ -11,6 +11,7 @@ use Rattle.plist_state.specs.Views.{Rows, row_at}
 abbrev pub Orders : Type 0
 Orders = List (ℕ × ℕ)
 
+-- the indicator of a property, and its order in the row
 abbrev pub order_of : NumberedProperty → ℕ × ℕ
 order_of p = (p.indicator, p.order)
 
@@ -43,6 +44,7 @@ Index = BTreeMap ℕ ℕ
 abbrev pub Indexes : Type 0
 Indexes = List (ℕ × Index)
 
+-- the index of a row, if it has one
 abbrev pub index_at : Indexes → ℕ → Option Index
 index_at indexes n = lookup (is_at (nat_cmp n)) indexes
 

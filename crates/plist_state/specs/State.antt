@@ -29,6 +29,7 @@ pub record WorldState : Type 0 where
   pub current_readtable : Name
   pub read_base : ℕ
 
+-- the state with these packages and this rest
 abbrev pub state_with : packages.Table → Rest → WorldState
 state_with t r =
     record {

@@ -21,15 +21,19 @@ use Rattle.plist_state.specs.Properties as properties
 use Rattle.plist_state.specs.Lists.{NumberedPlist, NumberedLists, with_row}
 use Rattle.plist_state.specs.State.{Readtables, first_readtables, first_rest}
 
+-- a symbol of the program, as one of the logic
 abbrev pub symbol_of : Symbol → properties.Symbol
 symbol_of s = (s.home, s.name)
 
+-- a symbol that is handed in, as one of the logic
 abbrev pub symbol_named : BorrowedSymbol → properties.Symbol
 symbol_named s = (s.home.now, s.name.now)
 
+-- a property that is handed out, as one of the logic
 abbrev pub property_of : Property → properties.Symbol × Object
 property_of p = ((p.home.now, p.name.now), object_of p.value.now)
 
+-- a property by the number of its indicator, as one of the logic
 abbrev pub numbered_property : NumberedProperty → ℕ × Object
 numbered_property p = (p.indicator, object_of p.value)
 
@@ -51,6 +55,7 @@ abbrev pub lists_from : ℕ → Rows → NumberedLists
 lists_from n [] = finite.empty
 lists_from n (row ∷ rows) = with_row (lists_from (suc n) rows) n (plist_of row)
 
+-- the property lists that the rows keep, by numbers
 abbrev pub lists_in : Rows → NumberedLists
 lists_in rows = lists_from 0 rows
 
@@ -66,6 +71,7 @@ row_at rows i = slice_get rows i
 abbrev pub room_at : Rows → ℕ → ℕ
 room_at rows i = option_map_or room (row_at rows i) 0
 
+-- the readtables that a tree keeps, as those of the logic
 abbrev pub readtables_of : BTreeMap (Vec ℕ) readtable.Table → Readtables
 readtables_of tables = as_map (λ t. t) tables.entries
 
@@ -88,6 +94,7 @@ first_numbered =
       read_base = first_rest.read_base;
     }
 
+-- all but the packages, by numbers, as the logic has it
 abbrev pub rest_of : Stored → NumberedRest
 rest_of s =
     record {

@@ -17,7 +17,7 @@ use readtable_core::Readtable;
 use std::alloc::Global;
 use std::collections::BTreeMap;
 
-/// Makes a readtable that is a copy of another, or writes it over.
+/// Makes a readtable that is a copy of another, or writes it over. After an error the readtables are as they were.
 pub(crate) fn copy(
     alloc: Global,
     tables: &mut BTreeMap<Vec<u8>, Readtable>,

@@ -170,8 +170,8 @@ fn note_order(
     }
 }
 
-/// The order of a property whose indicator is new in the row of a number. If the row has an index, this knows it then; a
-/// long row gets one.
+/// The order of a property whose indicator is new in the row of a number. If the row has an index, this knows it then;
+/// a long row gets one. After an error, want of memory alone, each index fits its row still.
 pub(crate) fn new_order(
     alloc: Global,
     row: &Row,

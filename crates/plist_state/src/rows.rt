@@ -257,7 +257,8 @@ fn write_at(
     }
 }
 
-/// Sets the value beside an indicator of the symbol of a number, in its place or last.
+/// Sets the value beside an indicator of the symbol of a number, in its place or last. After an error, want of memory
+/// alone, the properties are as they were.
 pub(crate) fn put(
     alloc: Global,
     rows: &mut Vec<Row>,
@@ -284,7 +285,8 @@ pub(crate) fn put(
     write_at(alloc, rows, indexes, number, indicator, value)
 }
 
-/// Puts an item before the list that is beside an indicator of the symbol of a number. `empty` is NIL.
+/// Puts an item before the list that is beside an indicator of the symbol of a number. `empty` is NIL. After an error,
+/// want of memory alone, the properties are as they were.
 pub(crate) fn push(
     rows: &mut Vec<Row>,
     indexes: &Indexes,

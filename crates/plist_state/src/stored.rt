@@ -95,7 +95,8 @@ fn needs_no_note(rows: &Vec<Row>, marks: &[Vec<Note>], number: u32, change: &Pro
     is_overwritten(marks, number, place, value)
 }
 
-/// Sets a property of the symbol of a number, and notes what it overwrote, but where that need not be kept.
+/// Sets a property of the symbol of a number, and notes what it overwrote, but where that need not be kept. After an
+/// error, want of memory alone, the properties are as they were.
 pub(crate) fn put(
     alloc: Global,
     stored: &mut Stored,
@@ -135,7 +136,8 @@ pub(crate) fn put(
     Ok(())
 }
 
-/// Puts a value before the list that is a property of the symbol of a number, and notes it. Nothing of the list is copied.
+/// Puts a value before the list that is a property of the symbol of a number, and notes it. Nothing of the list is
+/// copied. After an error, want of memory alone, the properties are as they were.
 pub(crate) fn push(
     alloc: Global,
     stored: &mut Stored,
@@ -219,7 +221,8 @@ fn shorten(
     Ok(())
 }
 
-/// Takes the first item off the list that is a property of the symbol of a number, and notes it. The rest is not copied.
+/// Takes the first item off the list that is a property of the symbol of a number, and notes it. The rest is not
+/// copied. After an error, want of memory alone, the properties are as they were.
 pub(crate) fn pop(
     alloc: Global,
     stored: &mut Stored,
@@ -267,8 +270,8 @@ fn tidy_unmarked(stored: &mut Stored, marks: &[Vec<Note>], number: u32)
     }
 }
 
-/// Removes a property of the symbol of a number, notes it, and answers whether it was there. Its value is noted where that has to
-/// be kept.
+/// Removes a property of the symbol of a number, notes it, and answers whether it was there. Its value is noted where
+/// that has to be kept. After an error, want of memory alone, the properties are as they were.
 pub(crate) fn remove(
     stored: &mut Stored,
     marks: &mut Vec<Vec<Note>>,

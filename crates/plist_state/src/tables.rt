@@ -116,7 +116,7 @@ fn entry_note(
     })
 }
 
-/// Sets the case of a readtable.
+/// Sets the case of a readtable. After an error the readtables are as they were.
 pub(crate) fn set_case(
     alloc: Global,
     tables: &mut BTreeMap<Vec<u8>, Readtable>,
@@ -147,7 +147,7 @@ pub(crate) fn set_case(
     Ok(())
 }
 
-/// Makes a character of a readtable a macro character.
+/// Makes a character of a readtable a macro character. After an error the readtables are as they were.
 pub(crate) fn set_macro(
     alloc: Global,
     tables: &mut BTreeMap<Vec<u8>, Readtable>,
@@ -175,7 +175,7 @@ pub(crate) fn set_macro(
     Ok(())
 }
 
-/// Makes a character of a readtable a dispatching macro character.
+/// Makes a character of a readtable a dispatching macro character. After an error the readtables are as they were.
 pub(crate) fn make_dispatch(
     alloc: Global,
     tables: &mut BTreeMap<Vec<u8>, Readtable>,
@@ -203,7 +203,7 @@ pub(crate) fn make_dispatch(
     Ok(())
 }
 
-/// Sets the function of a sub-character in a readtable.
+/// Sets the function of a sub-character in a readtable. After an error the readtables are as they were.
 pub(crate) fn set_dispatch(
     alloc: Global,
     tables: &mut BTreeMap<Vec<u8>, Readtable>,
@@ -256,7 +256,7 @@ fn put_entry(
     table.put_entry(c, entry)
 }
 
-/// Gives a character of a readtable the syntax that one has in another.
+/// Gives a character of a readtable the syntax that one has in another. After an error the readtables are as they were.
 pub(crate) fn set_syntax(
     alloc: Global,
     tables: &mut BTreeMap<Vec<u8>, Readtable>,

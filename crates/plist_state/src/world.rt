@@ -79,7 +79,7 @@ impl World {
         World::with_seed(alloc, Seed::fixed())
     }
 
-    /// The same, where names are hashed by this seed (`Packages::with_seed`).
+    /// The first world, as `new` makes it, where names are hashed by this seed (`Packages::with_seed`).
     pub fn with_seed(alloc: Global, seed: Seed) -> Result<World, AllocError>
         ensures { IfOk result (λ world. world ≡ (initial, [])) }
     {
