@@ -5,7 +5,7 @@ use Rattle.std.specs.Str.{bytes_eq}
 use Rattle.std.specs.FinMap as finite
 use Rattle.std.proofs.lemmas.Slice.Eq.{bytes_eq-Decides}
 use Rattle.package_table.specs.Table.{Name, Table, Present, Package, AreSoundPackages, IsPresent, IsPackage, keyword, full_name, entry_at}
-use Rattle.package_table.specs.Lookup.{found, external_home, is_external}
+use Rattle.package_table.specs.Lookup.{home_by_name, external_home, is_external}
 use Rattle.package_table.specs.Resolving.{found_at, resolution, external_resolution, internal_resolution}
 pub use Rattle.package_table.proofs.FirstNames.{nil_present}
 use Rattle.package_table.proofs.Names.{same_some}
@@ -18,7 +18,7 @@ is_home None home e = absurd (cc)
 is_home (Some h) home e = ap (λ (n : Name). Some n) ((bytes_eq-Decides h home).0 e)
 
 pub accessible_resolved : (t : Table) (current home own : Name) → is_accessible t current home own ≡ true → resolution t current own ≡ Ok (found_at home)
-accessible_resolved t current home own e = rw (is_home (found t current own) home e) refl
+accessible_resolved t current home own e = rw (is_home (home_by_name t current own) home e) refl
 
 -- what is present somewhere is in a package
 in_package : (k : Option Package) (own h : Name) → option_map (λ (e : Present). e.home) (option_and_then (λ (k : Package). finite.get k.symbols own) k) ≡ Some h
@@ -33,7 +33,7 @@ module _ (t : Table) (home own : Name) (sound : AreSoundPackages t) (present : I
   full : full_name home ≡ home
   full = (sound.within.package_names home home_there).full
 
-  pub found_home : found t home own ≡ Some home
+  pub found_home : home_by_name t home own ≡ Some home
   found_home = found_is t own sound.joined home home (inl present)
 
   external_there : is_external t home own ≡ true → external_home t home own ≡ Some home
@@ -45,7 +45,7 @@ module _ (t : Table) (home own : Name) (sound : AreSoundPackages t) (present : I
   pub keyword_resolved : bytes_eq home keyword ≡ true → resolution t keyword own ≡ Ok (found_at home)
   keyword_resolved e =
       let same : home ≡ keyword = (bytes_eq-Decides home keyword).0 e in
-      let there : found t keyword own ≡ Some home = subst (λ (p : Name). found t p own ≡ Some home) same found_home in
+      let there : home_by_name t keyword own ≡ Some home = subst (λ (p : Name). home_by_name t p own ≡ Some home) same found_home in
       rw there refl
 
   pub external_resolved : is_external t home own ≡ true → external_resolution t home own ≡ Ok home

@@ -4,7 +4,7 @@ use Rattle.std.specs.Option.{option_map_or}
 use Rattle.std.specs.Str.{bytes_eq}
 use Rattle.lisp_object.specs.Object.{Object}
 use Rattle.package_table.specs.Table.{Name, Table, keyword}
-use Rattle.package_table.specs.Lookup.{found, is_symbol, is_external}
+use Rattle.package_table.specs.Lookup.{home_by_name, is_symbol, is_external}
 use Rattle.canon_printer.specs.Names.{printed_name}
 use Rattle.canon_printer.specs.Written.{written}
 
@@ -15,7 +15,7 @@ has_home found_home home = option_map_or (λ h. bytes_eq h home) found_home fals
 module _ (packages : Table) (current : Name) where
   -- the current package finds this very symbol by its name (it is accessible, standard 11.1.1.2.3)
   abbrev pub is_accessible : Name → Name → Bool
-  is_accessible home name = has_home (found packages current name) home
+  is_accessible home name = has_home (home_by_name packages current name) home
 
   -- what comes before a symbol's name (standard 22.1.3.3.1): nothing if it is accessible, one package marker if its
   -- home has this very symbol external, else two

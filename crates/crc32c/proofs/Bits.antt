@@ -5,7 +5,7 @@ use Rattle.std.specs.Int.Bits.{xor_self, xor_zero_r, xor_assoc}
 use Rattle.std.proofs.lemmas.List.Concat.{flat_map-append}
 use Rattle.std.proofs.lemmas.Nat.{xor_block, xor_lt}
 use Rattle.crc32c.specs.Burst.{IsBurst}
-use Rattle.crc32c.specs.Register.{shifted, after_bits, bits, text_bits, all_ones, sum_after, crc32c}
+use Rattle.crc32c.specs.Register.{register_after_bit, after_bits, bits, text_bits, all_ones, sum_after, crc32c}
 use Rattle.crc32c.proofs.Steps.{same_of_none, xor_common, xor_swap, xor_twice, shifted-xor, shifted_even, shifted_lt, steps, steps_same}
 
 -- ---- the number of some bits
@@ -53,16 +53,16 @@ pub gathered : (r : ℕ) (list : List ℕ) → after_bits r list ≡ steps (leng
 unfolding value after_bits steps
 gathered r [] = sym (xor_zero_r r)
 gathered r (bit ∷ more) =
-    gathered (shifted (bit_xor r bit)) more
+    gathered (register_after_bit (bit_xor r bit)) more
     ∙ ap (steps (length more)) (sym (
-    ap shifted (sym (xor_assoc r bit (value more * 2)))
+    ap register_after_bit (sym (xor_assoc r bit (value more * 2)))
     ∙ shifted-xor (bit_xor r bit) (value more * 2)
-    ∙ ap (bit_xor (shifted (bit_xor r bit))) (shifted_even (value more))))
+    ∙ ap (bit_xor (register_after_bit (bit_xor r bit))) (shifted_even (value more))))
 
 pub after_bits-append : (r : ℕ) (some more : List ℕ) → after_bits r (some ++ more) ≡ after_bits (after_bits r some) more
 unfolding after_bits
 after_bits-append r [] more = refl
-after_bits-append r (bit ∷ some) more = after_bits-append (shifted (bit_xor r bit)) some more
+after_bits-append r (bit ∷ some) more = after_bits-append (register_after_bit (bit_xor r bit)) some more
 
 -- ---- the bits of numbers and of texts
 
@@ -111,7 +111,7 @@ pub after_bits_lt : (r : ℕ) (list : List ℕ) → r < 2 ^ 32 → AreBits list 
 unfolding after_bits
 after_bits_lt r [] fits are = fits
 after_bits_lt r (bit ∷ more) fits are =
-    after_bits_lt (shifted (bit_xor r bit)) more (shifted_lt (bit_xor r bit) (xor_lt 32 r bit fits (omega (arith, are.0)))) are.1
+    after_bits_lt (register_after_bit (bit_xor r bit)) more (shifted_lt (bit_xor r bit) (xor_lt 32 r bit fits (omega (arith, are.0)))) are.1
 
 pub sum_fits : (text : List ℕ) → crc32c text < 2 ^ 32
 sum_fits text =

@@ -2,7 +2,7 @@
 use Rattle.std.proofs.Common.{◌≡◌, ℕ, zero, suc, ◌+◌, ◌*◌, ◌/◌, ◌%◌, ◌^◌, ◌<◌, Bool, true, false, cond, eqb, eqb-true, List, [], ◌∷◌, length, get_or, bit_and, bit_xor, refl, sym, ap, ap₂, ◌∙◌, arith}
 use Rattle.std.specs.Int.Bits.{xor_zero_r}
 use Rattle.std.proofs.lemmas.Nat.{xor_block, xor_shr, and_mask}
-use Rattle.crc32c.specs.Register.{shifted, after_bits, bits}
+use Rattle.crc32c.specs.Register.{register_after_bit, after_bits, bits}
 use Rattle.crc32c.specs.declared.table.TheConstants.{TABLE}
 use Rattle.crc32c.proofs.Bits.{gathered, value-bits, length-bits}
 use Rattle.crc32c.proofs.Steps.{steps, steps-xor, steps_high}
@@ -35,7 +35,7 @@ one_of from (register ∷ more) (suc i) are within =
     ∙ ap (steps 8) (at_next from i)
 
 the_table : are_steps 0 TABLE ≡ true
-unfolding are_steps steps shifted
+unfolding are_steps steps register_after_bit
 the_table = refl
 
 pub table_is : (i : ℕ) → i < 256 → get_or TABLE i 0 ≡ steps 8 i

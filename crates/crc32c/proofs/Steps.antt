@@ -2,7 +2,7 @@
 use Rattle.std.proofs.Common.{◌≡◌, ℕ, zero, suc, ◌*◌, ◌/◌, ◌%◌, ◌^◌, ◌<◌, bit_xor, refl, sym, ap, ap₂, ◌∙◌, arith, zero-mul, mul_assoc, pow-suc}
 use Rattle.std.specs.Int.Bits.{xor_self, xor_zero_r, xor_assoc}
 use Rattle.std.proofs.lemmas.Nat.{xor_comm, xor_of_32, xor_shr, xor_mod, shl-shr}
-use Rattle.crc32c.specs.Register.{polynomial, shifted}
+use Rattle.crc32c.specs.Register.{polynomial, register_after_bit}
 
 -- ---- sums of bits
 
@@ -32,8 +32,8 @@ bit_times (suc (suc x)) y p x_bit y_bit = absurd (omega (arith, x_bit))
 
 -- ---- one step
 
-pub shifted-xor : (a b : ℕ) → shifted (bit_xor a b) ≡ bit_xor (shifted a) (shifted b)
-unfolding shifted
+pub shifted-xor : (a b : ℕ) → register_after_bit (bit_xor a b) ≡ bit_xor (register_after_bit a) (register_after_bit b)
+unfolding register_after_bit
 shifted-xor a b =
     ap₂ bit_xor (xor_shr a b 1)
     (ap (λ (x : ℕ). x * polynomial) (xor_mod a b 1) ∙ bit_times (a % 2) (b % 2) polynomial (omega arith) (omega arith))
@@ -45,19 +45,19 @@ twice_even m = omega arith
 higher : (m k : ℕ) → m * 2 ^ suc k ≡ m * 2 ^ k * 2
 higher m k = ap (λ (x : ℕ). m * x) (pow-suc 2 k) ∙ sym (mul_assoc m (2 ^ k) 2)
 
-pub shifted_even : (m : ℕ) → shifted (m * 2) ≡ m
-unfolding shifted
+pub shifted_even : (m : ℕ) → register_after_bit (m * 2) ≡ m
+unfolding register_after_bit
 shifted_even m =
     ap₂ (λ (x y : ℕ). bit_xor x (y * polynomial)) (shl-shr m 1) (twice_even m)
     ∙ xor_zero_r m
 
-pub shifted_lt : (a : ℕ) → a < 2 ^ 32 → shifted a < 2 ^ 32
-unfolding shifted
+pub shifted_lt : (a : ℕ) → a < 2 ^ 32 → register_after_bit a < 2 ^ 32
+unfolding register_after_bit
 shifted_lt a fits = xor_of_32 (a / 2) (a % 2 * polynomial) (omega (arith, fits)) (omega arith)
 
 -- none but 0 becomes 0
-shifted_none : (a : ℕ) → a < 2 ^ 32 → shifted a ≡ 0 → a ≡ 0
-unfolding shifted
+shifted_none : (a : ℕ) → a < 2 ^ 32 → register_after_bit a ≡ 0 → a ≡ 0
+unfolding register_after_bit
 shifted_none a fits none =
     let same = same_of_none (a / 2) (a % 2 * polynomial) none in
     omega (arith, fits, same)
@@ -66,17 +66,17 @@ shifted_none a fits none =
 
 unfoldable pub steps : ℕ → ℕ → ℕ
 steps zero a = a
-steps (suc k) a = steps k (shifted a)
+steps (suc k) a = steps k (register_after_bit a)
 
 pub steps-xor : (k a b : ℕ) → steps k (bit_xor a b) ≡ bit_xor (steps k a) (steps k b)
 unfolding steps
 steps-xor zero a b = refl
-steps-xor (suc k) a b = ap (steps k) (shifted-xor a b) ∙ steps-xor k (shifted a) (shifted b)
+steps-xor (suc k) a b = ap (steps k) (shifted-xor a b) ∙ steps-xor k (register_after_bit a) (register_after_bit b)
 
 pub steps_none : (k a : ℕ) → a < 2 ^ 32 → steps k a ≡ 0 → a ≡ 0
 unfolding steps
 steps_none zero a fits none = none
-steps_none (suc k) a fits none = shifted_none a fits (steps_none k (shifted a) (shifted_lt a fits) none)
+steps_none (suc k) a fits none = shifted_none a fits (steps_none k (register_after_bit a) (shifted_lt a fits) none)
 
 -- two that differ stay different
 pub steps_same : (k a b : ℕ) → bit_xor a b < 2 ^ 32 → steps k a ≡ steps k b → a ≡ b
@@ -89,4 +89,4 @@ steps_same k a b fits same =
 pub steps_high : (k m : ℕ) → steps k (m * 2 ^ k) ≡ m
 unfolding steps
 steps_high zero m = omega arith
-steps_high (suc k) m = ap (steps k) (ap shifted (higher m k) ∙ shifted_even (m * 2 ^ k)) ∙ steps_high k m
+steps_high (suc k) m = ap (steps k) (ap register_after_bit (higher m k) ∙ shifted_even (m * 2 ^ k)) ∙ steps_high k m

@@ -8,12 +8,12 @@ abbrev pub polynomial : ℕ
 polynomial = 0x82F63B78
 
 -- the register after a step: its lowest bit goes out, and where that is 1, the polynomial is subtracted
-unfoldable pub shifted : ℕ → ℕ
-shifted register = bit_xor (register / 2) (register % 2 * polynomial)
+unfoldable pub register_after_bit : ℕ → ℕ
+register_after_bit register = bit_xor (register / 2) (register % 2 * polynomial)
 
 -- the register after a step in which a bit comes in
 abbrev pub after_bit : ℕ → ℕ → ℕ
-after_bit register bit = shifted (bit_xor register bit)
+after_bit register bit = register_after_bit (bit_xor register bit)
 
 -- the register after these bits
 unfoldable pub after_bits : ℕ → List ℕ → ℕ

@@ -4,7 +4,7 @@ use Rattle.disk_trait.specs.Disk.{Image, Performed}
 use Rattle.disk_trait.specs.Orders.{OrderValue}
 use Rattle.deferred_disk.specs.Calls.{CallsValue, all_of}
 use Rattle.deferred_disk.specs.Sound.{left_now}
-use Rattle.deferred_disk.specs.State.{OrdersLeftSince, OrdersMayLeave, ordered}
+use Rattle.deferred_disk.specs.State.{OrdersLeftSince, OrdersMayLeave, state_after_orders}
 
 left_between : (start image : Image) (done first later : List OrderValue) → OrdersMayLeave start (first ++ done) image → OrdersLeftSince start ((later ++ first) ++ done) (length done) image
 left_between start image done first [] left = left_now start (first ++ done) (length done) image (omega (arith, length-append first done)) left
@@ -12,7 +12,7 @@ left_between start image done first (order ∷ later) left = inl (left_between s
 
 -- the same of what a disk was asked, from which what was reported is the same
 module _ (old new : CallsValue) (before after : ℕ) (first later : List OrderValue) (image : Image)
-    (same : (ordered new after).performed ≡ (ordered old before).performed) (parts : new.pending ≡ later ++ first) (left : OrdersMayLeave old.start (first ++ old.done) image) where
+    (same : (state_after_orders new after).performed ≡ (state_after_orders old before).performed) (parts : new.pending ≡ later ++ first) (left : OrdersMayLeave old.start (first ++ old.done) image) where
   pub left_some : OrdersLeftSince new.start (all_of new) (length old.done) image
   left_some =
       subst (λ (p : Performed). OrdersLeftSince p.start (new.pending ++ p.done) (length old.done) image) (sym same)

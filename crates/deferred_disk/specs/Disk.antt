@@ -5,7 +5,7 @@ use Rattle.deferred_disk.specs.Bytes.{orders_bytes}
 use Rattle.deferred_disk.specs.Calls.{CallsValue, with_order, reported}
 use Rattle.deferred_disk.specs.KeptFiles.{IsKeptWhole}
 use Rattle.disk_trait.specs.Orders.{OrderValue}
-use Rattle.deferred_disk.specs.State.{ordered}
+use Rattle.deferred_disk.specs.State.{state_after_orders}
 use Rattle.deferred_disk.specs.declared.disk.DeferredDisk.{DeferredDisk}
 
 -- what it was asked
@@ -18,7 +18,7 @@ pending_of disk = disk.past.calls.pending
 
 -- the state of a disk, from the calls that it noted
 abbrev pub state_by_calls : DeferredDisk → State
-state_by_calls disk = ordered disk.past.calls disk.failures
+state_by_calls disk = state_after_orders disk.past.calls disk.failures
 
 -- All bytes of both files are in memory. So it is until the first change and the first report.
 abbrev pub KeepsAll : DeferredDisk → Type 0

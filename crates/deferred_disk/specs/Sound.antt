@@ -5,7 +5,7 @@ use Rattle.disk_trait.specs.declared.half.Half.{Half}
 use Rattle.disk_trait.specs.declared.half.Half.TheVariants.{A, B}
 use Rattle.disk_trait.specs.Orders.{OrderValue, writes, cuts, syncs}
 use Rattle.deferred_disk.specs.Calls.{CallsValue, all_of}
-use Rattle.deferred_disk.specs.State.{AllWriteBytes, OrderBinds, OrdersLeftSince, OrdersMayLeave, PartOfOrder, OrderWritesBytes, ordered, image_after, reads_by, with_file}
+use Rattle.deferred_disk.specs.State.{AllWriteBytes, OrderBinds, OrdersLeftSince, OrdersMayLeave, PartOfOrder, OrderWritesBytes, state_after_orders, image_after, reads_by, with_file}
 
 -- ---- bytes in lists
 
@@ -119,7 +119,7 @@ only_now start [] c left = left.1
 only_now start (order ∷ earlier) c left =
     ⊎_elim (λ before. let le : length (order ∷ earlier) ≤ length earlier = no_later start earlier (length (order ∷ earlier)) c before in absurd (omega (arith, le))) (λ now. now.1) left
 
-pub sound_ordered : (calls : CallsValue) (failures : ℕ) → HoldsBytes calls.start → AllWriteBytes (all_of calls) → IsSoundDisk (ordered calls failures)
+pub sound_ordered : (calls : CallsValue) (failures : ℕ) → HoldsBytes calls.start → AllWriteBytes (all_of calls) → IsSoundDisk (state_after_orders calls failures)
 sound_ordered calls failures holds wrote = record {
   reads_stay = stays calls.start (all_of calls) wrote;
   counts_now = λ t c le left. left_now calls.start (all_of calls) t c le left;

@@ -80,8 +80,8 @@ all_write-prop (order ∷ earlier) = ×_prop (writes-prop order) (all_write-prop
 -- ---- the state
 
 -- The files began with these bytes and nothing pending, and all of these orders were done, whether that was reported yet or not.
-abbrev pub ordered : CallsValue → ℕ → State
-ordered calls failures = record {
+abbrev pub state_after_orders : CallsValue → ℕ → State
+state_after_orders calls failures = record {
   honest = true;
   mixes = false;
   reads = reads_by calls.start (all_of calls);

@@ -5,7 +5,7 @@ ghost use Rattle.disk_trait.specs.Disk.{HoldsBytes};
 ghost use Rattle.deferred_disk.specs.Bytes.{orders_bytes};
 ghost use Rattle.deferred_disk.specs.Calls.{all_of};
 ghost use Rattle.deferred_disk.specs.KeptFiles.{IsKeptOf, IsKeptWhole};
-ghost use Rattle.deferred_disk.specs.State.{AllWriteBytes, all_write-prop, holds-prop, ordered, reads_by};
+ghost use Rattle.deferred_disk.specs.State.{AllWriteBytes, all_write-prop, holds-prop, state_after_orders, reads_by};
 ghost use Rattle.deferred_disk.specs.Sound.{sound_ordered};
 
 use crate::kept::KeptBytes;
@@ -142,7 +142,7 @@ impl Disk for DeferredDisk {
     ghost use Rattle.deferred_disk.specs.Disk.{Asks, KeepsAll, calls_of, state_by_calls};
     ghost use Rattle.disk_trait.specs.Orders.{writes, cuts, syncs};
 
-    ghost state = { λ d. ordered d.past.calls d.failures };
+    ghost state = { λ d. state_after_orders d.past.calls d.failures };
 
     ghost sound = { λ d honest. sound_ordered d.past.calls d.failures d.began d.wrote };
 

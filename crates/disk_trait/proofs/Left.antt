@@ -5,10 +5,10 @@ use Rattle.disk_trait.specs.Disk.{Image, AreBytes, written, Torn, Mixed, Cut}
 use Rattle.disk_trait.specs.Mixes.{merged_mixed, whole_mixed, mixed_torn}
 use Rattle.std.proofs.lemmas.List.{get_or-drop}
 use Rattle.std.proofs.lemmas.Bool.{and_parts}
-use Rattle.disk_trait.specs.Replay.{FileState, settled, after_what, where_same, after_call, after_calls, MayLeave, are_bytes, writes_bytes, began_with_bytes, wrote_bytes}
+use Rattle.disk_trait.specs.Replay.{FileState, settled_file, after_what, where_same, after_call, after_calls, MayLeave, are_bytes, writes_bytes, began_with_bytes, wrote_bytes}
 use Rattle.disk_trait.specs.ReplayBytes.{LeavesBytes, bytes_tested, bytes_what, bytes_where, settled_bytes}
 use Rattle.disk_trait.specs.ReplayLaws.{Stays, stay, stay_what, stay_where, whole_cut}
-use Rattle.disk_trait.specs.Crash.{FillsBytes, scattered, torn_after, mixed_after, cut_after, bytes_left_after, on_same, swept, left_by}
+use Rattle.disk_trait.specs.Crash.{FillsBytes, scattered_bytes, torn_after, mixed_after, cut_after, bytes_left_after, on_same, left_by_calls, left_by}
 use Rattle.disk_trait.specs.declared.call.Call.{Call}
 use Rattle.disk_trait.specs.declared.call.What.{What}
 use Rattle.disk_trait.specs.declared.call.What.TheVariants.{Looked, Wrote, WroteMixing, Shortened, Synced}
@@ -46,8 +46,8 @@ filled_cut len byte left small = record {
   no_longer = omega (arith, length-append (take len left) (replicate (length left - len) byte), length-take len left, length-replicate (length left - len) byte);
 }
 
-scattered_long : (share place : ℕ) (bytes old : List ℕ) → length (scattered share place bytes old) ≡ length bytes
-unfolding scattered
+scattered_long : (share place : ℕ) (bytes old : List ℕ) → length (scattered_bytes share place bytes old) ≡ length bytes
+unfolding scattered_bytes
 scattered_long share place [] old = refl
 scattered_long share place (b ∷ bs) old = ap suc (scattered_long share (suc place) bs old)
 
@@ -55,20 +55,20 @@ one_or_other : (is_new : Bool) (new old : ℕ) → ((if is_new then new else old
 one_or_other true new old = inl refl
 one_or_other false new old = inr refl
 
-scattered_each : (share place : ℕ) (bytes old : List ℕ) (i : ℕ) → i < length (scattered share place bytes old)
-    → (get_or (scattered share place bytes old) i 0 ≡ get_or bytes i 0) ⊎ (get_or (scattered share place bytes old) i 0 ≡ get_or old (place + i) 0)
-unfolding scattered
+scattered_each : (share place : ℕ) (bytes old : List ℕ) (i : ℕ) → i < length (scattered_bytes share place bytes old)
+    → (get_or (scattered_bytes share place bytes old) i 0 ≡ get_or bytes i 0) ⊎ (get_or (scattered_bytes share place bytes old) i 0 ≡ get_or old (place + i) 0)
+unfolding scattered_bytes
 scattered_each share place [] old i within = absurd (omega (arith, within))
 scattered_each share place (b ∷ bs) old zero within =
     subst (λ (n : ℕ). ((if nat_lt (place % 256 * 37 % 256) share then b else get_or old place 0) ≡ b) ⊎ ((if nat_lt (place % 256 * 37 % 256) share then b else get_or old place 0) ≡ get_or old n 0))
     (omega arith) (one_or_other (nat_lt (place % 256 * 37 % 256) share) b (get_or old place 0))
 scattered_each share place (b ∷ bs) old (suc i) within =
-    subst (λ (n : ℕ). (get_or (scattered share (suc place) bs old) i 0 ≡ get_or bs i 0) ⊎ (get_or (scattered share (suc place) bs old) i 0 ≡ get_or old n 0))
+    subst (λ (n : ℕ). (get_or (scattered_bytes share (suc place) bs old) i 0 ≡ get_or bs i 0) ⊎ (get_or (scattered_bytes share (suc place) bs old) i 0 ≡ get_or old n 0))
     (omega arith) (scattered_each share (suc place) bs old i (omega (arith, within)))
 
-scattered_mixed : (share at : ℕ) (bytes left : List ℕ) → Mixed at bytes left (written at (scattered share 0 bytes (drop at left)) left)
+scattered_mixed : (share at : ℕ) (bytes left : List ℕ) → Mixed at bytes left (written at (scattered_bytes share 0 bytes (drop at left)) left)
 scattered_mixed share at bytes left =
-    let some = scattered share 0 bytes (drop at left) in
+    let some = scattered_bytes share 0 bytes (drop at left) in
     merged_mixed at bytes some left (scattered_long share 0 bytes (drop at left)) (λ i within.
     subst (λ (x : ℕ). (get_or some i 0 ≡ get_or bytes i 0) ⊎ (get_or some i 0 ≡ x)) (get_or-drop at left (0 + i) 0 ∙ ap (λ (n : ℕ). get_or left n 0) (omega arith)) (scattered_each share 0 bytes (drop at left) i within))
 
@@ -112,22 +112,22 @@ reads_where B A p q = refl
 reads_where B B p q = refl
 
 swept_left : (kind : Crash) (half : Half) (calls : List Call) (p : FileState) (left : List ℕ) → FillsBytes kind → IsTrue (wrote_bytes calls) → LeavesBytes p → Stays p → p.may_leave left
-    → (after_calls half calls p).may_leave (swept kind half calls p.reads left)
+    → (after_calls half calls p).may_leave (left_by_calls kind half calls p.reads left)
 swept_left kind half [] p left small wrote leaves stays may = may
 swept_left kind half (call ∷ calls) p left small wrote leaves stays may =
     let parts = and_parts (writes_bytes call.what) (wrote_bytes calls) wrote in
     let next = after_call half call p in
     let next_left = on_same half call.half (bytes_left_after kind call.what p.reads left) left in
-    subst (λ (file : List ℕ). (after_calls half calls next).may_leave (swept kind half calls file next_left)) (reads_where half call.half (after_what call.what p) p)
+    subst (λ (file : List ℕ). (after_calls half calls next).may_leave (left_by_calls kind half calls file next_left)) (reads_where half call.half (after_what call.what p) p)
     (swept_left kind half calls next next_left small parts.1 (bytes_where half call.half (after_what call.what p) p (bytes_what call.what p parts.0 leaves) leaves)
     (stay_where half call.half (after_what call.what p) p (stay_what call.what p stays) stays)
     (left_where half call.half (after_what call.what p) p (bytes_left_after kind call.what p.reads left) left (left_what kind call.what p left small parts.0 (leaves left may) stays may) may))
 
-left_by_may : (kind : Crash) (half : Half) (calls : List Call) (start : List ℕ) → FillsBytes kind → IsTrue (wrote_bytes calls) → AreBytes start → (after_calls half calls (settled start)).may_leave (left_by kind half calls start)
-left_by_may Kept half calls start small wrote are = stay half calls (settled start) refl
-left_by_may Lost half calls start small wrote are = swept_left Lost half calls (settled start) start tt wrote (settled_bytes start are) refl refl
-left_by_may (Filled byte) half calls start small wrote are = swept_left (Filled byte) half calls (settled start) start small wrote (settled_bytes start are) refl refl
-left_by_may (Scattered share) half calls start small wrote are = swept_left (Scattered share) half calls (settled start) start tt wrote (settled_bytes start are) refl refl
+left_by_may : (kind : Crash) (half : Half) (calls : List Call) (start : List ℕ) → FillsBytes kind → IsTrue (wrote_bytes calls) → AreBytes start → (after_calls half calls (settled_file start)).may_leave (left_by kind half calls start)
+left_by_may Kept half calls start small wrote are = stay half calls (settled_file start) refl
+left_by_may Lost half calls start small wrote are = swept_left Lost half calls (settled_file start) start tt wrote (settled_bytes start are) refl refl
+left_by_may (Filled byte) half calls start small wrote are = swept_left (Filled byte) half calls (settled_file start) start small wrote (settled_bytes start are) refl refl
+left_by_may (Scattered share) half calls start small wrote are = swept_left (Scattered share) half calls (settled_file start) start tt wrote (settled_bytes start are) refl refl
 
 pub image_may : (kind : Crash) (start : Image) (calls : List Call) (c : Image) → FillsBytes kind → IsTrue (began_with_bytes start) → IsTrue (wrote_bytes calls) → c ≡ record { a = left_by kind A calls start.a; b = left_by kind B calls start.b } → MayLeave start calls c
 image_may kind start calls c small began wrote is =

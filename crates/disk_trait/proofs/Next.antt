@@ -3,7 +3,7 @@ use Rattle.std.proofs.Common.{◌≡◌, ◌⊎◌, inl, inr, ⊎_elim, ℕ, Boo
 use Rattle.std.proofs.lemmas.List.{take_all, take-append-le}
 use Rattle.std.proofs.lemmas.Bool.{cases_lt}
 use Rattle.disk_trait.specs.Disk.{Image, other_of, OnHalf, Partly, Elapses}
-use Rattle.disk_trait.specs.Replay.{FileState, PartOf, settled, after_what, where_same, after_call, after_calls, MayLeave, LeftSince, state_after_calls, FollowsOneCall}
+use Rattle.disk_trait.specs.Replay.{FileState, PartOf, settled_file, after_what, where_same, after_call, after_calls, MayLeave, LeftSince, state_after_calls, FollowsOneCall}
 use Rattle.disk_trait.specs.declared.call.Call.{Call}
 use Rattle.disk_trait.specs.declared.call.What.{What}
 use Rattle.disk_trait.specs.declared.half.Half.{Half}
@@ -59,34 +59,34 @@ beside half d c (inr step) = step.other
 
 next : (mixes : Bool) (start : Image) (calls : List Call) (half : Half) (what : What) (failures later_failures : ℕ) → FollowsOneCall half what (state_after_calls mixes start calls failures) (state_after_calls mixes start (calls ++ one half what) later_failures)
 next mixes start calls A what failures later_failures = record {
-  changed = reads-push A A what calls (settled start.a);
-  other = reads-push B A what calls (settled start.b);
-  crash = λ c left. from c (left-push A A what calls (settled start.a) c.a left.0) (left-push B A what calls (settled start.b) c.b left.1);
-  binds = λ c left. (left-push A A what calls (settled start.a) c.a left.0).1;
+  changed = reads-push A A what calls (settled_file start.a);
+  other = reads-push B A what calls (settled_file start.b);
+  crash = λ c left. from c (left-push A A what calls (settled_file start.a) c.a left.0) (left-push B A what calls (settled_file start.b) c.b left.1);
+  binds = λ c left. (left-push A A what calls (settled_file start.a) c.a left.0).1;
   allows = λ d c left step binds. (
-    left-pull A A what calls (settled start.a) c.a ((d.a, left.0, ⊎_elim (λ same. inl (ap (λ (i : Image). i.a) same)) (λ part. inr part.changed) step), binds),
-    left-pull B A what calls (settled start.b) c.b (subst (λ (l : List ℕ). (after_calls B calls (settled start.b)).may_leave l) (sym (beside A d c step)) left.1),
+    left-pull A A what calls (settled_file start.a) c.a ((d.a, left.0, ⊎_elim (λ same. inl (ap (λ (i : Image). i.a) same)) (λ part. inr part.changed) step), binds),
+    left-pull B A what calls (settled_file start.b) c.b (subst (λ (l : List ℕ). (after_calls B calls (settled_file start.b)).may_leave l) (sym (beside A d c step)) left.1),
   );
   time = elapses_push mixes start calls (record { half = A; what = what }) failures later_failures;
 }
   where
-    from : (c : Image) → (after_what what (after_calls A calls (settled start.a))).may_leave c.a → (after_calls B calls (settled start.b)).may_leave c.b → (d : Image) × MayLeave start calls d × Partly (OnHalf A (PartOf what)) d c
+    from : (c : Image) → (after_what what (after_calls A calls (settled_file start.a))).may_leave c.a → (after_calls B calls (settled_file start.b)).may_leave c.b → (d : Image) × MayLeave start calls d × Partly (OnHalf A (PartOf what)) d c
     from c left other =
         let d : Image = record { a = left.0.0; b = c.b } in
         (d, (left.0.1, other), ⊎_elim (λ same. inl (ap (λ (x : List ℕ). let i : Image = record { a = x; b = c.b } in i) same)) (λ part. inr (record { changed = part; other = refl })) left.0.2)
 next mixes start calls B what failures later_failures = record {
-  changed = reads-push B B what calls (settled start.b);
-  other = reads-push A B what calls (settled start.a);
-  crash = λ c left. from c (left-push A B what calls (settled start.a) c.a left.0) (left-push B B what calls (settled start.b) c.b left.1);
-  binds = λ c left. (left-push B B what calls (settled start.b) c.b left.1).1;
+  changed = reads-push B B what calls (settled_file start.b);
+  other = reads-push A B what calls (settled_file start.a);
+  crash = λ c left. from c (left-push A B what calls (settled_file start.a) c.a left.0) (left-push B B what calls (settled_file start.b) c.b left.1);
+  binds = λ c left. (left-push B B what calls (settled_file start.b) c.b left.1).1;
   allows = λ d c left step binds. (
-    left-pull A B what calls (settled start.a) c.a (subst (λ (l : List ℕ). (after_calls A calls (settled start.a)).may_leave l) (sym (beside B d c step)) left.0),
-    left-pull B B what calls (settled start.b) c.b ((d.b, left.1, ⊎_elim (λ same. inl (ap (λ (i : Image). i.b) same)) (λ part. inr part.changed) step), binds),
+    left-pull A B what calls (settled_file start.a) c.a (subst (λ (l : List ℕ). (after_calls A calls (settled_file start.a)).may_leave l) (sym (beside B d c step)) left.0),
+    left-pull B B what calls (settled_file start.b) c.b ((d.b, left.1, ⊎_elim (λ same. inl (ap (λ (i : Image). i.b) same)) (λ part. inr part.changed) step), binds),
   );
   time = elapses_push mixes start calls (record { half = B; what = what }) failures later_failures;
 }
   where
-    from : (c : Image) → (after_calls A calls (settled start.a)).may_leave c.a → (after_what what (after_calls B calls (settled start.b))).may_leave c.b → (d : Image) × MayLeave start calls d × Partly (OnHalf B (PartOf what)) d c
+    from : (c : Image) → (after_calls A calls (settled_file start.a)).may_leave c.a → (after_what what (after_calls B calls (settled_file start.b))).may_leave c.b → (d : Image) × MayLeave start calls d × Partly (OnHalf B (PartOf what)) d c
     from c other left =
         let d : Image = record { a = c.a; b = left.0.0 } in
         (d, (other, left.0.1), ⊎_elim (λ same. inl (ap (λ (x : List ℕ). let i : Image = record { a = c.a; b = x } in i) same)) (λ part. inr (record { changed = part; other = refl })) left.0.2)

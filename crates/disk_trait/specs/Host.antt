@@ -5,8 +5,8 @@ use Rattle.std.specs.declared.fs.File.{File}
 use Rattle.disk_trait.specs.Disk.{State, IsHonest, IsSoundDisk, at_once}
 
 -- a disk of which nothing is claimed, but how often it failed
-abbrev pub unclaimed : Bool → ℕ → State
-unclaimed mixes failures = record {
+abbrev pub disk_without_claims : Bool → ℕ → State
+disk_without_claims mixes failures = record {
   honest = false;
   mixes = mixes;
   reads = record { a = []; b = [] };
@@ -18,7 +18,7 @@ unclaimed mixes failures = record {
 }
 
 -- a disk of which nothing is claimed is sound
-pub sound_unclaimed : (mixes : Bool) (failures : ℕ) → IsHonest (unclaimed mixes failures) → IsSoundDisk (unclaimed mixes failures)
+pub sound_unclaimed : (mixes : Bool) (failures : ℕ) → IsHonest (disk_without_claims mixes failures) → IsSoundDisk (disk_without_claims mixes failures)
 sound_unclaimed mixes failures honest = absurd (cc)
 
 -- The file's descriptor is none of the three standard streams: 0, 1 and 2.

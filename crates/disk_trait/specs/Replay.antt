@@ -14,8 +14,8 @@ pub record FileState : Type 1 where
   pub may_leave : List ℕ → Type 0
 
 -- nothing is pending
-abbrev pub settled : List ℕ → FileState
-settled file = record { reads = file; may_leave = λ c. c ≡ file }
+abbrev pub settled_file : List ℕ → FileState
+settled_file file = record { reads = file; may_leave = λ c. c ≡ file }
 
 -- what a read gives after the call
 abbrev pub reads_after : What → List ℕ → List ℕ
@@ -67,7 +67,7 @@ after_calls half (call ∷ calls) before = after_calls half calls (after_call ha
 
 -- what a crash after these calls may leave
 abbrev pub MayLeave : Image → List Call → Image → Type 0
-MayLeave start calls c = (after_calls A calls (settled start.a)).may_leave c.a × (after_calls B calls (settled start.b)).may_leave c.b
+MayLeave start calls c = (after_calls A calls (settled_file start.a)).may_leave c.a × (after_calls B calls (settled_file start.b)).may_leave c.b
 
 -- each of these numbers is a byte
 abbrev pub are_bytes : List ℕ → Bool
@@ -102,8 +102,8 @@ state_after_calls mixes start calls failures = record {
   honest = true;
   mixes = mixes;
   reads = record {
-    a = (after_calls A calls (settled start.a)).reads;
-    b = (after_calls B calls (settled start.b)).reads;
+    a = (after_calls A calls (settled_file start.a)).reads;
+    b = (after_calls B calls (settled_file start.b)).reads;
   };
   may_leave = MayLeave start calls;
   moment = length calls;

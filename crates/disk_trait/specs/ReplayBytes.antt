@@ -4,7 +4,7 @@ use Rattle.std.specs.Prelude.{nat_lt}
 use Rattle.std.proofs.lemmas.Bool.{and_parts, and_from, ltb-true, lt-ltb}
 use Rattle.disk_trait.specs.Disk.{Image, AreBytes, HoldsBytes, Torn, Cut}
 use Rattle.disk_trait.specs.Mixes.{mixed_torn}
-use Rattle.disk_trait.specs.Replay.{FileState, PartOf, settled, after_what, where_same, after_call, after_calls, LeftSince, are_bytes, writes_bytes, began_with_bytes, wrote_bytes}
+use Rattle.disk_trait.specs.Replay.{FileState, PartOf, settled_file, after_what, where_same, after_call, after_calls, LeftSince, are_bytes, writes_bytes, began_with_bytes, wrote_bytes}
 use Rattle.disk_trait.specs.declared.call.Call.{Call}
 use Rattle.disk_trait.specs.declared.call.What.{What}
 use Rattle.disk_trait.specs.declared.call.What.TheVariants.{Looked, Wrote, WroteMixing, Shortened, Synced}
@@ -95,13 +95,13 @@ wrote_taken (suc n) (call ∷ calls) wrote =
     let parts = and_parts (writes_bytes call.what) (wrote_bytes calls) wrote in
     and_from (writes_bytes call.what) (wrote_bytes (take n calls)) parts.0 (wrote_taken n calls parts.1)
 
-pub settled_bytes : (file : List ℕ) → AreBytes file → LeavesBytes (settled file)
+pub settled_bytes : (file : List ℕ) → AreBytes file → LeavesBytes (settled_file file)
 settled_bytes file are c left = subst AreBytes (sym left) are
 
 pub left_bytes : (start : Image) (calls : List Call) (t : ℕ) (c : Image) → IsTrue (began_with_bytes start) → IsTrue (wrote_bytes calls) → LeftSince start calls t c → HoldsBytes c
 left_bytes start calls t c began wrote left =
     let parts = and_parts (are_bytes start.a) (are_bytes start.b) began in
     let taken = wrote_taken left.moment calls wrote in (
-      bytes_calls A (take left.moment calls) (settled start.a) taken (settled_bytes start.a (bytes_tested start.a parts.0)) c.a left.left.0,
-      bytes_calls B (take left.moment calls) (settled start.b) taken (settled_bytes start.b (bytes_tested start.b parts.1)) c.b left.left.1,
+      bytes_calls A (take left.moment calls) (settled_file start.a) taken (settled_bytes start.a (bytes_tested start.a parts.0)) c.a left.left.0,
+      bytes_calls B (take left.moment calls) (settled_file start.b) taken (settled_bytes start.b (bytes_tested start.b parts.1)) c.b left.left.1,
     )

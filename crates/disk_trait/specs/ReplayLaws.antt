@@ -3,7 +3,7 @@ use Rattle.std.proofs.Common.{inl, inr, ℕ, Bool, IsTrue, List, [], ◌∷◌, 
 use Rattle.std.proofs.lemmas.List.{take_all}
 use Rattle.disk_trait.specs.Disk.{Image, Cut, IsSoundDisk}
 use Rattle.disk_trait.specs.Mixes.{whole_mixed}
-use Rattle.disk_trait.specs.Replay.{FileState, settled, after_what, where_same, after_call, after_calls, MayLeave, state_after_calls, began_with_bytes, wrote_bytes}
+use Rattle.disk_trait.specs.Replay.{FileState, settled_file, after_what, where_same, after_call, after_calls, MayLeave, state_after_calls, began_with_bytes, wrote_bytes}
 use Rattle.disk_trait.specs.ReplayBytes.{left_bytes}
 use Rattle.disk_trait.specs.declared.call.Call.{Call}
 use Rattle.disk_trait.specs.declared.call.What.{What}
@@ -38,7 +38,7 @@ stay half (call ∷ calls) p stays = stay half calls (after_call half call p) (s
 -- a disk whose state is told from its calls is sound
 pub sound_told : (mixes : Bool) (start : Image) (calls : List Call) (failures : ℕ) → IsTrue (began_with_bytes start) → IsTrue (wrote_bytes calls) → IsSoundDisk (state_after_calls mixes start calls failures)
 sound_told mixes start calls failures began wrote = record {
-  reads_stay = (stay A calls (settled start.a) refl, stay B calls (settled start.b) refl);
+  reads_stay = (stay A calls (settled_file start.a) refl, stay B calls (settled_file start.b) refl);
   counts_now = λ t c le left. record {
     moment = length calls;
     not_before = le;

@@ -2,7 +2,7 @@
 ghost use Rattle.std.specs.Prelude.{◌≡◌, ◌+◌, ◌-◌, ◌<◌, ◌++◌, ◌*◌, ◌%◌, length, take, drop, replicate, get_or, nat_lt, if◌then◌else◌, IfOk};
 ghost use Rattle.disk_trait.specs.Disk.{written};
 ghost use Rattle.disk_trait.specs.Replay.{reads_after};
-ghost use Rattle.disk_trait.specs.Crash.{cut_after, bytes_left_after, mixed_after, scattered, swept, torn_after};
+ghost use Rattle.disk_trait.specs.Crash.{cut_after, bytes_left_after, mixed_after, scattered_bytes, left_by_calls, torn_after};
 
 use crate::Half;
 use crate::call::{Call, What};
@@ -71,7 +71,7 @@ fn mixed_byte(share: u8, place: usize, byte: u8, file: &[u8]) -> u8
 
 // The bytes of a write at the end of `file` without its front, so many in 256 of them new.
 fn merged(alloc: Global, share: u8, bytes: &[u8], file: &[u8]) -> Result<Vec<u8>, AllocError>
-    ensures { IfOk result (λ next. next.items ≡ scattered share 0 bytes.now file.now) }
+    ensures { IfOk result (λ next. next.items ≡ scattered_bytes share 0 bytes.now file.now) }
 {
     let mut next = Vec::with_capacity(alloc, bytes.len())?;
     let mut place = 0usize;
@@ -91,7 +91,7 @@ fn written_in_part(
     left: &[u8],
 ) -> Result<Vec<u8>, AllocError>
     ensures { IfOk result (λ next. next.items
-        ≡ written at (scattered share 0 bytes.now (drop at left.now)) left.now) }
+        ≡ written at (scattered_bytes share 0 bytes.now (drop at left.now)) left.now) }
 {
     let behind = &left[(at as usize).min(left.len())..];
     let some = merged(alloc, share, bytes, behind)?;
@@ -191,7 +191,7 @@ pub(crate) fn left_of(
     half: Half,
     kind: Crash,
 ) -> Result<Vec<u8>, AllocError>
-    ensures { IfOk result (λ left. left.items ≡ swept kind half calls.now start.now start.now) }
+    ensures { IfOk result (λ left. left.items ≡ left_by_calls kind half calls.now start.now start.now) }
 {
     let mut file = start.to_vec(alloc)?;
     let mut left = start.to_vec(alloc)?;

@@ -13,7 +13,7 @@ use Rattle.lisp_operators.specs.declared.evaluated.Evaluated.{Evaluated}
 use Rattle.lisp_operators.specs.Kinds.{is_true}
 use Rattle.lisp_operators.specs.Evaluation.{gives, also, and_then}
 use Rattle.evaluator.specs.Value.{value, choice, other_value, value_over}
-use Rattle.lisp_operators.specs.Evaluated.{Answers, done}
+use Rattle.lisp_operators.specs.EvaluationAnswers.{Answers, done}
 use Rattle.evaluator.specs.ArgumentValues.{arguments_of}
 use Rattle.evaluator.specs.declared.wanted.Wanted.{Wanted}
 use Rattle.evaluator.specs.declared.wanted.Wanted.TheVariants.{Truth}

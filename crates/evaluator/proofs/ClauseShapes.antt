@@ -12,7 +12,7 @@ use Rattle.lisp_object.proofs.Objects.{object_of-List}
 use Rattle.lisp_object.proofs.ProperLists.{items_of_proper, proper_pairs}
 use Rattle.lisp_operators.proofs.Shapes.{dotted_pair}
 use Rattle.package_table.specs.Table.{Table}
-use Rattle.lisp_operators.specs.Evaluated.{IsArgument}
+use Rattle.lisp_operators.specs.EvaluationAnswers.{IsArgument}
 use Rattle.std.specs.Borrow.{Bor}
 use Rattle.evaluator.specs.Value.{is_clause, are_clauses}
 use Rattle.evaluator.specs.ArgumentValues.{IsClause}

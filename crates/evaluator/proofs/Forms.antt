@@ -35,9 +35,9 @@ use Rattle.value_functions.specs.Functions.{most_arguments, function_value, if_l
 use Rattle.evaluator.specs.Value.{value, values, values_at_place, values_before_place, symbol_value, action_value, unless, has_default, is_base_place, is_case_place, value_over}
 use Rattle.evaluator.specs.declared.place.PlaceForm.TheVariants.{Property, PropertyOr, Case, ReadBase}
 use Rattle.evaluator.specs.Operations.{action_of, is_ordinary, set_at, has_default_at, function_of_operation}
-use Rattle.lisp_operators.specs.Evaluated.{Answers, done}
+use Rattle.lisp_operators.specs.EvaluationAnswers.{Answers, done}
 use Rattle.evaluator.specs.ArgumentValues.{all_done}
-use Rattle.evaluator.specs.ArgumentValues.{arguments_of, parts, followed, subforms, gathered, refusal_of_place, list_place, place_form_of, IsOperatorHead}
+use Rattle.evaluator.specs.ArgumentValues.{arguments_of, parts, values_after, subforms, gathered, refusal_of_place, list_place, place_form_of, IsOperatorHead}
 use Rattle.evaluator.specs.ArgumentValues.{operation_value}
 use Rattle.evaluator.specs.declared.place.PlaceForm.{PlaceForm}
 use Rattle.evaluator.specs.declared.wanted.Wanted.{Wanted}
@@ -172,19 +172,19 @@ arguments_from (x ∷ xs) = refl
 
 -- the values of all arguments, after none
 pub gathered_from_none : (names : List Name) (s t : WorldState) (operation : Operation) (items vs : List Datum) (w : Bool) (r : Result Values EvaluationError) → (operation ≡ Setf → ⊥) → (operation ≡ Incf → ⊥) → (operation ≡ Push → ⊥) → ((operator : PlaceChange) → operation ≡ Changes operator → ⊥) → vs ≡ [] → w ≡ false
-    → Answers all_done r t (followed names (map object_of vs) w s (list_of (map object_of (drop 1 items)))) → Answers all_done r t (gathered names s operation (arguments_of (map object_of items)))
+    → Answers all_done r t (values_after names (map object_of vs) w s (list_of (map object_of (drop 1 items)))) → Answers all_done r t (gathered names s operation (arguments_of (map object_of items)))
 gathered_from_none names s t operation items vs w r setf incf push changes none not_written h =
     let forms = list_of (map object_of (drop 1 items)) in
     subst (Answers all_done r t)
-    (ap (λ l. followed names (map object_of l) w s forms) none ∙ ap (λ b. followed names [] b s forms) not_written ∙ followed_start names s forms
+    (ap (λ l. values_after names (map object_of l) w s forms) none ∙ ap (λ b. values_after names [] b s forms) not_written ∙ followed_start names s forms
     ∙ ap (values names s) (sym (arguments_from items)) ∙ sym (gathered_in_order names s operation (arguments_of (map object_of items)) setf incf push changes)) h
 
 -- one value more, after those of data
-pub followed_more : (names : List Name) (xs ys : List Datum) (w both : Bool) (s t : WorldState) (forms : List Datum) (i : ℕ) (f : Datum) (e : Evaluated) (o : Evaluation (List Object)) → o ≡ followed names (map object_of xs) w s (list_of (map object_of (drop i forms)))
-    → i < length forms → f ≡ get_or forms i f → seen Value (value names s (object_of f)) ≡ Ok (done e t) → ys ≡ xs ++ e.value ∷ [] → both ≡ (w || e.wrote) → o ≡ followed names (map object_of ys) both t (list_of (map object_of (drop (i + 1) forms)))
+pub followed_more : (names : List Name) (xs ys : List Datum) (w both : Bool) (s t : WorldState) (forms : List Datum) (i : ℕ) (f : Datum) (e : Evaluated) (o : Evaluation (List Object)) → o ≡ values_after names (map object_of xs) w s (list_of (map object_of (drop i forms)))
+    → i < length forms → f ≡ get_or forms i f → seen Value (value names s (object_of f)) ≡ Ok (done e t) → ys ≡ xs ++ e.value ∷ [] → both ≡ (w || e.wrote) → o ≡ values_after names (map object_of ys) both t (list_of (map object_of (drop (i + 1) forms)))
 followed_more names xs ys w both s t forms i f e o before within is h more told =
     followed_both names (map object_of xs) w e.wrote both s t forms i f (object_of e.value) o before within is (sym (seen_value (value names s (object_of f))) ∙ h) told
-    ∙ ap (λ zs. followed names zs both t (list_of (map object_of (drop (i + 1) forms)))) (sym (ap (map object_of) more ∙ map-append object_of xs (e.value ∷ [])))
+    ∙ ap (λ zs. values_after names zs both t (list_of (map object_of (drop (i + 1) forms)))) (sym (ap (map object_of) more ∙ map-append object_of xs (e.value ∷ [])))
 
 -- the first of the arguments, and the first two
 pub one_argument : (items : List Datum) (x : Datum) → 2 ≤ length items → x ≡ get_or items 1 x → arguments_of (map object_of items) ≡ pair (object_of x) (list_of (map object_of (drop 2 items)))
@@ -222,7 +222,7 @@ place_first names s t u items x vs w (Refused code) some is none nothing h =
 place_first names s t u items x vs w OutOfMemory some is none nothing h = tt
 
 pub place_given : (names : List Name) (s t u : WorldState) (items : List Datum) (x : Datum) (vs : List Datum) (w : Bool) (v : Values) (r : Result Values EvaluationError) → 2 ≤ length items → x ≡ get_or items 1 x → vs ≡ [] → w ≡ false
-    → subforms names (map object_of vs) w s (object_of x) ≡ Ok (all_done v t) → Answers all_done r u (followed names (map object_of v.values.items) v.wrote t (list_of (map object_of (drop 2 items))))
+    → subforms names (map object_of vs) w s (object_of x) ≡ Ok (all_done v t) → Answers all_done r u (values_after names (map object_of v.values.items) v.wrote t (list_of (map object_of (drop 2 items))))
     → Answers all_done r u (values_at_place names s (arguments_of (map object_of items)))
 place_given names s t u items x vs w v r some is none nothing h after =
     subst (Answers all_done r u)
@@ -316,15 +316,15 @@ values_of_pairs names s (x ∷ xs) end other = and_then_same (value names s x) _
     and_then_same (Err code) f g same = refl
 
 pub subforms_given : (names : List Name) (s t : WorldState) (d : Datum) (items xs : List Datum) (tail : Option Datum) (vs : List Object) (w : Bool) (r : Result Values EvaluationError) → d ≡ Datum.List items tail → is_proper d ≡ true → xs ≡ items
-    → Answers all_done r t (followed names vs w s (list_of (map object_of (drop 1 xs)))) → Answers all_done r t (subforms names vs w s (object_of d))
+    → Answers all_done r t (values_after names vs w s (list_of (map object_of (drop 1 xs)))) → Answers all_done r t (subforms names vs w s (object_of d))
 subforms_given names s t d [] xs tail vs w r is proper same h = absurd (omega (arith, (items_of_proper [] tail (ap is_proper (sym is) ∙ proper)).0))
 subforms_given names s t d (y ∷ ys) xs None vs w r is proper same h =
-    subst (Answers all_done r t) (ap (λ l. followed names vs w s (list_of (map object_of (drop 1 l)))) same ∙ sym (ap (subforms names vs w s) (ap object_of is ∙ object_of-List (y ∷ ys)))) h
+    subst (Answers all_done r t) (ap (λ l. values_after names vs w s (list_of (map object_of (drop 1 l)))) same ∙ sym (ap (subforms names vs w s) (ap object_of is ∙ object_of-List (y ∷ ys)))) h
 subforms_given names s t d (y ∷ ys) xs (Some end) vs w r is proper same h =
     let last : (is_proper end && not (is_list end)) ≡ true = tail_of_proper (y ∷ ys) (Some end) (ap is_proper (sym is) ∙ proper) in
     let both = and_parts (is_proper end) (not (is_list end)) last in
     subst (Answers all_done r t)
-    (ap (λ l. followed names vs w s (list_of (map object_of (drop 1 l)))) same
+    (ap (λ l. values_after names vs w s (list_of (map object_of (drop 1 l)))) same
     ∙ ap (λ o. also w (and_then o (λ zs end'. gives (vs ++ zs) end'))) (sym (values_of_pairs names s (map object_of ys) (object_of end) (no_list_object end both.0 (not_true (is_list end) both.1))))
     ∙ sym (ap (subforms names vs w s) (ap object_of is ∙ object_of-dotted (y ∷ ys) end))) h
   where

@@ -3,7 +3,7 @@
 use Rattle.std.proofs.Common.{◌≡◌, true, false, [], ◌∷◌, map, negsuc, codes, Some, None, Ok, Err, refl}
 use Rattle.std.specs.FinMap as finite
 use Rattle.lisp_object.specs.Object.{integer, text, symbol, pair, nil, list_of}
-use Rattle.package_table.specs.Lookup.{found}
+use Rattle.package_table.specs.Lookup.{home_by_name}
 use Rattle.package_table.specs.Readers.{package_names}
 use Rattle.plist_state.specs.State.{WorldState}
 use Rattle.plist_state.specs.Changes.{property, with_property}
@@ -54,11 +54,11 @@ module _ (s : WorldState) where
 
   -- ---- looking up
   module _ (p : finite.contains_key s.packages (codes "P") ≡ true) where
-    symbol_found : found s.packages (codes "P") (codes "Q") ≡ Some (codes "R") → value [] s (own_call (codes "FIND-SYMBOL") (text (codes "Q") ∷ text (codes "P") ∷ [])) ≡ gives (symbol (codes "R") (codes "Q")) s
+    symbol_found : home_by_name s.packages (codes "P") (codes "Q") ≡ Some (codes "R") → value [] s (own_call (codes "FIND-SYMBOL") (text (codes "Q") ∷ text (codes "P") ∷ [])) ≡ gives (symbol (codes "R") (codes "Q")) s
     unfolding value_over function_named
     symbol_found home = rw (p, home) refl
 
-    no_symbol : found s.packages (codes "P") (codes "Q") ≡ None → value [] s (own_call (codes "FIND-SYMBOL") (text (codes "Q") ∷ text (codes "P") ∷ [])) ≡ gives nil s
+    no_symbol : home_by_name s.packages (codes "P") (codes "Q") ≡ None → value [] s (own_call (codes "FIND-SYMBOL") (text (codes "Q") ∷ text (codes "P") ∷ [])) ≡ gives nil s
     unfolding value_over function_named
     no_symbol none = rw (p, none) refl
 

@@ -22,7 +22,7 @@ use Rattle.plist_state.specs.State.{WorldState}
 use Rattle.plist_state.specs.Changes.{property, with_property}
 use Rattle.plist_state.specs.Sound.{IsSymbol, IsValue}
 use Rattle.lisp_operators.specs.Evaluation.{gives, writes}
-use Rattle.lisp_operators.specs.Evaluated.{IsProper, AreProper, object_of_symbol}
+use Rattle.lisp_operators.specs.EvaluationAnswers.{IsProper, AreProper, object_of_symbol}
 use Rattle.lisp_operators.proofs.Storable.{value_parts, symbol_kind}
 use Rattle.evaluator.specs.declared.operation.Operation.TheVariants.{Get, Setf}
 use Rattle.evaluator.specs.Value.{value, value_over}

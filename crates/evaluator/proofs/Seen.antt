@@ -13,7 +13,7 @@ use Rattle.plist_state.specs.State.{WorldState}
 use Rattle.lisp_operators.specs.declared.error.EvaluationError.{EvaluationError}
 use Rattle.lisp_operators.specs.declared.error.EvaluationError.TheVariants.{Refused, OutOfMemory}
 use Rattle.lisp_operators.specs.declared.evaluated.Evaluated.{Evaluated}
-use Rattle.lisp_operators.specs.Evaluated.{Answers, done}
+use Rattle.lisp_operators.specs.EvaluationAnswers.{Answers, done}
 use Rattle.lisp_operators.specs.Readtables.{AreFunctionNames}
 use Rattle.lisp_operators.specs.Evaluation.{Done, Evaluation, also}
 use Rattle.lisp_operators.specs.Effects.{IsTruth, Leaves, effect}

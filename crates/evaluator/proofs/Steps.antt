@@ -25,9 +25,9 @@ use Rattle.lisp_operators.specs.declared.error.EvaluationError.TheVariants.{Refu
 use Rattle.lisp_operators.specs.Evaluation.{Done, Evaluation, gives, also, and_then}
 use Rattle.evaluator.specs.Value.{value, values, symbol_value, value_over}
 use Rattle.lisp_operators.specs.Readtables.{AreFunctionNames}
-use Rattle.lisp_operators.specs.Evaluated.{IsArgument, Answers, done}
+use Rattle.lisp_operators.specs.EvaluationAnswers.{IsArgument, Answers, done}
 use Rattle.evaluator.specs.ArgumentValues.{all_done}
-use Rattle.evaluator.specs.ArgumentValues.{followed}
+use Rattle.evaluator.specs.ArgumentValues.{values_after}
 use Rattle.lisp_operators.proofs.Good.{Goods, IsGood}
 use Rattle.lisp_operators.proofs.Storable.{value_parts, value_grown}
 use Rattle.evaluator.proofs.Places.{some_items}
@@ -115,7 +115,7 @@ same_values : (o : Evaluation (List Object)) → and_then o (λ ys end'. gives (
 same_values (Ok d) = ap (λ b. Ok (record { value = d.value; state = d.state; wrote = b })) (or_false d.wrote)
 same_values (Err code) = refl
 
-pub followed_start : (names : List Name) (s : WorldState) (forms : Object) → followed names [] false s forms ≡ values names s forms
+pub followed_start : (names : List Name) (s : WorldState) (forms : Object) → values_after names [] false s forms ≡ values names s forms
 followed_start names s forms = also_nothing (and_then (values names s forms) (λ ys end'. gives ([] ++ ys) end')) ∙ same_values (values names s forms)
 
 -- with the value of the first
@@ -147,35 +147,35 @@ value_first names s x rest y t v e = ap (λ o. and_then o (λ y later. and_then 
 
 pub followed_step : (names : List Name) (xs : List Object) (w : Bool) (s : WorldState) (forms : List Datum) (i : ℕ) (f : Datum) (y : Object) (t : WorldState) (v : Bool) → i < length forms → f ≡ get_or forms i f
     → value names s (object_of f) ≡ Ok (record { value = y; state = t; wrote = v })
-    → followed names xs w s (list_of (map object_of (drop i forms))) ≡ followed names (xs ++ y ∷ []) (w || v) t (list_of (map object_of (drop (i + 1) forms)))
+    → values_after names xs w s (list_of (map object_of (drop i forms))) ≡ values_after names (xs ++ y ∷ []) (w || v) t (list_of (map object_of (drop (i + 1) forms)))
 followed_step names xs w s forms i f y t v within is e =
-    ap (followed names xs w s) (forms_from forms i f within is)
+    ap (values_after names xs w s) (forms_from forms i f within is)
     ∙ ap (λ o. also w (and_then o (λ ys end'. gives (xs ++ ys) end'))) (value_first names s (object_of f) (list_of (map object_of (drop (i + 1) forms))) y t v e)
     ∙ next xs w y v (values names t (list_of (map object_of (drop (i + 1) forms))))
 
 -- the same, where what was written is told
-pub followed_both : (names : List Name) (xs : List Object) (w v both : Bool) (s t : WorldState) (forms : List Datum) (i : ℕ) (f : Datum) (y : Object) (o : Evaluation (List Object)) → o ≡ followed names xs w s (list_of (map object_of (drop i forms)))
-    → i < length forms → f ≡ get_or forms i f → value names s (object_of f) ≡ Ok (record { value = y; state = t; wrote = v }) → both ≡ (w || v) → o ≡ followed names (xs ++ y ∷ []) both t (list_of (map object_of (drop (i + 1) forms)))
+pub followed_both : (names : List Name) (xs : List Object) (w v both : Bool) (s t : WorldState) (forms : List Datum) (i : ℕ) (f : Datum) (y : Object) (o : Evaluation (List Object)) → o ≡ values_after names xs w s (list_of (map object_of (drop i forms)))
+    → i < length forms → f ≡ get_or forms i f → value names s (object_of f) ≡ Ok (record { value = y; state = t; wrote = v }) → both ≡ (w || v) → o ≡ values_after names (xs ++ y ∷ []) both t (list_of (map object_of (drop (i + 1) forms)))
 followed_both names xs w v both s t forms i f y o before within is e told =
-    before ∙ followed_step names xs w s forms i f y t v within is e ∙ ap (λ b. followed names (xs ++ y ∷ []) b t (list_of (map object_of (drop (i + 1) forms)))) (sym told)
+    before ∙ followed_step names xs w s forms i f y t v within is e ∙ ap (λ b. values_after names (xs ++ y ∷ []) b t (list_of (map object_of (drop (i + 1) forms)))) (sym told)
 
 refused_first : (names : List Name) (s : WorldState) (x rest : Object) (code : ℕ) → value names s x ≡ Err code → values names s (pair x rest) ≡ Err code
 unfolding value_over
 refused_first names s x rest code e = ap (λ o. and_then o (λ y later. and_then (values names later rest) (λ ys end'. gives (y ∷ ys) end'))) e
 
 pub followed_refused : (names : List Name) (xs : List Object) (w : Bool) (s : WorldState) (forms : List Datum) (i : ℕ) (f : Datum) (code : ℕ) → i < length forms → f ≡ get_or forms i f
-    → value names s (object_of f) ≡ Err code → followed names xs w s (list_of (map object_of (drop i forms))) ≡ Err code
+    → value names s (object_of f) ≡ Err code → values_after names xs w s (list_of (map object_of (drop i forms))) ≡ Err code
 followed_refused names xs w s forms i f code within is e =
-    ap (followed names xs w s) (forms_from forms i f within is)
+    ap (values_after names xs w s) (forms_from forms i f within is)
     ∙ ap (λ o. also w (and_then o (λ ys end'. gives (xs ++ ys) end'))) (refused_first names s (object_of f) (list_of (map object_of (drop (i + 1) forms))) code e)
 
 values_none : (names : List Name) (s : WorldState) → values names s nil ≡ gives [] s
 unfolding value_over
 values_none names s = refl
 
-pub followed_end : (names : List Name) (xs : List Object) (w : Bool) (s : WorldState) (forms : List Datum) → followed names xs w s (list_of (map object_of (drop (length forms) forms))) ≡ Ok (record { value = xs; state = s; wrote = w })
+pub followed_end : (names : List Name) (xs : List Object) (w : Bool) (s : WorldState) (forms : List Datum) → values_after names xs w s (list_of (map object_of (drop (length forms) forms))) ≡ Ok (record { value = xs; state = s; wrote = w })
 followed_end names xs w s forms =
-    ap (λ l. followed names xs w s (list_of (map object_of l))) (drop-length forms)
+    ap (λ l. values_after names xs w s (list_of (map object_of l))) (drop-length forms)
     ∙ ap (λ o. also w (and_then o (λ ys end'. gives (xs ++ ys) end'))) (values_none names s)
     ∙ ap (λ l. Ok (record { value = l; state = s; wrote = w || false })) (whole xs)
     ∙ ap (λ b. Ok (record { value = xs; state = s; wrote = b })) (or_false w)
@@ -187,10 +187,10 @@ followed_end names xs w s forms =
 pub all_more : (v : Table) (xs ys : List Datum) (x : Datum) → ys ≡ xs ++ x ∷ [] → All (IsArgument v) xs → IsArgument v x → All (IsArgument v) ys
 all_more v xs ys x is all one = subst (All (IsArgument v)) (sym is) (All-append (IsArgument v) xs (x ∷ []) all (All-cons (IsArgument v) x [] one (All-nil (IsArgument v))))
 
-pub followed_stops : (names : List Name) (xs : List Object) (w : Bool) (s t u : WorldState) (forms : List Datum) (i : ℕ) (f : Datum) (e : EvaluationError) (o : Evaluation (List Object)) → o ≡ followed names xs w s (list_of (map object_of (drop i forms)))
+pub followed_stops : (names : List Name) (xs : List Object) (w : Bool) (s t u : WorldState) (forms : List Datum) (i : ℕ) (f : Datum) (e : EvaluationError) (o : Evaluation (List Object)) → o ≡ values_after names xs w s (list_of (map object_of (drop i forms)))
     → i < length forms → f ≡ get_or forms i f → Answers done (Err e) t (value names s (object_of f)) → Answers all_done (Err e) u o
 followed_stops names xs w s t u forms i f (Refused code) o same within is h = same ∙ followed_refused names xs w s forms i f code within is h
 followed_stops names xs w s t u forms i f OutOfMemory o same within is h = tt
 
-pub followed_at_end : (names : List Name) (xs : List Object) (w : Bool) (s : WorldState) (forms : List Datum) (i : ℕ) → i ≡ length forms → followed names xs w s (list_of (map object_of (drop i forms))) ≡ Ok (record { value = xs; state = s; wrote = w })
-followed_at_end names xs w s forms i is = ap (λ n. followed names xs w s (list_of (map object_of (drop n forms)))) is ∙ followed_end names xs w s forms
+pub followed_at_end : (names : List Name) (xs : List Object) (w : Bool) (s : WorldState) (forms : List Datum) (i : ℕ) → i ≡ length forms → values_after names xs w s (list_of (map object_of (drop i forms))) ≡ Ok (record { value = xs; state = s; wrote = w })
+followed_at_end names xs w s forms i is = ap (λ n. values_after names xs w s (list_of (map object_of (drop n forms)))) is ∙ followed_end names xs w s forms

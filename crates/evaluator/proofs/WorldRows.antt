@@ -10,7 +10,7 @@ use Rattle.readtable_core.specs.Changes.{macro_entry, dispatching_entry, with_fu
 use Rattle.readtable_core.specs.Changes.{with_character_entry as with_entry_at}
 use Rattle.readtable_core.specs.Sound.{is_dispatching}
 use Rattle.package_table.specs.Table.{common_lisp, keyword, symbol_count, with_entry, with_used, with_new_package}
-use Rattle.package_table.specs.Lookup.{found, is_present, is_external, is_used}
+use Rattle.package_table.specs.Lookup.{home_by_name, is_present, is_external, is_used}
 use Rattle.package_table.specs.Changes.{user_finds_other, with_external, finds_other_than_shown}
 use Rattle.plist_state.specs.State.{WorldState, standard_name}
 use Rattle.plist_state.specs.Changes.{with_packages}
@@ -39,7 +39,7 @@ module _ (s : WorldState) where
     unfolding value_over
     entered = rw lisp refl
 
-    new_in_lisp : found s.packages common_lisp (codes "Q") ≡ None → value [] s (call (codes "INTERN") (text (codes "Q") ∷ text (codes "CL") ∷ [])) ≡ Err 36
+    new_in_lisp : home_by_name s.packages common_lisp (codes "Q") ≡ None → value [] s (call (codes "INTERN") (text (codes "Q") ∷ text (codes "CL") ∷ [])) ≡ Err 36
     unfolding value_over
     new_in_lisp none = rw (lisp, none, lisp) refl
 
@@ -89,51 +89,51 @@ module _ (s : WorldState) where
     unfolding value_over
     all_none = rw p refl
 
-    second_not_found : found s.packages (codes "P") (codes "A") ≡ Some (codes "COMMON-LISP-USER") → found s.packages (codes "P") (codes "B") ≡ None
+    second_not_found : home_by_name s.packages (codes "P") (codes "A") ≡ Some (codes "COMMON-LISP-USER") → home_by_name s.packages (codes "P") (codes "B") ≡ None
         → value [] s (call (codes "EXPORT") (quoted (list_of (own (codes "A") ∷ own (codes "B") ∷ [])) ∷ text (codes "P") ∷ [])) ≡ Err 38
     unfolding value_over
     second_not_found first second = rw (p, first, second) refl
 
     -- another symbol of that name is found
-    other_found : found s.packages (codes "P") (codes "A") ≡ Some (codes "P") → value [] s (call (codes "EXPORT") (a ∷ text (codes "P") ∷ [])) ≡ Err 38
+    other_found : home_by_name s.packages (codes "P") (codes "A") ≡ Some (codes "P") → value [] s (call (codes "EXPORT") (a ∷ text (codes "P") ∷ [])) ≡ Err 38
     unfolding value_over
     other_found here = rw (p, here) refl
 
-    user_conflicts : found s.packages (codes "P") (codes "A") ≡ Some (codes "COMMON-LISP-USER") → user_finds_other s.packages (codes "P") (codes "COMMON-LISP-USER") (codes "A") ≡ true
+    user_conflicts : home_by_name s.packages (codes "P") (codes "A") ≡ Some (codes "COMMON-LISP-USER") → user_finds_other s.packages (codes "P") (codes "COMMON-LISP-USER") (codes "A") ≡ true
         → value [] s (call (codes "EXPORT") (a ∷ text (codes "P") ∷ [])) ≡ Err 37
     unfolding value_over
     user_conflicts first conflict = rw (p, first, p, conflict) refl
 
-    second_other : found s.packages (codes "P") (codes "A") ≡ Some (codes "COMMON-LISP-USER") → is_present s.packages (codes "P") (codes "A") ≡ true → found s.packages (codes "P") (codes "B") ≡ Some (codes "P")
+    second_other : home_by_name s.packages (codes "P") (codes "A") ≡ Some (codes "COMMON-LISP-USER") → is_present s.packages (codes "P") (codes "A") ≡ true → home_by_name s.packages (codes "P") (codes "B") ≡ Some (codes "P")
         → value [] s (call (codes "IMPORT") (quoted (list_of (own (codes "A") ∷ own (codes "B") ∷ [])) ∷ text (codes "P") ∷ [])) ≡ Err 37
     unfolding value_over
     second_other first present second = rw (p, p, first, present, p, second) refl
 
-    exported : found s.packages (codes "P") (codes "A") ≡ Some (codes "COMMON-LISP-USER") → user_finds_other s.packages (codes "P") (codes "COMMON-LISP-USER") (codes "A") ≡ false
+    exported : home_by_name s.packages (codes "P") (codes "A") ≡ Some (codes "COMMON-LISP-USER") → user_finds_other s.packages (codes "P") (codes "COMMON-LISP-USER") (codes "A") ≡ false
         → is_external s.packages (codes "P") (codes "A") ≡ false
         → value [] s (call (codes "EXPORT") (a ∷ text (codes "P") ∷ [])) ≡ writes t (with_packages s (with_external s.packages (codes "P") (codes "COMMON-LISP-USER") (codes "A")))
     unfolding value_over
     exported first alone hidden = rw (p, first, hidden, p, alone) refl
 
     -- a symbol that is inherited becomes present
-    inherited_imported : found s.packages (codes "P") (codes "A") ≡ Some (codes "COMMON-LISP-USER") → is_present s.packages (codes "P") (codes "A") ≡ false
+    inherited_imported : home_by_name s.packages (codes "P") (codes "A") ≡ Some (codes "COMMON-LISP-USER") → is_present s.packages (codes "P") (codes "A") ≡ false
         → value [] s (call (codes "IMPORT") (a ∷ text (codes "P") ∷ []))
         ≡ writes t (with_packages s (with_entry s.packages (codes "P") (codes "A") (record { home = codes "COMMON-LISP-USER"; external = false })))
     unfolding value_over
     inherited_imported here absent = rw (p, absent, p, here) refl
 
-    present_imported : found s.packages (codes "P") (codes "A") ≡ Some (codes "COMMON-LISP-USER") → is_present s.packages (codes "P") (codes "A") ≡ true
+    present_imported : home_by_name s.packages (codes "P") (codes "A") ≡ Some (codes "COMMON-LISP-USER") → is_present s.packages (codes "P") (codes "A") ≡ true
         → value [] s (call (codes "IMPORT") (a ∷ text (codes "P") ∷ [])) ≡ gives t s
     unfolding value_over
     present_imported here present = rw (p, present, p, here) refl
 
-    made_in : found s.packages (codes "P") (codes "Q") ≡ None → nat_le 1000000 (symbol_count s.packages) ≡ false
+    made_in : home_by_name s.packages (codes "P") (codes "Q") ≡ None → nat_le 1000000 (symbol_count s.packages) ≡ false
         → value [] s (call (codes "INTERN") (text (codes "Q") ∷ text (codes "P") ∷ []))
         ≡ writes (symbol (codes "P") (codes "Q")) (with_packages s (with_entry s.packages (codes "P") (codes "Q") (record { home = codes "P"; external = false })))
     unfolding value_over
     made_in none room = rw (p, none, p, room) refl
 
-    imported : found s.packages (codes "P") (codes "A") ≡ None → is_present s.packages (codes "P") (codes "A") ≡ false
+    imported : home_by_name s.packages (codes "P") (codes "A") ≡ None → is_present s.packages (codes "P") (codes "A") ≡ false
         → value [] s (call (codes "IMPORT") (a ∷ text (codes "P") ∷ []))
         ≡ writes t (with_packages s (with_entry s.packages (codes "P") (codes "A") (record { home = codes "COMMON-LISP-USER"; external = false })))
     unfolding value_over
@@ -144,15 +144,15 @@ module _ (s : WorldState) where
     unfolding value_over
     used q not_used alike = rw (q, p, not_used, p, q, alike) refl
 
-    inherited : found s.packages (codes "P") (codes "CAR") ≡ Some (codes "L") → value [] s (call (codes "INTERN") (text (codes "CAR") ∷ text (codes "P") ∷ [])) ≡ gives (symbol (codes "L") (codes "CAR")) s
+    inherited : home_by_name s.packages (codes "P") (codes "CAR") ≡ Some (codes "L") → value [] s (call (codes "INTERN") (text (codes "CAR") ∷ text (codes "P") ∷ [])) ≡ gives (symbol (codes "L") (codes "CAR")) s
     unfolding value_over
     inherited here = rw (p, here, p) refl
 
-    too_many : found s.packages (codes "P") (codes "Q") ≡ None → nat_le 1000000 (symbol_count s.packages) ≡ true → value [] s (call (codes "INTERN") (text (codes "Q") ∷ text (codes "P") ∷ [])) ≡ Err 46
+    too_many : home_by_name s.packages (codes "P") (codes "Q") ≡ None → nat_le 1000000 (symbol_count s.packages) ≡ true → value [] s (call (codes "INTERN") (text (codes "Q") ∷ text (codes "P") ∷ [])) ≡ Err 46
     unfolding value_over
     too_many none full = rw (p, none, p, full) refl
 
-  a_keyword_made : finite.contains_key s.packages keyword ≡ true → found s.packages keyword (codes "Q") ≡ None → nat_le 1000000 (symbol_count s.packages) ≡ false
+  a_keyword_made : finite.contains_key s.packages keyword ≡ true → home_by_name s.packages keyword (codes "Q") ≡ None → nat_le 1000000 (symbol_count s.packages) ≡ false
       → value [] s (call (codes "INTERN") (text (codes "Q") ∷ text keyword ∷ [])) ≡ writes (named (codes "Q")) (with_packages s (with_entry s.packages keyword (codes "Q") (record { home = keyword; external = true })))
   unfolding value_over
   a_keyword_made there none room = rw (there, none, there, room) refl

@@ -11,7 +11,7 @@ use Rattle.lisp_object.specs.Datum.{object_of}
 use Rattle.lisp_object.specs.declared.datum.Datum
 use Rattle.lisp_object.specs.declared.datum.Datum.{Datum}
 use Rattle.lisp_operators.specs.declared.evaluated.Evaluated.{Evaluated}
-use Rattle.lisp_operators.specs.Evaluated.{Answers, done, objects}
+use Rattle.lisp_operators.specs.EvaluationAnswers.{Answers, done, objects}
 use Rattle.lisp_operators.specs.Evaluation.{Done}
 use Rattle.evaluator.specs.declared.values.Values.{Values}
 use Rattle.evaluator.specs.declared.operation.Operation.{Operation}
@@ -84,12 +84,12 @@ abbrev pub HasValue : Object → Result Evaluated EvaluationError → Type 0
 HasValue x result = (s : WorldState) → Answers done result s (gives x s)
 
 -- the values of forms after these values, where whether those wrote is known
-abbrev pub followed : List Name → List Object → Bool → WorldState → Object → Evaluation (List Object)
-followed names xs wrote s forms = also wrote (and_then (values names s forms) (λ ys end'. gives (xs ++ ys) end'))
+abbrev pub values_after : List Name → List Object → Bool → WorldState → Object → Evaluation (List Object)
+values_after names xs wrote s forms = also wrote (and_then (values names s forms) (λ ys end'. gives (xs ++ ys) end'))
 
 -- the same of the subforms of a place
 abbrev pub subforms : List Name → List Object → Bool → WorldState → Object → Evaluation (List Object)
-subforms names xs wrote s (pair operator forms) = followed names xs wrote s forms
+subforms names xs wrote s (pair operator forms) = values_after names xs wrote s forms
 subforms names xs wrote s (symbol home name) = Ok (record { value = xs; state = s; wrote = wrote })
 subforms names xs wrote s _ = Err ARGUMENT_KIND
 

@@ -11,7 +11,7 @@ use Rattle.plist_state.specs.Changes.{property, with_property}
 use Rattle.plist_state.specs.Views.{symbol_named}
 use Rattle.plist_state.specs.Sound.{IsSymbol}
 use Rattle.lisp_operators.specs.Evaluation.{Evaluation, gives, writes}
-use Rattle.lisp_operators.specs.Evaluated.{IsArgument, object_of_symbol}
+use Rattle.lisp_operators.specs.EvaluationAnswers.{IsArgument, object_of_symbol}
 use Rattle.evaluator.specs.declared.direct.QuotedProperty.{QuotedProperty}
 use Rattle.evaluator.specs.declared.operation.Operation.TheVariants.{Setf}
 use Rattle.evaluator.specs.Value.{value}
@@ -38,12 +38,12 @@ abbrev pub property_value : QuotedProperty → WorldState → Evaluation Object
 property_value p s = gives (unwrap_or (property s (symbol_named p.symbol) (symbol_named p.indicator)) nil) s
 
 -- this, which is the property from then on
-abbrev pub assigned : QuotedProperty → Object → WorldState → Evaluation Object
-assigned p x s = writes x (with_property s (symbol_named p.symbol) (symbol_named p.indicator) x)
+abbrev pub value_set : QuotedProperty → Object → WorldState → Evaluation Object
+value_set p x s = writes x (with_property s (symbol_named p.symbol) (symbol_named p.indicator) x)
 
 -- SETF of these arguments puts this there
 abbrev pub IsSetf : Object → QuotedProperty → Object → Type 0
-IsSetf arguments p x = (names : List Name) (s : WorldState) → operation_value names Setf arguments s ≡ assigned p x s
+IsSetf arguments p x = (names : List Name) (s : WorldState) → operation_value names Setf arguments s ≡ value_set p x s
 
 -- both symbols are there, and this may be stored
 pub record IsStorable (u : Table) (p : QuotedProperty) (d : Datum) : Type 0 where

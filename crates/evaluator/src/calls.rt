@@ -5,7 +5,7 @@ ghost use Rattle.lisp_object.specs.Datum.{object_of};
 ghost use Rattle.package_table.specs.Table.{common_lisp};
 ghost use Rattle.lisp_operators.specs.Effects.{Leaves};
 ghost use Rattle.lisp_operators.specs.Readtables.{AreFunctionNames};
-ghost use Rattle.lisp_operators.specs.Evaluated.{IsArgument, KeepsArguments};
+ghost use Rattle.lisp_operators.specs.EvaluationAnswers.{IsArgument, KeepsArguments};
 ghost use Rattle.evaluator.specs.Value.{value};
 ghost use Rattle.evaluator.specs.ArgumentValues.{arguments_in, Evaluates};
 

@@ -1,6 +1,6 @@
 //! The clauses of COND (standard 5.3).
 ghost use Rattle.std.specs.Prelude.{◌≡◌, ◌≤◌, length};
-ghost use Rattle.lisp_operators.specs.Evaluated.{IsProper, AreProper};
+ghost use Rattle.lisp_operators.specs.EvaluationAnswers.{IsProper, AreProper};
 ghost use Rattle.evaluator.specs.Value.{are_clauses};
 ghost use Rattle.evaluator.specs.ArgumentValues.{arguments_in, IsClause};
 

@@ -4,7 +4,7 @@ ghost use Rattle.lisp_object.specs.Object.{Object, list_of};
 ghost use Rattle.lisp_object.specs.Datum.{object_of};
 ghost use Rattle.plist_state.specs.State.{WorldState};
 ghost use Rattle.lisp_operators.specs.Evaluation.{Evaluation, and_then};
-ghost use Rattle.lisp_operators.specs.Evaluated.{Answers, done, IsProper, AreProper, CarriesOut, IsProperValue, objects};
+ghost use Rattle.lisp_operators.specs.EvaluationAnswers.{Answers, done, IsProper, AreProper, CarriesOut, IsProperValue, objects};
 ghost use Rattle.lisp_operators.specs.Properties.{list};
 ghost use Rattle.evaluator.specs.Operators.{computed, computed_value};
 ghost use Rattle.value_functions.specs.Functions.{most_arguments};

@@ -9,7 +9,7 @@ ghost use Rattle.lisp_operators.specs.Evaluation.{Evaluation, gives, also};
 ghost use Rattle.evaluator.specs.Operators.{first};
 ghost use Rattle.evaluator.specs.Value.{symbol_value};
 ghost use Rattle.evaluator.specs.ArgumentValues.{arguments_in, Evaluates, HasValue};
-ghost use Rattle.lisp_operators.specs.Evaluated.{Answers, done, IsProper, AreProper, IsProperValue};
+ghost use Rattle.lisp_operators.specs.EvaluationAnswers.{Answers, done, IsProper, AreProper, IsProperValue};
 
 use lisp_object::Datum;
 use lisp_object::refusal::NOT_A_FORM;

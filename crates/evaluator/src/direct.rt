@@ -6,8 +6,8 @@ ghost use Rattle.lisp_object.specs.Datum.{object_of};
 ghost use Rattle.package_table.specs.Table.{Name, Table, common_lisp};
 ghost use Rattle.plist_state.specs.Views.{symbol_named};
 ghost use Rattle.lisp_operators.specs.Effects.{Leaves};
-ghost use Rattle.lisp_operators.specs.Evaluated.{Answers, done, IsArgument, IsProper, AreProper, IsProperValue, object_of_symbol};
-ghost use Rattle.evaluator.specs.Direct.{quoted, quoted_key, IsCall, IsLiteral, IsSetf, IsStorable, property_value, assigned, setf};
+ghost use Rattle.lisp_operators.specs.EvaluationAnswers.{Answers, done, IsArgument, IsProper, AreProper, IsProperValue, object_of_symbol};
+ghost use Rattle.evaluator.specs.Direct.{quoted, quoted_key, IsCall, IsLiteral, IsSetf, IsStorable, property_value, value_set, setf};
 ghost use Rattle.evaluator.specs.ArgumentValues.{arguments_in};
 ghost use Rattle.evaluator.specs.Value.{value};
 ghost use Rattle.evaluator.specs.StandIns.{seen};
@@ -269,7 +269,7 @@ pub(crate) fn set_directly(
 ) -> Result<Evaluated, EvaluationError>
     requires { IsStorable world.old.0.packages assignment.property assignment.literal.now }
     ensures gives { Answers done result world.new.0
-        (seen wanted (assigned assignment.entry.property (object_of assignment.entry.literal.now) world.old.0)) }
+        (seen wanted (value_set assignment.entry.property (object_of assignment.entry.literal.now) world.old.0)) }
     ensures proper { IfOk result IsProperValue }
     ensures marked { world.new.1 ≡ world.old.1 }
 {
@@ -287,7 +287,7 @@ fn put(
     literal: Datum,
 ) -> Result<bool, EvaluationError>
     requires { IsStorable world.old.0.packages property literal }
-    ensures gives { Leaves result world.new.0 (assigned property.entry (object_of literal) world.old.0) }
+    ensures gives { Leaves result world.new.0 (value_set property.entry (object_of literal) world.old.0) }
     ensures marked { world.new.1 ≡ world.old.1 }
 {
     world.put_at(property.symbol, property.indicator, trimmed(literal))?;

@@ -5,7 +5,7 @@ ghost use Rattle.lisp_object.specs.Object.{Object, integer, nil};
 ghost use Rattle.lisp_object.specs.Datum.{object_of};
 ghost use Rattle.plist_state.specs.State.{WorldState};
 ghost use Rattle.lisp_operators.specs.Effects.{IsTruth, Leaves};
-ghost use Rattle.lisp_operators.specs.Evaluated.{Answers, done, IsProper, IsProperValue, AreArgumentsOf, objects};
+ghost use Rattle.lisp_operators.specs.EvaluationAnswers.{Answers, done, IsProper, IsProperValue, AreArgumentsOf, objects};
 ghost use Rattle.lisp_operators.specs.Evaluation.{Evaluation};
 ghost use Rattle.lisp_operators.specs.Readtables.{AreFunctionNames};
 ghost use Rattle.evaluator.specs.Operations.{function_of_operation};

@@ -4,8 +4,8 @@ ghost use Rattle.lisp_object.specs.Object.{list_of};
 ghost use Rattle.lisp_object.specs.Datum.{object_of};
 ghost use Rattle.evaluator.specs.Value.{values_at_place, values_before_place};
 ghost use Rattle.lisp_operators.specs.Readtables.{AreFunctionNames};
-ghost use Rattle.lisp_operators.specs.Evaluated.{IsArgument, KeepsArguments, Answers, done, IsProperValue, AreArgumentsOf, objects};
-ghost use Rattle.evaluator.specs.ArgumentValues.{all_done, arguments_in, EvaluatesFor, Operates, followed, subforms, gathered, sequence_value, list_of_values};
+ghost use Rattle.lisp_operators.specs.EvaluationAnswers.{IsArgument, KeepsArguments, Answers, done, IsProperValue, AreArgumentsOf, objects};
+ghost use Rattle.evaluator.specs.ArgumentValues.{all_done, arguments_in, EvaluatesFor, Operates, values_after, subforms, gathered, sequence_value, list_of_values};
 ghost use Rattle.evaluator.specs.Operations.{HasRightCount, is_ordinary};
 ghost use Rattle.evaluator.specs.StandIns.{seen};
 
@@ -295,7 +295,7 @@ fn extended(
     requires values { AreArgumentsOf world.old values.values.items }
     requires forms { AreArgumentsOf world.old forms.now }
     ensures gives { Answers all_done result world.new.0
-        (followed names.now (objects values.values.items) values.wrote world.old.0 (list_of (objects (drop from forms.now)))) }
+        (values_after names.now (objects values.values.items) values.wrote world.old.0 (list_of (objects (drop from forms.now)))) }
     ensures values { IfOk result (λ v. AreArgumentsOf world.new v.values.items) }
     ensures kept { IfOk result (λ _. KeepsArguments world.old.0.packages world.new.0.packages) }
     ensures marked { world.new.1 ≡ world.old.1 }

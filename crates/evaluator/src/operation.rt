@@ -8,7 +8,7 @@ ghost use Rattle.evaluator.specs.Operators.{operator_named, operator_of, functio
 ghost use Rattle.evaluator.specs.Operations.{least, most, operator, HasRightCount, among, operators_on_data, operators_on_packages, operators_on_readtables, operators_that_decide};
 ghost use Rattle.evaluator.specs.ArgumentValues.{IsOperatorHead};
 ghost use Rattle.value_functions.specs.Functions.{function_named};
-ghost use Rattle.lisp_operators.specs.Evaluated.{IsProper};
+ghost use Rattle.lisp_operators.specs.EvaluationAnswers.{IsProper};
 
 use crate::decision::Decision;
 use lisp_object::Datum;

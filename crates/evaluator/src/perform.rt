@@ -4,7 +4,7 @@ ghost use Rattle.lisp_operators.specs.Readtables.{AreFunctionNames};
 ghost use Rattle.lisp_operators.specs.Evaluation.{also};
 ghost use Rattle.evaluator.specs.Operations.{function_of_operation, set_at, has_default_at};
 ghost use Rattle.evaluator.specs.StandIns.{seen};
-ghost use Rattle.lisp_operators.specs.Evaluated.{Answers, done, IsProperValue, AreArgumentsOf, CarriesOut, objects};
+ghost use Rattle.lisp_operators.specs.EvaluationAnswers.{Answers, done, IsProperValue, AreArgumentsOf, CarriesOut, objects};
 
 use crate::computed::computed;
 use crate::control::after;

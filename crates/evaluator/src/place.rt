@@ -7,7 +7,7 @@ ghost use Rattle.evaluator.specs.Operators.{is_standard, count};
 ghost use Rattle.evaluator.specs.Value.{get_place_refusal, default_place_refusal, list_place_refusal, place_refusal};
 ghost use Rattle.evaluator.specs.Operations.{HasRightCount};
 ghost use Rattle.evaluator.specs.ArgumentValues.{refusal_of_place, property_place, list_place, setf_place, place_form_of, RefusesIfSome, arguments_in};
-ghost use Rattle.lisp_operators.specs.Evaluated.{IsProper, AreProper};
+ghost use Rattle.lisp_operators.specs.EvaluationAnswers.{IsProper, AreProper};
 
 use crate::operation::Operation;
 use lisp_object::Datum;

@@ -20,7 +20,7 @@ use Rattle.plist_state.specs.Readers.{symbols_with_properties}
 use Rattle.plist_state.specs.Sound.{IsSoundWorldState, IsSymbol, IsPlist, IsValue}
 use Rattle.plist_state.specs.State.{WorldState}
 use Rattle.plist_state.proofs.Orders.{symbol_total}
-use Rattle.snapshot_text.specs.Built.{with_each, with_packages_of, with_properties, with_properties_of}
+use Rattle.snapshot_text.specs.BuiltWorlds.{with_each, with_packages_of, with_properties, with_properties_of}
 use Rattle.snapshot_text.specs.Rows.{row_symbol_at, IsUpTo}
 use Rattle.snapshot_text.proofs.PropertyParts.{at_first, at_last, each_is_list, next_up_to, row_at}
 use Rattle.export_laws.specs.Objects.{after_each, property_object, property_objects}

@@ -10,7 +10,7 @@ use Rattle.package_table.proofs.Frames.{get_inserted}
 use Rattle.plist_state.specs.Sound.{IsSoundWorldState}
 use Rattle.plist_state.specs.State.{WorldState, initial, standard_name, user_name}
 use Rattle.user_macros.specs.Functions.{Functions}
-use Rattle.snapshot_text.specs.Built.{with_packages_of, with_properties_of}
+use Rattle.snapshot_text.specs.BuiltWorlds.{with_packages_of, with_properties_of}
 use Rattle.session_words.specs.declared.content.Content.TheVariants.{Data}
 use Rattle.world_forms.specs.Forms.{current_form, forms, last_newline}
 use Rattle.world_forms.specs.Packages.{package_lines}

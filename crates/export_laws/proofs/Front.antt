@@ -14,8 +14,8 @@ use Rattle.lisp_reading.specs.Setting.{Setting, setting_of}
 use Rattle.lisp_reading.specs.Reading.{Outcome, attempt, empty, form, outcome, reads, reads_at, reads_in, refused, space_at}
 use Rattle.lisp_reading.proofs.Forms.{reads_is}
 use Rattle.session_words.specs.declared.mode.Mode.TheVariants.{Current}
-use Rattle.prevalence_store.specs.meaning.Acceptance.{form_limits, read_in, transacted}
-use Rattle.sessions.specs.Answers.{Progress, after_forms, first_progress as before_forms, evaluated, one_form, one_form_more, onward}
+use Rattle.prevalence_store.specs.meaning.Acceptance.{form_limits, read_in, transaction_value}
+use Rattle.sessions.specs.Answers.{Progress, after_forms, first_progress as before_forms, form_progress, one_form, one_form_more, onward}
 use Rattle.world_text.proofs.Begun.{newline_begun}
 use Rattle.export_laws.specs.Texts.{Makes, ReadsAsExported}
 
@@ -68,7 +68,7 @@ module _ (functions : Functions) (s : WorldState) (as_exported : ReadsAsExported
       let a : 1 + start ≡ suc start = omega arith in
       let n : 1 + next ≡ suc next = omega arith in
       let size : 1 + «end» - (1 + start) ≡ «end» - start = omega arith in
-      λ i. Some (evaluated s Current (take (size i) (drop (a i) (10 ∷ text))) (drop (n i) (10 ∷ text)) (transacted functions.names s x))
+      λ i. Some (form_progress s Current (take (size i) (drop (a i) (10 ∷ text))) (drop (n i) (10 ∷ text)) (transaction_value functions.names s x))
   form_later empty = refl
   form_later (refused number at) = refl
 

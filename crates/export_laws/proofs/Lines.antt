@@ -14,7 +14,7 @@ use Rattle.plist_state.specs.Readers.{symbols_with_properties}
 use Rattle.plist_state.specs.Sound.{IsSoundWorldState, IsSymbol, IsPlist, IsValue}
 use Rattle.plist_state.specs.State.{WorldState}
 use Rattle.user_macros.specs.Functions.{Functions}
-use Rattle.snapshot_text.specs.Built.{with_each}
+use Rattle.snapshot_text.specs.BuiltWorlds.{with_each}
 use Rattle.world_forms.specs.Properties.{is_form, left_out_line, left_out_lines, plist_left_out, plist_lines, property_form, property_line, property_lines}
 use Rattle.world_forms.specs.Tokens.{line_of_form, symbol_text, told_text}
 use Rattle.export_laws.specs.Objects.{property_object}

@@ -18,7 +18,7 @@ use Rattle.snapshot_text.specs.Part.{IsPartOf}
 use Rattle.world_forms.specs.Tokens.{line_of_form}
 use Rattle.export_laws.specs.Texts.{Makes, ReadsAsExported}
 use Rattle.export_laws.proofs.OneForm.{IsForm, one_more_made}
-use Rattle.prevalence_store.specs.meaning.Acceptance.{transacted}
+use Rattle.prevalence_store.specs.meaning.Acceptance.{transaction_value}
 
 -- sound packages that are a part of s
 pub record IsOnTheWay (s t : Table) : Type 0 where
@@ -50,7 +50,7 @@ module _ (functions : Functions) (first : WorldState) (whole : List ℕ) (base :
   -- ---- one line
 
   pub one_line : (Has : Table → Type 0) (t u : Table) (text : List ℕ) (x : Object) (more : List ℕ) → Made t (line_of_form text ++ more) → IsForm t text x
-      → ((done : Done Object) × (transacted functions.names (at t) x ≡ Ok done) × (done.state ≡ at u)) → IsOnTheWay s u → Grows t u → Has u → Goes Has t more
+      → ((done : Done Object) × (transaction_value functions.names (at t) x ≡ Ok done) × (done.state ≡ at u)) → IsOnTheWay s u → Grows t u → Has u → Goes Has t more
   one_line Has t u text x more made is accepted way grows has = record {
     there = u;
     way = way;

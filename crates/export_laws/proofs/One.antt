@@ -20,7 +20,7 @@ use Rattle.plist_state.specs.Changes.{with_property}
 use Rattle.plist_state.specs.Sound.{IsSymbol}
 use Rattle.plist_state.specs.State.{WorldState}
 use Rattle.lisp_operators.specs.Evaluation.{also, and_then, gives, writes}
-use Rattle.lisp_operators.specs.Packages.{intern, interned}
+use Rattle.lisp_operators.specs.Packages.{intern, interned_symbol}
 use Rattle.lisp_operators.specs.Properties.{set}
 use Rattle.evaluator.specs.Value.{value_by, values_by, value_over}
 use Rattle.form_eval.specs.Acceptance.{accept, accepted_by}
@@ -59,8 +59,8 @@ module _ (names : List Name) (s : WorldState) (sound : packages.AreSoundPackages
 
     intern_is : intern (text n ∷ text h ∷ []) s ≡ gives (symbol h n) s
     intern_is =
-        ap (λ (o : Option Name). option_map_or (λ p. interned s n (intern_changes t p n) (after_intern t p n)) o (Err NO_SUCH_PACKAGE)) named_so
-        ∙ (λ i. interned s n (none_new i) (interned_is i))
+        ap (λ (o : Option Name). option_map_or (λ p. interned_symbol s n (intern_changes t p n) (after_intern t p n)) o (Err NO_SUCH_PACKAGE)) named_so
+        ∙ (λ i. interned_symbol s n (none_new i) (interned_is i))
 
     pub interned_value : value_by true names s (call (codes "INTERN") (text n ∷ text h ∷ [])) ≡ gives (symbol h n) s
     unfolding value_over

@@ -15,8 +15,8 @@ use Rattle.lisp_reading.specs.Setting.{setting_of}
 use Rattle.lisp_reading.specs.Reading.{form, outcome, reads, reads_at}
 use Rattle.lisp_reading.proofs.Forms.{drop_front, reads_is}
 use Rattle.session_words.specs.declared.mode.Mode.TheVariants.{Current}
-use Rattle.prevalence_store.specs.meaning.Acceptance.{between, form_limits, read_in, transacted}
-use Rattle.sessions.specs.Answers.{first_progress as before_forms, evaluated, one_form, one_form_more, onward}
+use Rattle.prevalence_store.specs.meaning.Acceptance.{between, form_limits, read_in, transaction_value}
+use Rattle.sessions.specs.Answers.{first_progress as before_forms, form_progress, one_form, one_form_more, onward}
 use Rattle.world_text.proofs.Begun.{begun, newline_begun}
 use Rattle.world_forms.specs.Properties.{form_setting}
 use Rattle.wider_functions.proofs.Keeping.{none_are_among}
@@ -66,15 +66,15 @@ module _ (functions : Functions) where
   -- a form that is read so before what follows it
   pub next_made : (first now : WorldState) (whole text rest : List ℕ) (x : Object) (done : Done Object)
       → Makes functions first whole now (10 ∷ text ++ rest) → ReadsAsExported now
-      → begun form_limits now.packages common_lisp_user no_functions 100 0 (text ++ rest) ≡ Ok (one false x, length text, rest) → transacted functions.names now x ≡ Ok done
+      → begun form_limits now.packages common_lisp_user no_functions 100 0 (text ++ rest) ≡ Ok (one false x, length text, rest) → transaction_value functions.names now x ≡ Ok done
       → Makes functions first whole done.state rest
   next_made first now whole text rest x done made as_exported is accepted =
       let p = made.progress in
       let input = 10 ∷ text ++ rest in
-      let q = evaluated now Current (between 1 (1 + length text) input) (drop (1 + length text) input) (Ok done) in
+      let q = form_progress now Current (between 1 (1 + length text) input) (drop (1 + length text) input) (Ok done) in
       let one_is : one_form functions now Current input (read_in functions now Current input) ≡ Some q
       = ap (one_form functions now Current input) (read_here now.packages text x rest is functions now as_exported refl)
-      ∙ ap (λ e. Some (evaluated now Current (between 1 (1 + length text) input) (drop (1 + length text) input) e)) accepted in
+      ∙ ap (λ e. Some (form_progress now Current (between 1 (1 + length text) input) (drop (1 + length text) input) e)) accepted in
       let more : one_form_more functions Current p ≡ Some (onward p q)
       = ap (option_map (onward p)) ((λ i. one_form functions (made.world i) Current (made.left i) (read_in functions (made.world i) Current (made.left i))) ∙ one_is) in
       record {
@@ -87,6 +87,6 @@ module _ (functions : Functions) where
       }
 
   pub one_more_made : (first now : WorldState) (whole text rest : List ℕ) (x : Object) (done : Done Object)
-      → Makes functions first whole now (10 ∷ text ++ 10 ∷ rest) → ReadsAsExported now → IsForm now.packages text x → transacted functions.names now x ≡ Ok done
+      → Makes functions first whole now (10 ∷ text ++ 10 ∷ rest) → ReadsAsExported now → IsForm now.packages text x → transaction_value functions.names now x ≡ Ok done
       → Makes functions first whole done.state (10 ∷ rest)
   one_more_made first now whole text rest x done made as_exported is accepted = next_made first now whole text (10 ∷ rest) x done made as_exported (is rest) accepted

@@ -13,7 +13,7 @@ use Rattle.lisp_object.specs.declared.refusal.TheConstants.{NO_SUCH_PACKAGE, NOT
 use Rattle.package_table.specs.declared.error.PackageError.TheVariants.{Limit, NoSuchPackage, PackageIsLocked}
 use Rattle.package_table.specs.Changes.{after_export, after_import, after_intern, after_make, after_use, export_changes, finds_this, import_changes, intern_changes, use_changes, with_new_symbol}
 use Rattle.package_table.specs.Limits.{longest_symbol_name, most_symbols}
-use Rattle.package_table.specs.Lookup.{found}
+use Rattle.package_table.specs.Lookup.{home_by_name}
 use Rattle.package_table.specs.Symbols.{are_there, symbols}
 use Rattle.package_table.specs.Table as packages
 use Rattle.package_table.specs.Table.{Name, Table, IsPackage, IsPresent, common_lisp, common_lisp_names, common_lisp_user, full_name, is_locked, keyword, package_named, symbol_count}
@@ -21,7 +21,7 @@ use Rattle.plist_state.specs.Changes.{with_packages}
 use Rattle.plist_state.specs.State.{WorldState}
 use Rattle.lisp_operators.specs.Evaluation.{Done, also, and_then, gives, of_kind, writes}
 use Rattle.lisp_operators.specs.Kinds.{a_symbol, one_or_each}
-use Rattle.lisp_operators.specs.Packages.{after_exports, after_imports, changed, export, finds_symbol, import, interned, made, packages_named, then_others, use_all}
+use Rattle.lisp_operators.specs.Packages.{after_exports, after_imports, changed, export, finds_symbol, import, interned_symbol, made_package, packages_named, then_others, use_all}
 use Rattle.lisp_operators.specs.Properties.{t as t_object}
 use Rattle.evaluator.specs.Value.{value_by, values_by, value_over}
 use Rattle.form_eval.specs.Acceptance.{accepted_by}
@@ -31,7 +31,7 @@ use Rattle.export_laws.specs.Objects.{call}
 use Rattle.export_laws.proofs.One.{two_values}
 use Rattle.export_laws.proofs.PackageText.{change_argument}
 use Rattle.export_laws.proofs.There.{lisp_there, nil_there, pair_there, there_alone}
-use Rattle.prevalence_store.specs.meaning.Acceptance.{transacted}
+use Rattle.prevalence_store.specs.meaning.Acceptance.{transaction_value}
 use Rattle.prevalence_store.specs.meaning.Forgetting.{is_forgetting}
 use Rattle.prevalence_store.proofs.meaning.Transactions.{not_forgetting}
 
@@ -49,7 +49,7 @@ module _ (names : List Name) (s : WorldState) (sound : packages.AreSoundPackages
 
   -- the form is accepted, and leaves these packages
   abbrev pub Leaves : Object → Table → Type 0
-  Leaves x u = (done : Done Object) × (transacted names s x ≡ Ok done) × (done.state ≡ with_packages s u)
+  Leaves x u = (done : Done Object) × (transaction_value names s x ≡ Ok done) × (done.state ≡ with_packages s u)
 
   leaves : (x : Object) (done : Done Object) (u : Table) → is_forgetting x ≡ false → are_there t x ≡ true → value_by true names s x ≡ Ok done → done.state ≡ with_packages s u → Leaves x u
   leaves x done u other there value is = (
@@ -80,7 +80,7 @@ module _ (names : List Name) (s : WorldState) (sound : packages.AreSoundPackages
 
   make_value : (p : Name) (u : Table) → after_make t p ≡ Ok u → value_by true names s (call (codes "MAKE-PACKAGE") (text p ∷ [])) ≡ writes (text p) (with_packages s u)
   unfolding value_over
-  make_value p u goes = ap (λ r. also false (made s p r)) goes
+  make_value p u goes = ap (λ r. also false (made_package s p r)) goes
 
   pub make_leaves : (p : Name) (u : Table) → after_make t p ≡ Ok u → Leaves (call (codes "MAKE-PACKAGE") (text p ∷ [])) u
   unfolding common_lisp_names
@@ -97,8 +97,8 @@ module _ (names : List Name) (s : WorldState) (sound : packages.AreSoundPackages
       → value_by true names s (call (codes "INTERN") (text n ∷ text p ∷ [])) ≡ Ok (record { value = symbol h n; state = with_packages s u; wrote = intern_changes t p n })
   unfolding value_over
   intern_value p n h u there goes =
-      (λ i. also false (option_map_or (λ q. interned s n (intern_changes t q n) (after_intern t q n)) (named_so p there i) (Err NO_SUCH_PACKAGE)))
-      ∙ ap (λ r. also false (interned s n (intern_changes t p n) r)) goes
+      (λ i. also false (option_map_or (λ q. interned_symbol s n (intern_changes t q n) (after_intern t q n)) (named_so p there i) (Err NO_SUCH_PACKAGE)))
+      ∙ ap (λ r. also false (interned_symbol s n (intern_changes t p n) r)) goes
 
   pub intern_leaves : (p n h : Name) (u : Table) → IsPackage t p → after_intern t p n ≡ Ok (h, u) → Leaves (call (codes "INTERN") (text n ∷ text p ∷ [])) u
   unfolding common_lisp_names
@@ -129,7 +129,7 @@ module _ (names : List Name) (s : WorldState) (sound : packages.AreSoundPackages
       ] refl
 
   -- what a package finds by this name
-  module _ (prefix n h : Name) (there : IsPackage t prefix) (finds : found t prefix n ≡ Some h) (present : IsPresent t h n h) where
+  module _ (prefix n h : Name) (there : IsPackage t prefix) (finds : home_by_name t prefix n ≡ Some h) (present : IsPresent t h n h) where
     looked_up : after_intern t prefix n ≡ Ok (h, t)
     looked_up = λ i. if not (there i) then Err NoSuchPackage else option_map_or (λ g. Ok (g, t)) (finds i)
         (if bytes_eq prefix common_lisp then Err PackageIsLocked else (if nat_lt longest_symbol_name (length n) || nat_le most_symbols (symbol_count t) then Err Limit else Ok (prefix, with_new_symbol t prefix n)))

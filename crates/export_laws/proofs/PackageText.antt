@@ -9,7 +9,7 @@ use Rattle.std.proofs.lemmas.List.{length-append}
 use Rattle.std.proofs.lemmas.List.Elements.{All-cons, All-head, All-nil, All-tail}
 use Rattle.lisp_object.specs.Object.{Object, list_of, symbol, text}
 use Rattle.package_table.specs.Table.{Name, Table as Packages, AreSoundPackages, IsPackage, common_lisp, common_lisp_names, common_lisp_user, keyword}
-use Rattle.package_table.specs.Lookup.{found}
+use Rattle.package_table.specs.Lookup.{home_by_name}
 use Rattle.user_macros.specs.Functions.{no_functions}
 use Rattle.canon_printer.specs.Names as names
 use Rattle.canon_printer.specs.Names.{with_backslashes, is_escaped_in_bars}
@@ -115,7 +115,7 @@ module _ (t : Packages) (sound : AreSoundPackages t) where
 
   -- ---- changes
 
-  module _ (prefix own home : Name) (there : IsPackage t prefix) (finds : found t prefix own ≡ Some home) (ascii : IsAscii own) (short : IsShort own) where
+  module _ (prefix own home : Name) (there : IsPackage t prefix) (finds : home_by_name t prefix own ≡ Some home) (ascii : IsAscii own) (short : IsShort own) where
     argument_read : Part 2 (value_text (codes "'(") (codes ")") prefix own) (change_argument prefix own home)
     unfolding value_text common_lisp_names
     argument_read = by_length (is_too_long prefix own) refl

@@ -22,7 +22,7 @@ use Rattle.lisp_reading.specs.declared.found.Found.{Found}
 use Rattle.lisp_reading.specs.declared.found.Found.TheVariants.{One as one}
 use Rattle.lisp_reading.specs.Plans.{Plan, Read, run}
 use Rattle.lisp_reading.specs.Setting.{Setting}
-use Rattle.lisp_reading.specs.Reading.{Piece, item, piece_of, next_item_turn, next_item, one_piece, completed, inner, attempt}
+use Rattle.lisp_reading.specs.Reading.{Piece, item, piece_of, next_item_turn, next_item, one_piece, completed_call, inner, attempt}
 use Rattle.lisp_reading.proofs.Steps.{and_then, run_then}
 use Rattle.lisp_reading.proofs.Turns.{attempt_ends, loop_is, next_item_guarded}
 use Rattle.world_text.specs.Tokens.{AreTokensWithin, ends_with_token}
@@ -87,7 +87,7 @@ module _ (limits : Limits) (packages : Packages) (functions : Functions) (sound 
   unfolding inner run
   quote_read depth text x h zero at rest deep fits ends = absurd (omega arith)
   quote_read depth text x h (suc d) at rest deep fits ends =
-      let on : Piece → Plan Found = one_piece (λ token x. completed s (limits.nesting - suc d) (plain_call limits packages common_lisp_user functions 39 Quote) token token (one_object x)) in
+      let on : Piece → Plan Found = one_piece (λ token x. completed_call s (limits.nesting - suc d) (plain_call limits packages common_lisp_user functions 39 Quote) token token (one_object x)) in
       placed h.token (call (codes "QUOTE") (x ∷ [])) (at + 1 + length text) (at + length (39 ∷ text)) rest (attempted (suc d) at (39 ∷ text ++ rest))
       (quote_begun limits packages common_lisp_user functions (suc d) at (text ++ rest) (omega arith)
       ∙ run_then standard limits (next_item s None (attempt s d)) on (at + 1) (text ++ rest)

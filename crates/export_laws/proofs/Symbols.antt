@@ -17,7 +17,7 @@ use Rattle.token_scan.specs.declared.mark.Mark.TheVariants.{Plain, Bar}
 use Rattle.token_scan.specs.Marks.{character_count}
 use Rattle.token_scan.proofs.Spelled.{plain_counts}
 use Rattle.package_table.specs.Table.{Name, Table as Packages, Package, Present, AreSoundPackages, IsPackage, IsPackageName, IsPresent, IsExternal, common_lisp, common_lisp_names, common_lisp_package, common_lisp_user, full_name, keyword}
-use Rattle.package_table.specs.Lookup.{found}
+use Rattle.package_table.specs.Lookup.{home_by_name}
 use Rattle.package_table.proofs.First.{among_has, at_home, symbol_first}
 use Rattle.package_table.proofs.FirstNames.{lisp_present}
 use Rattle.package_table.specs.Resolving.{found_at, internal_resolution, resolution}
@@ -86,7 +86,7 @@ module _ (limits : Limits) (packages : Packages) (functions : Functions) (sound 
   -- ---- the token of a symbol
 
   -- a keyword is at home in KEYWORD
-  keyword_home : (own home : Name) → found packages keyword own ≡ Some home → home ≡ keyword
+  keyword_home : (own home : Name) → home_by_name packages keyword own ≡ Some home → home ≡ keyword
   keyword_home own home is =
       elim (found_finds packages own keyword home is) [
         | inl present ↦ sound.first.own own home present
@@ -95,7 +95,7 @@ module _ (limits : Limits) (packages : Packages) (functions : Functions) (sound 
 
   -- The name stands after that of a package: for a keyword, for a symbol of COMMON-LISP-USER, and for any other. The package finds it,
   -- and it is at home here or there.
-  module _ (prefix own home : Name) (there : IsPackage packages prefix) (finds : found packages prefix own ≡ Some home) (ascii : IsAscii own) where
+  module _ (prefix own home : Name) (there : IsPackage packages prefix) (finds : home_by_name packages prefix own ≡ Some home) (ascii : IsAscii own) where
     abbrev Token : List ℕ → ℕ → Type 0
     Token its_text size = (marks : List Mark) × ReadsAs packages common_lisp_user its_text marks (symbol home own) × (character_count marks ≡ size)
 
@@ -105,7 +105,7 @@ module _ (limits : Limits) (packages : Packages) (functions : Functions) (sound 
     abbrev its_name : IsNameText own (name_text own) (text_marks own)
     its_name = name_is_text own ascii
 
-    resolved : (p : Name) → found packages p own ≡ Some home → resolution packages p own ≡ Ok (found_at home)
+    resolved : (p : Name) → home_by_name packages p own ≡ Some home → resolution packages p own ≡ Ok (found_at home)
     resolved p is = rw is refl
 
     inside : internal_resolution packages prefix own ≡ Ok (found_at home)
@@ -118,7 +118,7 @@ module _ (limits : Limits) (packages : Packages) (functions : Functions) (sound 
         → Token ((if k then codes ":" else (if u then [] else name_text prefix ++ codes "::")) ++ name_text own) ((if k then 1 else (if u then 0 else length prefix + 2)) + length own)
     by_package true u e f =
         let same : prefix ≡ keyword = (bytes_eq-Decides prefix keyword).0 e in
-        let at_home : home ≡ keyword = keyword_home own home (subst (λ p. found packages p own ≡ Some home) same finds) in (
+        let at_home : home ≡ keyword = keyword_home own home (subst (λ p. home_by_name packages p own ≡ Some home) same finds) in (
           Plain 58 ∷ text_marks own,
           subst (λ h. ReadsAs packages common_lisp_user (codes ":" ++ name_text own) (Plain 58 ∷ text_marks own) (symbol h own)) (sym at_home)
               (as_keyword packages common_lisp_user own (name_text own) (text_marks own) its_name),
@@ -128,7 +128,7 @@ module _ (limits : Limits) (packages : Packages) (functions : Functions) (sound 
         let same : prefix ≡ common_lisp_user = (bytes_eq-Decides prefix common_lisp_user).0 f in (
           text_marks own,
           unqualified packages common_lisp_user own (name_text own) (text_marks own) its_name home
-              (resolved common_lisp_user (subst (λ p. found packages p own ≡ Some home) same finds)),
+              (resolved common_lisp_user (subst (λ p. home_by_name packages p own ≡ Some home) same finds)),
           omega (arith, text_count own),
         )
     by_package false false e f =
@@ -161,7 +161,7 @@ module _ (limits : Limits) (packages : Packages) (functions : Functions) (sound 
 
   lisp_resolved : (n : Name) → IsTrue (list_any (bytes_eq n) common_lisp_names) → resolution packages common_lisp_user n ≡ Ok (found_at common_lisp)
   lisp_resolved n listed =
-      let is : found packages common_lisp_user n ≡ Some common_lisp
+      let is : home_by_name packages common_lisp_user n ≡ Some common_lisp
       = found_is packages n sound.joined common_lisp_user common_lisp (inr (common_lisp, sound.first.user, lisp_external n listed, lisp_present packages sound n listed)) in
       rw is refl
 

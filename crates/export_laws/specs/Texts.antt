@@ -6,7 +6,7 @@ use Rattle.plist_state.specs.State.{WorldState}
 use Rattle.session_words.specs.declared.mode.Mode.TheVariants.{Current}
 use Rattle.prevalence_store.specs.meaning.Acceptance.{table_in}
 use Rattle.sessions.specs.Answers.{Progress, after_forms}
-use Rattle.snapshot_text.specs.Built.{with_properties_of}
+use Rattle.snapshot_text.specs.BuiltWorlds.{with_properties_of}
 use Rattle.user_macros.specs.Functions.{Functions}
 
 -- Forms are read under the standard readtable, in base 10, in COMMON-LISP-USER.

@@ -29,7 +29,7 @@ ghost use Rattle.plist_state.specs.Properties.{Symbol};
 ghost use Rattle.plist_state.specs.Sound.{IsSoundWorldState, IsSymbol};
 ghost use Rattle.plist_state.specs.State.{WorldState, initial};
 ghost use Rattle.form_eval.specs.Acceptance.{accept};
-ghost use Rattle.snapshot_text.specs.Built.{with_packages_of, with_properties_of};
+ghost use Rattle.snapshot_text.specs.BuiltWorlds.{with_packages_of, with_properties_of};
 ghost use Rattle.user_macros.specs.Functions.{Functions};
 ghost use Rattle.session_words.specs.declared.content.Content.TheVariants.{Data};
 ghost use Rattle.world_forms.specs.Forms.{forms};

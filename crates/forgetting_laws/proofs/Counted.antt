@@ -20,8 +20,8 @@ use Rattle.plist_state.specs.Properties.{Symbol}
 use Rattle.plist_state.specs.State.{WorldState}
 use Rattle.world_text.proofs.Ascii.{entries_pass}
 use Rattle.world_text.proofs.RowsWritten.{filter_images}
-use Rattle.forgotten_names.specs.Forgotten.{forgettable, forgotten, is_kept}
-use Rattle.forgotten_names.specs.Needed.{is_needed}
+use Rattle.forgotten_names.specs.WorldsWithoutNames.{forgettable, forgotten, is_kept}
+use Rattle.forgotten_names.specs.NeededSymbols.{is_needed}
 use Rattle.forgetting_laws.proofs.Left.{own_left, packages_left}
 
 -- the symbols at home in a package

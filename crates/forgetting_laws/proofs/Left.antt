@@ -17,8 +17,8 @@ use Rattle.plist_state.specs.Properties.{Symbol}
 use Rattle.plist_state.specs.State.{WorldState}
 use Rattle.world_text.proofs.Ascii.{entries_pass}
 use Rattle.world_text.proofs.RowsWritten.{filter_images}
-use Rattle.forgotten_names.specs.Forgotten.{forgotten, is_kept, kept_package, kept_packages}
-use Rattle.forgotten_names.specs.Needed.{is_needed}
+use Rattle.forgotten_names.specs.WorldsWithoutNames.{forgotten, is_kept, kept_package, kept_packages}
+use Rattle.forgotten_names.specs.NeededSymbols.{is_needed}
 use Rattle.forgetting_laws.proofs.Passing.{same, passing_both, passing_alike}
 
 -- ---- one package

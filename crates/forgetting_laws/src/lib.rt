@@ -8,8 +8,8 @@
 #![tactic(auto)]
 
 ghost use Rattle.std.specs.Prelude.{◌≡◌, ◌+◌, List, filter, length};
-ghost use Rattle.forgotten_names.specs.Forgotten.{forgettable, forgotten};
-ghost use Rattle.forgotten_names.specs.Needed.{is_needed};
+ghost use Rattle.forgotten_names.specs.WorldsWithoutNames.{forgettable, forgotten};
+ghost use Rattle.forgotten_names.specs.NeededSymbols.{is_needed};
 ghost use Rattle.package_table.specs.Readers.{imports};
 ghost use Rattle.package_table.specs.Table.{Name, symbol_count};
 ghost use Rattle.plist_state.specs.Lists.{symbols};

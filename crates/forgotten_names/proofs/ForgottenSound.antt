@@ -24,8 +24,8 @@ use Rattle.plist_state.specs.State.{WorldState}
 use Rattle.plist_state.specs.Sound.{IsSymbol, IsKnown, IsValue, IsPlist, IsSoundWorldState}
 use Rattle.plist_state.proofs.Soundness.{symbol_is, symbol_from}
 use Rattle.snapshot_text.proofs.PartFinds.{external_more}
-use Rattle.forgotten_names.specs.Needed.{stands_among, plist_symbols, is_needed}
-use Rattle.forgotten_names.specs.Forgotten.{kept_package, is_kept, forgotten}
+use Rattle.forgotten_names.specs.NeededSymbols.{stands_among, plist_symbols, is_needed}
+use Rattle.forgotten_names.specs.WorldsWithoutNames.{kept_package, is_kept, forgotten}
 use Rattle.forgotten_names.proofs.Members.{among_itself, among_later, among_left, among_right, imported_from, imported_where}
 use Rattle.forgotten_names.proofs.NeededSymbols.{needed_external, needed_imported, needed_among, needed_cases, needed_owner, in_list, kept_needed, kept_external, kept_imported, kept_is_needed}
 use Rattle.forgotten_names.proofs.KeptPackages.{package_kept, there_kept, kept_part, all_kept}

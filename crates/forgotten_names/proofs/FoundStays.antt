@@ -1,7 +1,7 @@
 -- What a package finds by a name it finds where nothing unneeded is left, if the symbol is needed; and nothing else.
 use Rattle.std.proofs.Common.{◌≡◌, true, List, Some, subst, ◌∙◌, inl, inr}
 use Rattle.package_table.specs.Table.{Name, Table, Finds}
-use Rattle.package_table.specs.Lookup.{found}
+use Rattle.package_table.specs.Lookup.{home_by_name}
 use Rattle.package_table.proofs.Found.{found_finds, found_is}
 use Rattle.package_table.proofs.Frames.{name_cases}
 use Rattle.package_table.proofs.Keeping.{present_at_home}
@@ -9,8 +9,8 @@ use Rattle.plist_state.specs.Properties.{Symbol}
 use Rattle.plist_state.specs.State.{WorldState}
 use Rattle.plist_state.specs.Sound.{IsSoundWorldState}
 use Rattle.snapshot_text.proofs.PartFinds.{finds_more}
-use Rattle.forgotten_names.specs.Needed.{is_needed}
-use Rattle.forgotten_names.specs.Forgotten.{is_kept, forgotten}
+use Rattle.forgotten_names.specs.NeededSymbols.{is_needed}
+use Rattle.forgotten_names.specs.WorldsWithoutNames.{is_kept, forgotten}
 use Rattle.forgotten_names.proofs.NeededSymbols.{kept_needed, kept_external, kept_imported}
 use Rattle.forgotten_names.proofs.KeptPackages.{uses_kept, kept_part}
 use Rattle.forgotten_names.proofs.KeptSound.{present_stays, external_stays}
@@ -33,10 +33,10 @@ module _ (held : List Symbol) (s : WorldState) (sound : IsSoundWorldState s) whe
     present_stays (is_kept held s) s.packages (kept_external held s) (kept_imported held s) used.0 n h (kept_external held s used.0 n used.2) used.3,
   )
 
-  pub found_still : (p n h : Name) → found s.packages p n ≡ Some h → is_needed held s (h, n) ≡ true → found left p n ≡ Some h
+  pub found_still : (p n h : Name) → home_by_name s.packages p n ≡ Some h → is_needed held s (h, n) ≡ true → home_by_name left p n ≡ Some h
   found_still p n h is needed = found_is left n (forgotten_sound held s sound).packages.joined p h (finds_still p n h needed (found_finds s.packages n p h is))
 
-  pub found_before : (p n h : Name) → found left p n ≡ Some h → (found s.packages p n ≡ Some h) × (is_needed held s (h, n) ≡ true)
+  pub found_before : (p n h : Name) → home_by_name left p n ≡ Some h → (home_by_name s.packages p n ≡ Some h) × (is_needed held s (h, n) ≡ true)
   found_before p n h is =
       let finds = found_finds left n p h is in (
         found_is s.packages n sound.packages.joined p h (finds_more left s.packages (kept_part (is_kept held s) s.packages) p n h finds),

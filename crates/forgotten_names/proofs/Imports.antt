@@ -18,7 +18,7 @@ use Rattle.package_table.proofs.Names.{tied_same, same_tied}
 use Rattle.plist_state.specs.Properties.{Symbol, same_symbol}
 use Rattle.plist_state.proofs.Orders.{one_symbol, symbol_tied}
 use Rattle.world_text.proofs.Ascii.{below_none, from_truth}
-use Rattle.forgotten_names.specs.Needed.{stands_among, has_symbol, is_imported}
+use Rattle.forgotten_names.specs.NeededSymbols.{stands_among, has_symbol, is_imported}
 
 abbrev turned : Name × Name → Symbol
 turned r = (r.1, r.0)

@@ -12,17 +12,17 @@ use Rattle.std.specs.FinMap.Entries.{below_all, same_entries, is_sorted-where_ke
 use Rattle.std.proofs.lemmas.Bool.{not-true}
 use Rattle.std.proofs.lemmas.List.Elements.{All-nil, All-weaker}
 use Rattle.package_table.specs.Table.{Name, name_cmp, Present, Package, Table, entry_at, IsPresent, IsExternal}
-use Rattle.package_table.specs.Readers.{package_names, used_names, own_names, external_names, imports, present}
+use Rattle.package_table.specs.Readers.{package_names, used_names, own_names, external_names, imports, present_symbols}
 use Rattle.package_table.proofs.Frames.{unequal_names}
 use Rattle.package_table.proofs.Names.{name_total, name_exact}
 use Rattle.world_text.proofs.Ascii.{from_truth}
 use Rattle.world_text.proofs.RowsWritten.{filter_images}
-use Rattle.forgotten_names.specs.Forgotten.{kept_package, kept_packages}
+use Rattle.forgotten_names.specs.WorldsWithoutNames.{kept_package, kept_packages}
 use Rattle.forgotten_names.proofs.Filtered.{filter_swap, filter_weaker}
 use Rattle.forgotten_names.proofs.KeptPackages.{found_kept, package_kept}
 use Rattle.forgotten_names.proofs.UnmarkedSymbols.{Found, all_found}
 
-pub each_present : (t : Table) (p : Name) → All (λ (s : Name × Present). entry_at t p s.0 ≡ Some s.1) (present t p)
+pub each_present : (t : Table) (p : Name) → All (λ (s : Name × Present). entry_at t p s.0 ≡ Some s.1) (present_symbols t p)
 each_present t p =
     elim (finite.get t p) as (λ o. All (λ (s : Name × Present). option_and_then (λ (k : Package). finite.get k.symbols s.0) o ≡ Some s.1) (option_map_or (λ (k : Package). finite.entries k.symbols) o [])) [
       | None ↦ All-nil (λ (s : Name × Present). ◌≡◌ {A = Option Present} None (Some s.1))
@@ -87,7 +87,7 @@ module _ (keep : Name → Name → Bool) (t : Table) where
       ∙ sym (find-where_key name_cmp f q (λ n tied. ap f (sym (name_exact q n tied))) (finite.entries m)))
 
   module _ (p : Name) where
-    present_kept : present kept p ≡ filter (λ (s : Name × Present). keep p s.0) (present t p)
+    present_kept : present_symbols kept p ≡ filter (λ (s : Name × Present). keep p s.0) (present_symbols t p)
     present_kept =
         ap (λ o. option_map_or (λ (k : Package). finite.entries k.symbols) o []) (package_kept keep t p)
         ∙ elim (finite.get t p) as (λ o. option_map_or (λ (k : Package). finite.entries k.symbols) (option_map (kept_package keep p) o) []
@@ -99,20 +99,20 @@ module _ (keep : Name → Name → Bool) (t : Table) where
     pub own_kept : own_names kept p ≡ filter (keep p) (own_names t p)
     own_kept =
         ap (λ es. map (λ (s : Name × Present). s.0) (filter (λ (s : Name × Present). bytes_eq s.1.home p) es)) present_kept
-        ∙ ap (map (λ (s : Name × Present). s.0)) (filter_swap (λ (s : Name × Present). bytes_eq s.1.home p) (λ (s : Name × Present). keep p s.0) (present t p))
-        ∙ filter_images (keep p) (λ (s : Name × Present). s.0) (filter (λ (s : Name × Present). bytes_eq s.1.home p) (present t p))
+        ∙ ap (map (λ (s : Name × Present). s.0)) (filter_swap (λ (s : Name × Present). bytes_eq s.1.home p) (λ (s : Name × Present). keep p s.0) (present_symbols t p))
+        ∙ filter_images (keep p) (λ (s : Name × Present). s.0) (filter (λ (s : Name × Present). bytes_eq s.1.home p) (present_symbols t p))
 
     pub external_kept : ((n : Name) → IsExternal t p n → keep p n ≡ true) → external_names kept p ≡ external_names t p
     external_kept shown =
         ap (λ es. map (λ (s : Name × Present). s.0) (filter (λ (s : Name × Present). s.1.external) es)) present_kept
-        ∙ ap (map (λ (s : Name × Present). s.0)) (filter_weaker (λ (s : Name × Present). s.1.external) (λ (s : Name × Present). keep p s.0) (present t p)
+        ∙ ap (map (λ (s : Name × Present). s.0)) (filter_weaker (λ (s : Name × Present). s.1.external) (λ (s : Name × Present). keep p s.0) (present_symbols t p)
         (All-weaker (λ (s : Name × Present). entry_at t p s.0 ≡ Some s.1) (λ (s : Name × Present). s.1.external ≡ true → keep p s.0 ≡ true)
-        (λ s here is. shown s.0 (ap (option_map (λ (e : Present). e.external)) here ∙ ap (λ b. Some b) is)) (present t p) (each_present t p)))
+        (λ s here is. shown s.0 (ap (option_map (λ (e : Present). e.external)) here ∙ ap (λ b. Some b) is)) (present_symbols t p) (each_present t p)))
 
     pub imports_kept : ((n h : Name) → IsPresent t p n h → (h ≡ p → ⊥) → keep p n ≡ true) → imports kept p ≡ imports t p
     imports_kept imported =
         ap (λ es. map (λ (s : Name × Present). (s.0, s.1.home)) (filter (λ (s : Name × Present). not (bytes_eq s.1.home p)) es)) present_kept
-        ∙ ap (map (λ (s : Name × Present). (s.0, s.1.home))) (filter_weaker (λ (s : Name × Present). not (bytes_eq s.1.home p)) (λ (s : Name × Present). keep p s.0) (present t p)
+        ∙ ap (map (λ (s : Name × Present). (s.0, s.1.home))) (filter_weaker (λ (s : Name × Present). not (bytes_eq s.1.home p)) (λ (s : Name × Present). keep p s.0) (present_symbols t p)
         (All-weaker (λ (s : Name × Present). entry_at t p s.0 ≡ Some s.1) (λ (s : Name × Present). not (bytes_eq s.1.home p) ≡ true → keep p s.0 ≡ true)
         (λ s here other. imported s.0 s.1.home (ap (option_map (λ (e : Present). e.home)) here) (unequal_names s.1.home p (not-true (bytes_eq s.1.home p) other)))
-        (present t p) (each_present t p)))
+        (present_symbols t p) (each_present t p)))

@@ -12,7 +12,7 @@ use Rattle.std.specs.FinMap.{find, get-from_entries, same_map}
 use Rattle.package_table.specs.Table.{Name, name_cmp, Present, Package, Table, entry_at}
 use Rattle.package_table.proofs.Names.{name_total, name_exact, tied_same, none_some}
 use Rattle.snapshot_text.specs.Part.{IsPartOf}
-use Rattle.forgotten_names.specs.Forgotten.{kept_package, kept_packages}
+use Rattle.forgotten_names.specs.WorldsWithoutNames.{kept_package, kept_packages}
 
 module _ (keep : Name → Name → Bool) where
   pub found_kept : (q : Name) (es : List (Name × Package)) → find name_cmp q (map (λ (e : Name × Package). (e.0, kept_package keep e.0 e.1)) es) ≡ option_map (kept_package keep q) (find name_cmp q es)

@@ -14,7 +14,7 @@ use Rattle.package_table.proofs.Frames.{name_cases}
 use Rattle.package_table.proofs.First.{at_home, symbol_first}
 use Rattle.snapshot_text.proofs.PartFinds.{present_entry, finds_more}
 use Rattle.snapshot_text.proofs.PartCounts.{len_part, symbols_part}
-use Rattle.forgotten_names.specs.Forgotten.{kept_package, kept_packages}
+use Rattle.forgotten_names.specs.WorldsWithoutNames.{kept_package, kept_packages}
 use Rattle.forgotten_names.proofs.KeptPackages.{whole_package, package_kept, uses_kept, there_kept, entry_stays, entry_was, kept_part}
 
 -- each symbol of COMMON-LISP is external

@@ -15,8 +15,8 @@ use Rattle.world_text.specs.KeptNames.{kept_names, kept_snapshot}
 use Rattle.world_text.specs.Snapshot.{texts, made_names, shown_names, imported_name, package_with, packages_with, packages_object, properties_object, tables_object, snapshot_line, snapshot}
 use Rattle.world_text.proofs.PlainLines.{plain_packages, plain_third}
 use Rattle.world_text.proofs.PlainObjects.{plain_printed}
-use Rattle.forgotten_names.specs.Needed.{is_needed}
-use Rattle.forgotten_names.specs.Forgotten.{is_kept, forgotten}
+use Rattle.forgotten_names.specs.NeededSymbols.{is_needed}
+use Rattle.forgotten_names.specs.WorldsWithoutNames.{is_kept, forgotten}
 use Rattle.forgotten_names.proofs.Filtered.{filter_alike, filter_swap}
 use Rattle.forgotten_names.proofs.ForgottenSound.{forgotten_sound}
 use Rattle.forgotten_names.proofs.KeptLists.{packages_kept, used_kept, own_kept, external_kept, imports_kept}

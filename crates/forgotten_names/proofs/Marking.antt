@@ -17,7 +17,7 @@ use Rattle.package_table.proofs.Numbered.{number_some, number_apart}
 use Rattle.plist_state.specs.Properties.{Symbol, same_symbol}
 use Rattle.plist_state.specs.Sound.{IsSymbol}
 use Rattle.plist_state.proofs.Orders.{one_symbol, symbol_tied}
-use Rattle.forgotten_names.specs.Needed.{stands_among}
+use Rattle.forgotten_names.specs.NeededSymbols.{stands_among}
 use Rattle.forgotten_names.specs.Marks.{is_marked, AddsMarks}
 
 pub marked_none : (s : Numbered) (a : List Bool) → AddsMarks s a a []

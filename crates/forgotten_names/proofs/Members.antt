@@ -18,7 +18,7 @@ use Rattle.package_table.proofs.Frames.{equal_itself, equal_names, not_equal, un
 use Rattle.plist_state.specs.Properties.{Symbol, Plist, Properties, symbol_cmp, same_symbol, list_at}
 use Rattle.plist_state.proofs.Orders.{one_symbol, symbol_tied}
 use Rattle.snapshot_text.proofs.PartFinds.{present_entry, present_package}
-use Rattle.forgotten_names.specs.Needed.{stands_among, plist_symbols, property_symbols, has_symbol, is_imported}
+use Rattle.forgotten_names.specs.NeededSymbols.{stands_among, plist_symbols, property_symbols, has_symbol, is_imported}
 
 pub among_itself : (x : Symbol) (xs : List Symbol) → stands_among x (x ∷ xs) ≡ true
 among_itself x xs = or_left (same_symbol x x) (stands_among x xs) (symbol_tied x)

@@ -13,7 +13,7 @@ use Rattle.lisp_object.specs.Object.{Object, integer, rational, character, text,
 use Rattle.package_table.specs.Symbols.{symbols}
 use Rattle.package_table.specs.Table as packages
 use Rattle.package_table.specs.Table.{Name, Package, Table, common_lisp, common_lisp_user, keyword}
-use Rattle.package_table.specs.Lookup.{found, is_external, is_symbol}
+use Rattle.package_table.specs.Lookup.{home_by_name, is_external, is_symbol}
 use Rattle.package_table.proofs.Found.{external_shows}
 use Rattle.package_table.proofs.Frames.{equal_itself}
 use Rattle.canon_printer.specs.Names.{printed_name}
@@ -28,8 +28,8 @@ use Rattle.plist_state.proofs.Orders.{symbol_tied}
 use Rattle.plist_state.proofs.Soundness.{symbol_is, symbol_from}
 use Rattle.snapshot_text.proofs.PartFinds.{present_entry}
 use Rattle.world_text.specs.Snapshot.{symbol_object, plist_object, properties_object}
-use Rattle.forgotten_names.specs.Needed.{stands_among, plist_symbols, is_needed}
-use Rattle.forgotten_names.specs.Forgotten.{is_kept, forgotten}
+use Rattle.forgotten_names.specs.NeededSymbols.{stands_among, plist_symbols, is_needed}
+use Rattle.forgotten_names.specs.WorldsWithoutNames.{is_kept, forgotten}
 use Rattle.forgotten_names.proofs.Members.{among_itself, among_left, among_later, among_right}
 use Rattle.forgotten_names.proofs.NeededSymbols.{needed_external, in_list, needed_owner}
 use Rattle.forgotten_names.proofs.KeptSound.{first_external}
@@ -81,9 +81,9 @@ module _ (held : List Symbol) (s : WorldState) where
 
   module _ (sound : IsSoundWorldState s) where
     accessible_same : (h n : Name) → Needs h n → is_accessible left common_lisp_user h n ≡ is_accessible s.packages common_lisp_user h n
-    accessible_same h n needed = both_ways (has_home (found left common_lisp_user n) h) (has_home (found s.packages common_lisp_user n) h)
-        (λ is. ap (λ o. has_home o h) (found_before held s sound common_lisp_user n h (is_home (found left common_lisp_user n) h is)).0 ∙ equal_itself h)
-        (λ is. ap (λ o. has_home o h) (found_still held s sound common_lisp_user n h (is_home (found s.packages common_lisp_user n) h is) needed) ∙ equal_itself h)
+    accessible_same h n needed = both_ways (has_home (home_by_name left common_lisp_user n) h) (has_home (home_by_name s.packages common_lisp_user n) h)
+        (λ is. ap (λ o. has_home o h) (found_before held s sound common_lisp_user n h (is_home (home_by_name left common_lisp_user n) h is)).0 ∙ equal_itself h)
+        (λ is. ap (λ o. has_home o h) (found_still held s sound common_lisp_user n h (is_home (home_by_name s.packages common_lisp_user n) h is) needed) ∙ equal_itself h)
 
     symbol_same : (h n : Name) → Needs h n → is_symbol left h n ≡ is_symbol s.packages h n
     symbol_same h n needed = both_ways (is_symbol left h n) (is_symbol s.packages h n)

@@ -15,8 +15,8 @@ use Rattle.plist_state.specs.Properties.{Symbol, Plist}
 use Rattle.plist_state.specs.State.{WorldState}
 use Rattle.plist_state.proofs.Soundness.{symbol_from}
 use Rattle.snapshot_text.proofs.PartFinds.{present_entry}
-use Rattle.forgotten_names.specs.Needed.{stands_among, plist_symbols, property_symbols, is_imported, is_needed}
-use Rattle.forgotten_names.specs.Forgotten.{is_kept}
+use Rattle.forgotten_names.specs.NeededSymbols.{stands_among, plist_symbols, property_symbols, is_imported, is_needed}
+use Rattle.forgotten_names.specs.WorldsWithoutNames.{is_kept}
 use Rattle.forgotten_names.proofs.Members.{among_itself, among_right, among_properties, imported_from}
 
 module _ (held : List Symbol) (s : WorldState) where

@@ -11,8 +11,8 @@ use Rattle.plist_state.specs.Properties.{Symbol, symbol_cmp}
 use Rattle.plist_state.specs.State.{WorldState}
 use Rattle.plist_state.proofs.AllSymbols.{symbol_among}
 use Rattle.plist_state.proofs.Orders.{one_symbol}
-use Rattle.forgotten_names.specs.Needed.{is_needed}
-use Rattle.forgotten_names.specs.Forgotten.{is_kept, forgotten, forgettable}
+use Rattle.forgotten_names.specs.NeededSymbols.{is_needed}
+use Rattle.forgotten_names.specs.WorldsWithoutNames.{is_kept, forgotten, forgettable}
 use Rattle.forgotten_names.proofs.KeptPackages.{all_kept}
 use Rattle.forgotten_names.proofs.NeededSymbols.{kept_needed}
 

@@ -25,9 +25,9 @@ use Rattle.plist_state.specs.Properties.{Symbol, same_symbol}
 use Rattle.plist_state.specs.State.{WorldState}
 use Rattle.plist_state.proofs.Soundness.{symbol_is}
 use Rattle.world_text.proofs.Ascii.{from_truth}
-use Rattle.forgotten_names.specs.Forgotten.{forgettable}
+use Rattle.forgotten_names.specs.WorldsWithoutNames.{forgettable}
 use Rattle.forgotten_names.specs.Marks.{AreMarked, is_marked}
-use Rattle.forgotten_names.specs.Needed.{stands_among, property_symbols, is_imported, is_needed}
+use Rattle.forgotten_names.specs.NeededSymbols.{stands_among, property_symbols, is_imported, is_needed}
 use Rattle.forgotten_names.proofs.Filtered.{filter_alike}
 use Rattle.forgotten_names.proofs.Imports.{among_imports}
 

@@ -1,6 +1,6 @@
 -- which symbols a world needs
-pub mod Needed
+pub mod NeededSymbols
 -- a world without the others
-pub mod Forgotten
+pub mod WorldsWithoutNames
 -- symbols that are marked by their numbers
 pub mod Marks

@@ -7,7 +7,7 @@ use Rattle.package_table.specs.Readers.{imports, package_names}
 use Rattle.plist_state.specs.Properties.{Symbol}
 use Rattle.plist_state.specs.Sound.{IsSymbol}
 use Rattle.plist_state.specs.State.{WorldState}
-use Rattle.forgotten_names.specs.Needed.{stands_among, property_symbols}
+use Rattle.forgotten_names.specs.NeededSymbols.{stands_among, property_symbols}
 
 -- the mark of a symbol
 abbrev pub is_marked : Numbered → List Bool → Symbol → Bool

@@ -1,10 +1,10 @@
 //! A world without the symbols that it does not need, made from its text.
 ghost use Rattle.std.specs.Prelude.{◌≡◌, ◌||◌, [], IfOk};
 ghost use Rattle.package_table.specs.Lookup.{is_external};
-ghost use Rattle.package_table.specs.Numbers.{numbered};
+ghost use Rattle.package_table.specs.Numbers.{table_now};
 ghost use Rattle.plist_state.specs.Readers.{borrowed_symbols};
 ghost use Rattle.world_text.specs.Snapshot.{snapshot};
-ghost use Rattle.forgotten_names.specs.Forgotten.{forgotten};
+ghost use Rattle.forgotten_names.specs.WorldsWithoutNames.{forgotten};
 ghost use Rattle.forgotten_names.specs.Marks.{is_marked};
 
 use crate::unneeded::{is_needed, needed_marks};
@@ -27,7 +27,7 @@ struct NeededNames<'a> {
 
 impl NameTest for NeededNames<'_> {
     ghost keeps = { λ self home name. is_external self.packages.now.0 home name
-        || is_marked (numbered self.packages.now) self.marks.now (home, name) };
+        || is_marked (table_now self.packages.now) self.marks.now (home, name) };
 
     fn is_kept(&self, home: &[u8], name: &[u8]) -> bool {
         is_needed(self.packages, self.marks, home, name)

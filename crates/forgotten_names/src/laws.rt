@@ -2,13 +2,13 @@
 //! calls it has the law in his own proof.
 ghost use Rattle.std.specs.Prelude.{◌≡◌, ◌↔◌, List, [], Some, true};
 ghost use Rattle.std.specs.FinMap as finite;
-ghost use Rattle.package_table.specs.Lookup.{found, is_external, is_used};
+ghost use Rattle.package_table.specs.Lookup.{home_by_name, is_external, is_used};
 ghost use Rattle.package_table.specs.Table.{Name};
 ghost use Rattle.plist_state.specs.Properties.{Symbol};
 ghost use Rattle.plist_state.specs.Sound.{IsSoundWorldState, IsSymbol};
 ghost use Rattle.plist_state.specs.State.{WorldState};
-ghost use Rattle.forgotten_names.specs.Forgotten.{forgotten, forgettable};
-ghost use Rattle.forgotten_names.specs.Needed.{is_needed};
+ghost use Rattle.forgotten_names.specs.WorldsWithoutNames.{forgotten, forgettable};
+ghost use Rattle.forgotten_names.specs.NeededSymbols.{is_needed};
 
 /// A sound state is sound without them: a world may have it, and a snapshot.
 pub fn forgotten_worlds_are_sound()
@@ -32,14 +32,14 @@ pub fn nothing_to_forget()
 /// nothing else.
 ///
 /// - `symbols`: which are left
-/// - `found`: what is found by a name in a sound state
+/// - `home_by_name`: what is found by a name in a sound state
 pub fn needed_symbols_stay()
     ensures symbols { (held : List Symbol) (s : WorldState) (x : Symbol)
         → IsSymbol (forgotten held s).packages x
         ↔ (IsSymbol s.packages x × (is_needed held s x ≡ true)) }
     ensures found { (held : List Symbol) (s : WorldState) (p n h : Name) → IsSoundWorldState s
-        → (found (forgotten held s).packages p n ≡ Some h)
-        ↔ ((found s.packages p n ≡ Some h) × (is_needed held s (h, n) ≡ true)) }
+        → (home_by_name (forgotten held s).packages p n ≡ Some h)
+        ↔ ((home_by_name s.packages p n ≡ Some h) × (is_needed held s (h, n) ≡ true)) }
 {}
 
 /// All else is as it was.

@@ -1,7 +1,7 @@
 //! Names that go: the symbols that a world does not need, and the world without them.
 //!
-//! A symbol that was only looked up stays in its package. `is_needed` (specs/Needed.antt) says which symbols a world needs, and
-//! `forgotten` (specs/Forgotten.antt) is the world without the others. `forget` makes it from its text: that of the world with the
+//! A symbol that was only looked up stays in its package. `is_needed` (specs/NeededSymbols.antt) says which symbols a world needs, and
+//! `forgotten` (specs/WorldsWithoutNames.antt) is the world without the others. `forget` makes it from its text: that of the world with the
 //! names that it needs, which snapshot_text reads.
 //!
 //! - `laws`: what holds of that world

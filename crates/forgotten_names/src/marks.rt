@@ -4,7 +4,7 @@ ghost use Rattle.std.specs.List.{flat_map};
 ghost use Rattle.std.specs.Option.{option_map_or};
 ghost use Rattle.lisp_object.specs.Object.{nil};
 ghost use Rattle.lisp_object.specs.Datum.{object_of};
-ghost use Rattle.package_table.specs.Numbers.{numbered};
+ghost use Rattle.package_table.specs.Numbers.{table_now};
 ghost use Rattle.package_table.specs.Symbols.{symbols};
 ghost use Rattle.plist_state.specs.Readers.{borrowed_symbols};
 ghost use Rattle.forgotten_names.specs.Marks.{AddsMarks, is_marked};
@@ -44,7 +44,7 @@ pub(crate) fn mark(
     home: &[u8],
     name: &[u8],
 ) -> Result<(), AllocError>
-    ensures { OnOk result (AddsMarks (numbered packages.now) marks.old.items marks.new.items
+    ensures { OnOk result (AddsMarks (table_now packages.now) marks.old.items marks.new.items
         ((home.now, name.now) ∷ [])) }
 {
     packages.numbering();
@@ -56,7 +56,7 @@ pub(crate) fn mark(
 
 /// Whether a symbol is marked.
 pub(crate) fn is_marked(packages: &Packages, marks: &[bool], home: &[u8], name: &[u8]) -> bool
-    ensures { result ≡ is_marked (numbered packages.now) marks.now (home.now, name.now) }
+    ensures { result ≡ is_marked (table_now packages.now) marks.now (home.now, name.now) }
 {
     match packages.number_of(home, name) {
         Some(number) => match marks.get(number as usize) {
@@ -75,7 +75,7 @@ pub(crate) fn mark_datum(
     marks: &mut Vec<bool>,
     datum: &Datum,
 ) -> Result<(), AllocError>
-    ensures { OnOk result (AddsMarks (numbered packages.now) marks.old.items marks.new.items
+    ensures { OnOk result (AddsMarks (table_now packages.now) marks.old.items marks.new.items
         (symbols (object_of datum.now))) }
 {
     match datum {
@@ -105,7 +105,7 @@ fn mark_items(
     marks: &mut Vec<bool>,
     items: &Items<Datum>,
 ) -> Result<(), AllocError>
-    ensures { OnOk result (AddsMarks (numbered packages.now) marks.old.items marks.new.items
+    ensures { OnOk result (AddsMarks (table_now packages.now) marks.old.items marks.new.items
         (flat_map (λ d. symbols (object_of d)) items.now)) }
 {
     let items = items.as_slice();
@@ -122,7 +122,7 @@ fn mark_end(
     marks: &mut Vec<bool>,
     tail: &Option<Boxed<Datum>>,
 ) -> Result<(), AllocError>
-    ensures { OnOk result (AddsMarks (numbered packages.now) marks.old.items marks.new.items
+    ensures { OnOk result (AddsMarks (table_now packages.now) marks.old.items marks.new.items
         (symbols (option_map_or object_of tail.now nil))) }
 {
     match tail {
@@ -133,7 +133,7 @@ fn mark_end(
 
 // NIL.
 fn mark_nil(packages: &Packages, marks: &mut Vec<bool>) -> Result<(), AllocError>
-    ensures { OnOk result (AddsMarks (numbered packages.now) marks.old.items marks.new.items
+    ensures { OnOk result (AddsMarks (table_now packages.now) marks.old.items marks.new.items
         (symbols nil)) }
 {
     mark(packages, marks, COMMON_LISP, b"NIL")
@@ -146,7 +146,7 @@ pub(crate) fn mark_all(
     marks: &mut Vec<bool>,
     symbols: &[(&[u8], &[u8])],
 ) -> Result<(), AllocError>
-    ensures { OnOk result (AddsMarks (numbered packages.now) marks.old.items marks.new.items
+    ensures { OnOk result (AddsMarks (table_now packages.now) marks.old.items marks.new.items
         (borrowed_symbols symbols.now)) }
 {
     for symbol in symbols {

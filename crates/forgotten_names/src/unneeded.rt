@@ -2,16 +2,16 @@
 ghost use Rattle.std.specs.Prelude.{◌≡◌, ◌∷◌, ◌++◌, ◌||◌, not, length, map, filter, IfOk, OnOk};
 ghost use Rattle.std.specs.List.{flat_map};
 ghost use Rattle.package_table.specs.Lookup.{is_external};
-ghost use Rattle.package_table.specs.Numbers.{numbered};
+ghost use Rattle.package_table.specs.Numbers.{table_now};
 ghost use Rattle.package_table.specs.Symbols.{symbols as symbols_of};
 ghost use Rattle.package_table.specs.Readers.{imports, own_names, package_names};
 ghost use Rattle.plist_state.specs.Changes.{plist};
 ghost use Rattle.plist_state.specs.Lists.{symbols};
 ghost use Rattle.plist_state.specs.Readers.{borrowed_symbol, borrowed_symbols};
 ghost use Rattle.plist_state.specs.Views.{property_of};
-ghost use Rattle.forgotten_names.specs.Forgotten.{forgettable};
+ghost use Rattle.forgotten_names.specs.WorldsWithoutNames.{forgettable};
 ghost use Rattle.forgotten_names.specs.Marks.{AddsMarks, AreMarked, is_marked};
-ghost use Rattle.forgotten_names.specs.Needed.{plist_symbols};
+ghost use Rattle.forgotten_names.specs.NeededSymbols.{plist_symbols};
 
 use crate::marks::{is_marked, mark, mark_all, mark_datum};
 use lisp_object::Bytes;
@@ -25,7 +25,7 @@ fn mark_property(
     marks: &mut Vec<bool>,
     property: Property<'_>,
 ) -> Result<(), AllocError>
-    ensures { OnOk result (AddsMarks (numbered packages.now) marks.old.items marks.new.items
+    ensures { OnOk result (AddsMarks (table_now packages.now) marks.old.items marks.new.items
         ((property_of property.entry).0 ∷ symbols_of (property_of property.entry).1)) }
 {
     mark(packages, marks, property.home, property.name)?;
@@ -39,7 +39,7 @@ fn mark_plist(
     marks: &mut Vec<bool>,
     list: &PropertyList<'_>,
 ) -> Result<(), AllocError>
-    ensures { OnOk result (AddsMarks (numbered packages.now) marks.old.items marks.new.items
+    ensures { OnOk result (AddsMarks (table_now packages.now) marks.old.items marks.new.items
         (plist_symbols list.now)) }
 {
     for index in 0..list.len() {
@@ -55,7 +55,7 @@ fn mark_owner(
     world: &World,
     owner: (&[u8], &[u8]),
 ) -> Result<(), AllocError>
-    ensures { OnOk result (AddsMarks (numbered packages.now) marks.old.items marks.new.items
+    ensures { OnOk result (AddsMarks (table_now packages.now) marks.old.items marks.new.items
         (borrowed_symbol owner.entry ∷ plist_symbols (plist world.now.0 (borrowed_symbol owner.entry)))) }
 {
     mark(packages, marks, owner.0, owner.1)?;
@@ -70,7 +70,7 @@ fn mark_owners(
     world: &World,
     owners: &[(&[u8], &[u8])],
 ) -> Result<(), AllocError>
-    ensures { OnOk result (AddsMarks (numbered packages.now) marks.old.items marks.new.items
+    ensures { OnOk result (AddsMarks (table_now packages.now) marks.old.items marks.new.items
         (flat_map (λ o. borrowed_symbol o ∷ plist_symbols (plist world.now.0 (borrowed_symbol o))) owners.now)) }
 {
     for owner in owners {
@@ -86,7 +86,7 @@ fn mark_imports(
     marks: &mut Vec<bool>,
     imported: &[(Bytes, Bytes)],
 ) -> Result<(), AllocError>
-    ensures { OnOk result (AddsMarks (numbered packages.now) marks.old.items marks.new.items
+    ensures { OnOk result (AddsMarks (table_now packages.now) marks.old.items marks.new.items
         (map (λ r. (r.1, r.0)) imported.now)) }
 {
     for (name, home) in imported {
@@ -103,7 +103,7 @@ fn mark_all_imports(
     marks: &mut Vec<bool>,
     owners: &[&[u8]],
 ) -> Result<(), AllocError>
-    ensures { OnOk result (AddsMarks (numbered packages.now) marks.old.items marks.new.items
+    ensures { OnOk result (AddsMarks (table_now packages.now) marks.old.items marks.new.items
         (flat_map (λ p. map (λ r. (r.1, r.0)) (imports packages.now.0 p.now)) owners.now)) }
 {
     for owner in owners {
@@ -118,7 +118,7 @@ fn mark_all_imports(
 /// Whether a symbol is external in its home, or marked. Takes no memory.
 pub(crate) fn is_needed(packages: &Packages, marks: &[bool], home: &[u8], name: &[u8]) -> bool
     ensures { result ≡ (is_external packages.now.0 home.now name.now
-        || is_marked (numbered packages.now) marks.now (home.now, name.now)) }
+        || is_marked (table_now packages.now) marks.now (home.now, name.now)) }
 {
     if packages.is_external(home, name) {
         return true;
@@ -136,7 +136,7 @@ fn push_unneeded<'a>(
 ) -> Result<(), AllocError>
     ensures { OnOk result (borrowed_symbols found.new.items ≡ borrowed_symbols found.old.items
         ++ filter (λ x. not (is_external packages.now.0 x.0 x.1
-        || is_marked (numbered packages.now) marks.now x)) (map (λ n. (home.now, n)) (own_names packages.now.0 home.now))) }
+        || is_marked (table_now packages.now) marks.now x)) (map (λ n. (home.now, n)) (own_names packages.now.0 home.now))) }
 {
     let Ok(names) = packages.own_names(alloc, home) else {
         return Err(AllocError);
@@ -157,7 +157,7 @@ fn unmarked<'a>(
 ) -> Result<Vec<(&'a [u8], &'a [u8])>, AllocError>
     ensures { IfOk result (λ found. borrowed_symbols found.items
         ≡ filter (λ x. not (is_external packages.now.0 x.0 x.1
-        || is_marked (numbered packages.now) marks.now x)) (symbols packages.now.0)) }
+        || is_marked (table_now packages.now) marks.now x)) (symbols packages.now.0)) }
 {
     let mut found = Vec::new(alloc);
     for home in packages.package_names(alloc)? {
@@ -174,7 +174,7 @@ pub(crate) fn needed_marks(
     held: &[(&[u8], &[u8])],
 ) -> Result<Vec<bool>, AllocError>
     ensures { IfOk result (λ marks. AreMarked (borrowed_symbols held.now) world.now.0
-        (numbered packages.now) marks.items) }
+        (table_now packages.now) marks.items) }
 {
     let mut marks = Vec::new(alloc);
     mark_all(packages, &mut marks, held)?;

@@ -49,8 +49,8 @@ checked_in setting (suc n) forms whole text =
     found_after (λ rest. checked_in setting n (suc forms) whole rest) forms (whole - length text) (decided_from setting text) text (reads setting text)
 
 -- What is found in a text: each form is read in this setting.
-abbrev pub checked : Setting → List ℕ → Checking
-checked setting text = checked_in setting (length text + 1) 0 (length text) text
+abbrev pub check_of_text : Setting → List ℕ → Checking
+check_of_text setting text = checked_in setting (length text + 1) 0 (length text) text
 
 -- what a text begins with
 abbrev pub IsBeginning : Setting → List ℕ → Beginning → Type 0

@@ -1,7 +1,7 @@
 //! Goes through a text form by form.
 ghost use Rattle.std.specs.Prelude.{◌≡◌, ◌≤◌, drop, length, IfOk};
 ghost use Rattle.package_table.specs.Table.{IsPackage};
-ghost use Rattle.form_check.specs.Checking.{checked, setting_under, after_line};
+ghost use Rattle.form_check.specs.Checking.{check_of_text, setting_under, after_line};
 
 use crate::begin::{Beginning, Under, beginning_of};
 use std::alloc::{AllocError, Global};
@@ -42,7 +42,7 @@ pub fn check<M: MacroFunctions>(
     requires highest_base { under.now.base ≤ 36 }
     requires current { IsPackage under.now.packages.now.0 under.now.current.now }
     ensures { IfOk result (λ found. (found.forms, found.unreadable.items)
-        ≡ checked (setting_under under.now.readtable.now under.now.base
+        ≡ check_of_text (setting_under under.now.readtable.now under.now.base
         under.now.packages.now.0 under.now.current.now (M.functions macros.now)) text.now) }
 {
     let mut found = Checked {

@@ -30,7 +30,7 @@ use Rattle.evaluator.proofs.Widening.{standard_among, wider_operators}
 use Rattle.evaluator.proofs.WithoutBase.{value_without_base}
 use Rattle.evaluator.proofs.NumberedForms.{value_numbered}
 use Rattle.package_table.specs.Symbols.{symbols}
-use Rattle.form_eval.specs.Acceptance.{table_of, after_symbol, with_symbols, accepted_over, accept_over, accepted_by, accept_by, accept, asked_with, asked}
+use Rattle.form_eval.specs.Acceptance.{table_of, after_symbol, with_symbols, accepted_over, accept_over, accepted_by, accept_by, accept, asked_with, question_value}
 
 -- ---- one that does not write
 symbol_still : (t : Table) (x : Symbol) (u : Table) → after_symbol t x ≡ Ok u → intern_changes t x.0 x.1 ≡ false → u ≡ t
@@ -140,5 +140,5 @@ answered_after_symbols : (names : List Name) (s : WorldState) (r : Result (Table
 answered_after_symbols names s (Ok p) x = (p.1, refl)
 answered_after_symbols names s (Err e) x = (false, refl)
 
-pub accepted_as_asked : (names : List Name) (s : WorldState) (x : Object) → (new : Bool) × (accept names s x ≡ also new (asked names s x))
+pub accepted_as_asked : (names : List Name) (s : WorldState) (x : Object) → (new : Bool) × (accept names s x ≡ also new (question_value names s x))
 accepted_as_asked names s x = answered_after_symbols names s (with_symbols s.packages (symbols x)) x

@@ -11,7 +11,7 @@ use Rattle.plist_state.specs.Changes.{with_packages}
 use Rattle.lisp_operators.specs.declared.error.EvaluationError.{EvaluationError}
 use Rattle.lisp_operators.specs.declared.error.EvaluationError.TheVariants.{Refused, OutOfMemory}
 use Rattle.lisp_operators.specs.Effects.{Leaves, effect}
-use Rattle.lisp_operators.specs.Evaluated.{Answers}
+use Rattle.lisp_operators.specs.EvaluationAnswers.{Answers}
 use Rattle.lisp_operators.specs.Evaluation.{Done, Evaluation, also}
 use Rattle.evaluator.specs.Value.{value}
 use Rattle.form_eval.specs.Acceptance.{accept, accepted_by, with_symbols}

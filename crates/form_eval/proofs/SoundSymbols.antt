@@ -11,7 +11,7 @@ use Rattle.package_table.specs.declared.error.PackageError.TheVariants.{NoSuchPa
 use Rattle.package_table.specs.Limits.{most_symbols, longest_symbol_name}
 use Rattle.package_table.specs.Table as packages
 use Rattle.package_table.specs.Table.{Name, Table, common_lisp, symbol_count, IsPresent}
-use Rattle.package_table.specs.Lookup.{found}
+use Rattle.package_table.specs.Lookup.{home_by_name}
 use Rattle.package_table.specs.Changes.{after_intern, intern_changes, with_new_symbol}
 use Rattle.package_table.specs.Growth.{Grows}
 use Rattle.package_table.proofs.Names.{same_some}
@@ -38,14 +38,14 @@ use Rattle.evaluator.proofs.SoundForms.{value_safe}
 
 -- a symbol that can be interned: its home finds no other by its name, which is of characters below 128
 pub record CanIntern (u : Table) (y : Symbol) : Type 0 where
-  fits : (h : Name) → found u y.0 y.1 ≡ Some h → h ≡ y.0
+  fits : (h : Name) → home_by_name u y.0 y.1 ≡ Some h → h ≡ y.0
   ascii : All (λ b. b < 128) y.1
 
 -- it is interned in its home
-interned_home : (u : Table) (p n h : Name) (v : Table) → ((h : Name) → found u p n ≡ Some h → h ≡ p) → after_intern u p n ≡ Ok (h, v) → h ≡ p
+interned_home : (u : Table) (p n h : Name) (v : Table) → ((h : Name) → home_by_name u p n ≡ Some h → h ≡ p) → after_intern u p n ≡ Ok (h, v) → h ≡ p
 interned_home u p n h v fits is =
     let there = passed (not (finite.contains_key u p)) NoSuchPackage _ (h, v) is in
-    elim (found u p n) as (λ o. found u p n ≡ o → option_map_or {U = Result (Name × Table) PackageError} (λ g. Ok (g, u)) o (cond (bytes_eq p common_lisp) (Err PackageIsLocked) (cond (nat_lt longest_symbol_name (length n) || nat_le most_symbols (symbol_count u)) (Err Limit) (Ok (p, with_new_symbol u p n)))) ≡ Ok (h, v) → h ≡ p) [
+    elim (home_by_name u p n) as (λ o. home_by_name u p n ≡ o → option_map_or {U = Result (Name × Table) PackageError} (λ g. Ok (g, u)) o (cond (bytes_eq p common_lisp) (Err PackageIsLocked) (cond (nat_lt longest_symbol_name (length n) || nat_le most_symbols (symbol_count u)) (Err Limit) (Ok (p, with_new_symbol u p n)))) ≡ Ok (h, v) → h ≡ p) [
       | Some g ↦ λ here same. sym (ap (λ (q : Name × Table). q.0) (same_ok (g, u) (h, v) same)) ∙ fits g here
       | None ↦ λ _ made.
           let open_to = passed (bytes_eq p common_lisp) PackageIsLocked _ (h, v) made in
@@ -78,7 +78,7 @@ step u y v sound can is =
             fits = λ g finds.
                 elim (place_cases z.0 z.1 y.0 y.1) [
                   | inl (same, alike) ↦
-                      let here : found w y.0 y.1 ≡ Some g = ap (λ m. found w y.0 m) (sym alike) ∙ ap (λ p. found w p z.1) (sym same) ∙ finds in
+                      let here : home_by_name w y.0 y.1 ≡ Some g = ap (λ m. home_by_name w y.0 m) (sym alike) ∙ ap (λ p. home_by_name w p z.1) (sym same) ∙ finds in
                       same_some g h (sym here ∙ done.finds) ∙ home ∙ sym same
                   | inr differ ↦ other.fits g (sym (done.others.finds z.0 z.1 differ) ∙ finds)
                 ];

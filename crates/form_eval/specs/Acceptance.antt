@@ -12,7 +12,7 @@ use Rattle.plist_state.specs.Changes.{with_packages}
 use Rattle.lisp_operators.specs.Evaluation.{Evaluation, also}
 use Rattle.lisp_operators.specs.declared.error.EvaluationError.{EvaluationError}
 use Rattle.lisp_operators.specs.declared.evaluated.Evaluated.{Evaluated}
-use Rattle.lisp_operators.specs.Evaluated.{Answers, done}
+use Rattle.lisp_operators.specs.EvaluationAnswers.{Answers, done}
 use Rattle.lisp_operators.specs.Packages.{one_by_one}
 use Rattle.evaluator.specs.Operators.{OperatorTable, operator_of}
 use Rattle.evaluator.specs.Value.{value, value_over}
@@ -67,9 +67,9 @@ asked_with names s (Ok p) x = value names (with_packages s p.0) x
 asked_with names s (Err e) x = Err (package_error_number e)
 
 -- What a form as a question gives.
-abbrev pub asked : List Name → WorldState → Object → Evaluation Object
-asked names s x = asked_with names s (with_symbols s.packages (symbols x)) x
+abbrev pub question_value : List Name → WorldState → Object → Evaluation Object
+question_value names s x = asked_with names s (with_symbols s.packages (symbols x)) x
 
 -- a form as a question is answered what the definition says, from the first of two states to the second
 abbrev pub IsAsked : List Name → Object → WorldState → WorldState → Result Evaluated EvaluationError → Type 0
-IsAsked names x old new result = Answers done result new (asked names old x)
+IsAsked names x old new result = Answers done result new (question_value names old x)

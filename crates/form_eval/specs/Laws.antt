@@ -5,18 +5,18 @@ use Rattle.lisp_object.specs.Datum.{object_of}
 use Rattle.lisp_object.specs.Object as object
 use Rattle.lisp_object.specs.Object.{Object, symbol, uninterned, AllAtoms, object_depth}
 use Rattle.package_table.specs.Table.{Name, Table}
-use Rattle.package_table.specs.Lookup.{found}
+use Rattle.package_table.specs.Lookup.{home_by_name}
 use Rattle.package_table.specs.Growth.{Grows}
 use Rattle.package_table.specs.Symbols.{are_there}
 use Rattle.plist_state.specs.State.{WorldState}
 use Rattle.plist_state.specs.Sound.{IsSoundWorldState, IsValue}
-use Rattle.lisp_operators.specs.Evaluated.{IsProper}
+use Rattle.lisp_operators.specs.EvaluationAnswers.{IsProper}
 use Rattle.lisp_operators.specs.Evaluation.{Done}
 
 -- The home of an interned symbol finds no other symbol by its name, and the name of an uninterned one has at most 4,096
 -- characters.
 abbrev pub FitsTable : Table → Object → Type 0
-FitsTable t (symbol home name) = (h : Name) → found t home name ≡ Some h → h ≡ home
+FitsTable t (symbol home name) = (h : Name) → home_by_name t home name ≡ Some h → h ≡ home
 FitsTable t (uninterned name) = length name ≤ 4096
 FitsTable t _ = Unit {0}
 

@@ -3,7 +3,7 @@ ghost use Rattle.std.specs.Prelude.{◌≡◌, ◌∷◌, ◌++◌, [], IfOk, If
 ghost use Rattle.lisp_object.specs.Datum.{object_of};
 ghost use Rattle.form_eval.specs.Acceptance.{IsAsked};
 ghost use Rattle.form_eval.specs.Laws.{MayEvaluate};
-ghost use Rattle.lisp_operators.specs.Evaluated.{IsArgument};
+ghost use Rattle.lisp_operators.specs.EvaluationAnswers.{IsArgument};
 ghost use Rattle.lisp_operators.specs.Readtables.{AreFunctionNames};
 
 use crate::read_form::ReadForm;

@@ -4,7 +4,7 @@ ghost use Rattle.std.specs.List.{list_any};
 ghost use Rattle.package_table.specs.Table.{common_lisp, common_lisp_names};
 ghost use Rattle.package_table.specs.Changes.{AnswersPackages};
 ghost use Rattle.plist_state.specs.Changes.{with_packages};
-ghost use Rattle.lisp_operators.specs.Evaluated.{MakesPackages};
+ghost use Rattle.lisp_operators.specs.EvaluationAnswers.{MakesPackages};
 ghost use Rattle.plist_state.specs.Readers.{borrowed_symbol, borrowed_symbols};
 ghost use Rattle.form_eval.specs.Acceptance.{after_symbol, with_symbols, is_new};
 

@@ -11,7 +11,7 @@ ghost use Rattle.evaluator.specs.Operators.{OperatorTable, AreOperatorsAmong, st
 ghost use Rattle.evaluator.specs.EarlierOperators.{operators_before_deciding, operators_before_places};
 ghost use Rattle.evaluator.specs.Value.{value, are_clauses};
 ghost use Rattle.evaluator.specs.FormObjects.{if_form, progn_form, and_form, or_form, cond_form, when_form, unless_form};
-ghost use Rattle.form_eval.specs.Acceptance.{accept, accept_by, accept_over, asked};
+ghost use Rattle.form_eval.specs.Acceptance.{accept, accept_by, accept_over, question_value};
 ghost use Rattle.lisp_operators.specs.Readtables.{AreCovered, AreFunctionNames};
 ghost use Rattle.form_eval.specs.Laws.{IsForm, IsSoundAfter};
 ghost use Rattle.form_eval.specs.PlaceForms.{get_form, setf_form, incf_form, decf_form, pop_form, car_form, cdr_form, prog1_form};
@@ -79,7 +79,7 @@ pub fn more_operators_change_no_form()
 /// writing also where a symbol is new. For proofs: it does nothing.
 pub fn questions_are_answered_as_forms()
     ensures { (names : List Name) (s : WorldState) (x : Object)
-        → (new : Bool) × (accept names s x ≡ also new (asked names s x)) }
+        → (new : Bool) × (accept names s x ≡ also new (question_value names s x)) }
 {}
 
 /// The forms that decide have the values of those that the standard gives for them (5.3), in the same states, or the same refusals:

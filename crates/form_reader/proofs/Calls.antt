@@ -29,7 +29,7 @@ use Rattle.form_reader.specs.declared.stack.Part.TheVariants.{Next as InNext, Li
 use Rattle.lisp_reading.specs.Plans.{Plan, Read, then_plan, fault}
 use Rattle.lisp_reading.specs.InvokedCalls.{InvokedCall}
 use Rattle.lisp_reading.specs.Setting.{Setting}
-use Rattle.lisp_reading.specs.Reading.{closed, completed}
+use Rattle.lisp_reading.specs.Reading.{closed, completed_call}
 use Rattle.form_reader.specs.Call.{plan_of, CallComesTo}
 use Rattle.form_reader.specs.Stack.{call_in, plan_gives}
 use Rattle.form_reader.proofs.Dispatches.{given_refused}
@@ -89,7 +89,7 @@ module _ (setting : Setting) (stack : List Frame) (call : InvokedCall) (at : ℕ
   closing part = plan_gives setting stack (call_in setting (record { call = call; part = part }) stack closed) at cs
 
   abbrev pub completing : Material → Read Found
-  completing material = plan_gives setting stack (completed setting (length stack) call false false material) at cs
+  completing material = plan_gives setting stack (completed_call setting (length stack) call false false material) at cs
 
   pub next_closes : (part : Part) → part ≡ InNext → closing part ≡ fault DOT_CONTEXT at
   next_closes part e = ap closing e ∙ given_refused setting stack at cs DOT_CONTEXT 0 ∙ (let e : at - 0 ≡ at = omega arith in ap (λ (n : ℕ). fault DOT_CONTEXT n) e)
@@ -122,9 +122,9 @@ module _ (setting : Setting) (stack : List Frame) (call : InvokedCall) (at : ℕ
 
 -- what the call gives, whether a token ends it or not
 pub call_ends : (setting : Setting) (stack : List Frame) (call : InvokedCall) (at : ℕ) (cs : List ℕ) (token : Bool) (material : Material) (depth : ℕ) (done : CallValue) (event : Event)
-    → depth ≡ length stack → completed setting depth call token false material ≡ plan_of done
-    → CallComesTo setting stack done at cs event → Brings setting stack at cs event (plan_gives setting stack (completed setting (length stack) call token false material) at cs)
+    → depth ≡ length stack → completed_call setting depth call token false material ≡ plan_of done
+    → CallComesTo setting stack done at cs event → Brings setting stack at cs event (plan_gives setting stack (completed_call setting (length stack) call token false material) at cs)
 call_ends setting stack call at cs token material depth done event open_calls comes brings =
-    let same : completed setting (length stack) call token false material ≡ plan_of done =
-    ap (λ (n : ℕ). completed setting n call token false material) (sym open_calls) ∙ comes in
+    let same : completed_call setting (length stack) call token false material ≡ plan_of done =
+    ap (λ (n : ℕ). completed_call setting n call token false material) (sym open_calls) ∙ comes in
     subst (λ (plan : Plan Found). Brings setting stack at cs event (plan_gives setting stack plan at cs)) (sym same) brings

@@ -10,7 +10,7 @@ use Rattle.token_scan.specs.declared.mark.Mark.{Mark}
 use Rattle.token_scan.specs.declared.refusal.ScanRefusal.TheVariants.{InvalidCharacter}
 use Rattle.token_scan.specs.declared.stage.Stage.{Stage as ScanStage}
 use Rattle.token_scan.specs.declared.stage.Stage.TheVariants.{Outside, Inside, EscapedOutside, EscapedInside, Refused as ScanRefused}
-use Rattle.token_scan.specs.Tokens.{Scanned, fault_of_scan as scan_fault, with_front, one_more, escaped_character, kind, typed, outside, inside}
+use Rattle.token_scan.specs.Tokens.{Scanned, fault_of_scan as scan_fault, with_front, one_more, escaped_character, kind, typed_byte, outside, inside}
 use Rattle.token_scan.specs.ByteByByte.{Scan, from_stage}
 use Rattle.readtable_core.specs.declared.characters.Syntax.TheVariants.{Invalid}
 use Rattle.token_scan.proofs.Steps.{outside_invalid, inside_invalid}
@@ -25,7 +25,7 @@ use Rattle.lisp_reading.specs.InvokedCalls.{keep_of}
 use Rattle.lisp_reading.specs.Setting.{Setting}
 use Rattle.form_reader.specs.Token.{is_going, token_read, refused_number}
 use Rattle.form_reader.specs.Stack.{close_of, close_of_stack, next_item_in, call_in, outer_plan, between_objects, token_goes_on}
-use Rattle.lisp_reading.specs.Gathering.{text_turn, kept, line_turn, block_turn}
+use Rattle.lisp_reading.specs.Gathering.{text_turn, kept_characters, line_turn, block_turn}
 use Rattle.lisp_reading.specs.Reading.{Piece, Outcome, form, empty, refused, piece_of, closed, or_closed, next_item_turn, next_item, stands_alone, alone, inner, attempt, reads, number_after, sub_there, dispatch_plan}
 use Rattle.form_reader.specs.State.{IsStateAt, inner_at, state_gives}
 use Rattle.form_reader.specs.Reader.{MayGoOn, DecideNothing}
@@ -108,7 +108,7 @@ module _ (setting : Setting) (stack : List Frame) (at c : ℕ) where
 
     line_fails : (keep : Keep) (text : List ℕ) → Fails at (reading (loop setting.limits (line_turn keep) text))
     line_fails keep text =
-        let on : ℕ → Plan (List ℕ) = λ d. elim (d == 10) [ true ↦ gives text | false ↦ loop setting.limits (line_turn keep) (kept keep text d) ] in
+        let on : ℕ → Plan (List ℕ) = λ d. elim (d == 10) [ true ↦ gives text | false ↦ loop setting.limits (line_turn keep) (kept_characters keep text d) ] in
         subst (Fails at) (sym (loop_is setting.table setting.limits (line_turn keep) (line_guarded setting.table setting.limits keep) text at (c ∷ []) le))
         (taken_fails setting.table setting.limits (gives text) (λ d. true) (character on) at c INVALID_CHARACTER refl refl (no_character on c beyond))
 
@@ -164,14 +164,14 @@ between_fails setting (f ∷ fs) at c le alien =
 
 -- ---- in a token
 
-no_kind : (table : Table) (c : ℕ) → 128 ≤ c → kind (typed table c) ≡ Invalid
-no_kind table c beyond = ap (λ b. if b then (typed table c).syntax else Invalid) (le-ltb c 128 beyond)
+no_kind : (table : Table) (c : ℕ) → 128 ≤ c → kind (typed_byte table c) ≡ Invalid
+no_kind table c beyond = ap (λ b. if b then (typed_byte table c).syntax else Invalid) (le-ltb c 128 beyond)
 
 -- a token refuses it
-scan_fails : (table : Table) (c left at : ℕ) (stage : ScanStage) → IsTrue (is_going stage) → 128 ≤ c → from_stage stage left at (typed table c ∷ []) ≡ scan_fault InvalidCharacter at
+scan_fails : (table : Table) (c left at : ℕ) (stage : ScanStage) → IsTrue (is_going stage) → 128 ≤ c → from_stage stage left at (typed_byte table c ∷ []) ≡ scan_fault InvalidCharacter at
 unfolding outside
-scan_fails table c left at Outside going beyond = (outside_invalid (typed table c) [] left at (no_kind table c beyond))
-scan_fails table c left at Inside going beyond = (inside_invalid (typed table c) [] left at (no_kind table c beyond))
+scan_fails table c left at Outside going beyond = (outside_invalid (typed_byte table c) [] left at (no_kind table c beyond))
+scan_fails table c left at Inside going beyond = (inside_invalid (typed_byte table c) [] left at (no_kind table c beyond))
 scan_fails table c left at EscapedOutside going beyond = (ap (λ b. if b then one_more left at (λ left. escaped_character c (outside left (at + 1) [])) else scan_fault InvalidCharacter at) (le-ltb c 128 beyond))
 scan_fails table c left at EscapedInside going beyond = (ap (λ b. if b then one_more left at (λ left. escaped_character c (inside left (at + 1) [])) else scan_fault InvalidCharacter at) (le-ltb c 128 beyond))
 scan_fails table c left at (ScanRefused refusal) going beyond = cc

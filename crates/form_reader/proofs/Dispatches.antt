@@ -15,10 +15,10 @@ use Rattle.form_reader.specs.declared.stack.Part.TheVariants.{Next as InNext, Li
 use Rattle.form_reader.specs.declared.state.Event.{Event}
 use Rattle.lisp_reading.specs.declared.way.Way.{Way}
 use Rattle.lisp_reading.specs.declared.way.Way.TheVariants.{Nothing, Next, List as AList, Until, Token, EscapedToken}
-use Rattle.lisp_reading.specs.Plans.{Plan, refuses, scans, Read, fault, limited, scanned, run}
+use Rattle.lisp_reading.specs.Plans.{Plan, refuses, scans, Read, fault, limited_token, token_at_front, run}
 use Rattle.lisp_reading.specs.InvokedCalls.{InvokedCall}
 use Rattle.lisp_reading.specs.Setting.{Setting, way_in, function_of}
-use Rattle.lisp_reading.specs.Reading.{completed, gathering_plan, gathered_by, called, attempt, inner, dispatch_plan, macro_called, sub_called, sub_there, number_after}
+use Rattle.lisp_reading.specs.Reading.{completed_call, gathering_plan, gathered_by, call_plan, attempt, inner, dispatch_plan, macro_called, sub_called, sub_there, number_after}
 use Rattle.form_reader.specs.Call.{plan_of}
 use Rattle.form_reader.specs.Token.{token_read, TokenFeeds}
 use Rattle.form_reader.specs.Stack.{outer_plan, between_objects, plan_gives, token_goes_on}
@@ -104,8 +104,8 @@ pub token_begins : (setting : Setting) (stack : List Frame) (limit : ℕ) (on : 
     ≡ token_goes_on setting stack on (token_read setting.table setting.limits (first_scan limit) at cs)
 unfolding run
 token_begins setting stack limit on at cs =
-    scanned_is setting stack (scans false limit on) on at cs (limited setting.limits.text (scanned false setting.table limit at cs) (λ p. p.1)) refl
-    ∙ ap (λ (r : ScannedBytes). token_goes_on setting stack on (limited setting.limits.text r (λ p. p.1)))
+    scanned_is setting stack (scans false limit on) on at cs (limited_token setting.limits.text (token_at_front false setting.table limit at cs) (λ p. p.1)) refl
+    ∙ ap (λ (r : ScannedBytes). token_goes_on setting stack on (limited_token setting.limits.text r (λ p. p.1)))
     (sym (front_nothing (token limit at (typed_text setting.table cs))))
 
 pub escaped_begins : (setting : Setting) (stack : List Frame) (limit : ℕ) (on : List Mark → Plan Found) (at : ℕ) (cs : List ℕ)
@@ -113,8 +113,8 @@ pub escaped_begins : (setting : Setting) (stack : List Frame) (limit : ℕ) (on 
     ≡ token_goes_on setting stack on (token_read setting.table setting.limits (begun_escaped limit) at cs)
 unfolding run
 escaped_begins setting stack limit on at cs =
-    scanned_is setting stack (scans true limit on) on at cs (limited setting.limits.text (scanned true setting.table limit at cs) (λ p. p.1)) refl
-    ∙ ap (λ (r : ScannedBytes). token_goes_on setting stack on (limited setting.limits.text r (λ p. p.1)))
+    scanned_is setting stack (scans true limit on) on at cs (limited_token setting.limits.text (token_at_front true setting.table limit at cs) (λ p. p.1)) refl
+    ∙ ap (λ (r : ScannedBytes). token_goes_on setting stack on (limited_token setting.limits.text r (λ p. p.1)))
     (sym (front_nothing (escaped_token limit at (typed_text setting.table cs))))
 
 -- ---- what a call brings where it begins
@@ -129,25 +129,25 @@ module _ (setting : Setting) (stack : List Frame) (call : InvokedCall) (way : Wa
 
   abbrev call_token : Scan → Read Found
   call_token scan =
-      token_goes_on setting stack (λ marks. completed setting (length stack) call true false (marked marks)) (token_read setting.table setting.limits scan at cs)
+      token_goes_on setting stack (λ marks. completed_call setting (length stack) call true false (marked marks)) (token_read setting.table setting.limits scan at cs)
 
   pub token_at : (scan : Scan) → way ≡ Token → scan ≡ first_scan setting.limits.token → opened_so way ≡ call_token scan
   token_at scan e p =
-      ap opened_so e ∙ token_begins setting stack setting.limits.token (λ marks. completed setting (length stack) call true false (marked marks)) at cs
+      ap opened_so e ∙ token_begins setting stack setting.limits.token (λ marks. completed_call setting (length stack) call true false (marked marks)) at cs
       ∙ ap call_token (sym p)
 
   pub escaped_at : (scan : Scan) → way ≡ EscapedToken → scan ≡ begun_escaped setting.limits.token → opened_so way ≡ call_token scan
   escaped_at scan e p =
-      ap opened_so e ∙ escaped_begins setting stack setting.limits.token (λ marks. completed setting (length stack) call true false (marked marks)) at cs
+      ap opened_so e ∙ escaped_begins setting stack setting.limits.token (λ marks. completed_call setting (length stack) call true false (marked marks)) at cs
       ∙ ap call_token (sym p)
 
   pub nothing_at : (result : Result Event AllocError) → way ≡ Nothing
-      → IfOk result (λ event. Brings setting stack at cs event (plan_gives setting stack (completed setting (length stack) call false false no_material) at cs))
+      → IfOk result (λ event. Brings setting stack at cs event (plan_gives setting stack (completed_call setting (length stack) call false false no_material) at cs))
       → IfOk result (λ event. CallGathers setting stack stack call way at cs event)
   nothing_at result e brings = subst (λ (r : Read Found). IfOk result (λ event. Brings setting stack at cs event r)) (sym (ap opened_so e)) brings
 
 pub none_begins : (setting : Setting) (stack : List Frame) (call : InvokedCall) (at offset : ℕ) (cs : List ℕ) → way_in setting call ≡ None → offset ≡ at - 1
-    → run setting.table setting.limits (outer_plan setting stack (called setting (length stack) (inner_at setting (length stack)) call)) at cs ≡ fault OUT_OF_PROFILE offset
+    → run setting.table setting.limits (outer_plan setting stack (call_plan setting (length stack) (inner_at setting (length stack)) call)) at cs ≡ fault OUT_OF_PROFILE offset
 none_begins setting stack call at offset cs e p =
     ap (λ (o : Option Way). run setting.table setting.limits (outer_plan setting stack (gathered_by setting (length stack) (inner_at setting (length stack)) call o)) at cs) e
     ∙ refused_is setting stack call at cs OUT_OF_PROFILE 1 ∙ ap (λ (n : ℕ). fault OUT_OF_PROFILE n) (sym p)
@@ -169,13 +169,13 @@ module _ (setting : Setting) (stack : List Frame) (c at : ℕ) (cs : List ℕ) w
   of_character f = record { function = f; character = c; sub = None; number = None }
 
   abbrev call_gives : InvokedCall → Read Found
-  call_gives call = run setting.table setting.limits (outer_plan setting stack (called setting (length stack) (inner_at setting (length stack)) call)) at cs
+  call_gives call = run setting.table setting.limits (outer_plan setting stack (call_plan setting (length stack) (inner_at setting (length stack)) call)) at cs
 
   named_gives : (name : List ℕ) → is_dispatch_name name ≡ false → macro_gives (Some name) ≡ call_gives (of_character (function_of name))
   named_gives name e =
       let by : Bool → Plan Found = λ b. elim b [
         | true ↦ dispatch_plan setting (length stack) (inner_at setting (length stack)) c None
-        | false ↦ called setting (length stack) (inner_at setting (length stack)) (of_character (function_of name))
+        | false ↦ call_plan setting (length stack) (inner_at setting (length stack)) (of_character (function_of name))
       ] in
       ap (λ (b : Bool). run setting.table setting.limits (outer_plan setting stack (by b)) at cs) e
 
@@ -227,7 +227,7 @@ module _ (setting : Setting) (stack : List Frame) (character at c : ℕ) (number
   of_sub f sub n = record { function = f; character = character; sub = Some sub; number = n }
 
   abbrev sub_call_gives : InvokedCall → Read Found
-  sub_call_gives call = run setting.table setting.limits (outer_plan setting stack (called setting (length stack) (inner_at setting (length stack)) call)) (at + 1) cs
+  sub_call_gives call = run setting.table setting.limits (outer_plan setting stack (call_plan setting (length stack) (inner_at setting (length stack)) call)) (at + 1) cs
 
   pub sub_some : (after : List Frame) (name : List ℕ) (f : Function) (sub : ℕ) (n : Option ℕ) (call : InvokedCall) (result : Result Event AllocError)
       → at < setting.limits.text → c < 128 → dispatch_at setting.table character c ≡ Some name → f ≡ function_of name → sub ≡ upper_case c → n ≡ number

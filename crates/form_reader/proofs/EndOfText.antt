@@ -39,7 +39,7 @@ use Rattle.readtable_core.specs.Characters.{has_invalid_trait}
 use Rattle.token_scan.specs.declared.mark.Mark.TheVariants.{Plain, Quoted, Bar}
 use Rattle.token_scan.specs.declared.stage.Stage.{Stage as ScanStage}
 use Rattle.token_scan.specs.declared.stage.Stage.TheVariants.{Outside, Inside, EscapedOutside, EscapedInside, Refused as ScanRefused}
-use Rattle.token_scan.specs.Tokens.{TypedByte, Scanned, kind, is_character, with_front, escaped_character, after_single_escape, outside, inside, escaped_outside, escaped_inside, typed, typed_text}
+use Rattle.token_scan.specs.Tokens.{TypedByte, Scanned, kind, is_character, with_front, escaped_character, after_single_escape, outside, inside, escaped_outside, escaped_inside, typed_byte, typed_text}
 use Rattle.token_scan.specs.Spelling.{is_plain_syntax, ends_tokens}
 use Rattle.token_scan.proofs.Steps.{outside_ends, outside_plain, outside_escape, outside_bar, outside_invalid, inside_between, inside_escape, inside_bar, inside_invalid}
 use Rattle.token_scan.proofs.Forwards.{Forwards, forwards}
@@ -296,7 +296,7 @@ cut_forwards limit at (Err f) le marks next ds e = by (stands_below limit f.refu
 token_there : (table : Table) (limits : Limits) (scan : Scan) (at c : ℕ) (marks : List Mark) (ds : List ℕ) → token_read table limits scan at (c ∷ []) ≡ Ok (marks, at, ds)
     → token_read table limits scan at [] ≡ Ok (marks, at, [])
 token_there table limits scan at c marks ds e =
-    cut_there limits.text at scan.marks (from_stage scan.stage scan.left at (typed table c ∷ [])) (from_stage scan.stage scan.left at []) (stage_there (typed table c) scan.left at scan.stage) marks ds e
+    cut_there limits.text at scan.marks (from_stage scan.stage scan.left at (typed_byte table c ∷ [])) (from_stage scan.stage scan.left at []) (stage_there (typed_byte table c) scan.left at scan.stage) marks ds e
 
 -- ---- plans
 

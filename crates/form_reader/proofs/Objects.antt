@@ -24,7 +24,7 @@ use Rattle.form_reader.proofs.Stacks.{then_moves, given_moves, given_fault, ends
 use Rattle.form_reader.proofs.Dispatches.{token_begins, given_refused}
 use Rattle.form_reader.specs.declared.state.State.TheVariants.{Object as AtObject, Token as AtToken}
 use Rattle.token_scan.specs.declared.mark.Mark.{Mark}
-use Rattle.token_scan.specs.Tokens.{kind, typed}
+use Rattle.token_scan.specs.Tokens.{kind, typed_byte}
 use Rattle.token_scan.specs.Spelling.{ends_tokens}
 use Rattle.form_reader.specs.declared.state.Moved.{Moved}
 use Rattle.form_reader.specs.declared.state.State.{State}
@@ -34,7 +34,7 @@ use Rattle.lisp_reading.specs.declared.told.TellError.{TellError}
 use Rattle.lisp_reading.specs.declared.told.TellError.TheVariants.{Refused as TellRefused}
 use Rattle.lisp_reading.specs.Naming.{token_meant, told_meaning, TellsMeaning}
 use Rattle.token_meaning.specs.Meanings.{meaning_of}
-use Rattle.token_meaning.specs.Folding.{folded}
+use Rattle.token_meaning.specs.Folding.{folded_marks}
 use Rattle.readtable_core.specs.declared.table.Case.{Case}
 
 module _ {A : Type 0} (table : Table) (limits : Limits) (other : Plan A) (test : ℕ → Bool) (on : ℕ → Plan A) (at c : ℕ) (cs : List ℕ) where
@@ -200,7 +200,7 @@ no_end true Constituent e = refl
 no_end true SingleEscape e = refl
 no_end true MultipleEscape e = refl
 
-pub begins_token : (table : Table) (c : ℕ) → stands_alone (entry_at table c).syntax ≡ false → IsFalse (ends_tokens (kind (typed table c)))
+pub begins_token : (table : Table) (c : ℕ) → stands_alone (entry_at table c).syntax ≡ false → IsFalse (ends_tokens (kind (typed_byte table c)))
 begins_token table c e = no_end (nat_lt c 128) (entry_at table c).syntax e
 
 -- what the token gives is what its attempt comes to
@@ -220,10 +220,10 @@ first_told table limits at cs read fed known e h = subst (λ (f : FirstByte). Fi
 
 -- the number of its refusal
 pub refused_told : (setting : Setting) (letters : Case) (marks : List Mark) (e : TellError) (code : ℕ) → letters ≡ setting.table.letters → e ≡ TellRefused code
-    → TellsMeaning (Err e) (told_meaning setting.packages setting.current (meaning_of setting.base (folded letters marks))) → token_meant setting marks ≡ Err code
+    → TellsMeaning (Err e) (told_meaning setting.packages setting.current (meaning_of setting.base (folded_marks letters marks))) → token_meant setting marks ≡ Err code
 refused_told setting letters marks e code same is tells =
     subst (λ (e : TellError). TellsMeaning (Err e) (token_meant setting marks)) is
-    (subst (λ (letters : Case). TellsMeaning (Err e) (told_meaning setting.packages setting.current (meaning_of setting.base (folded letters marks)))) same tells)
+    (subst (λ (letters : Case). TellsMeaning (Err e) (told_meaning setting.packages setting.current (meaning_of setting.base (folded_marks letters marks)))) same tells)
 
 module _ (setting : Setting) (stack : List Frame) (at : ℕ) (cs : List ℕ) where
   abbrev comes : Plan Found → Read Found

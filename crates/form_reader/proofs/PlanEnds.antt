@@ -8,7 +8,7 @@ use Rattle.token_scan.specs.declared.mark.Mark.{Mark}
 use Rattle.token_scan.specs.declared.refusal.ScanRefusal.TheVariants.{EndOfFile}
 use Rattle.token_scan.specs.Tokens.{outside}
 use Rattle.lisp_reading.specs.declared.limits.Limits.{Limits}
-use Rattle.lisp_reading.specs.Plans.{Plan, gives, refuses, takes, scans, then_plan, next_byte, character, loop_in, loop, Read, scanned, limited, run}
+use Rattle.lisp_reading.specs.Plans.{Plan, gives, refuses, takes, scans, then_plan, next_byte, character, loop_in, loop, Read, token_at_front, limited_token, run}
 use Rattle.form_reader.proofs.Tokens.{refused_cut}
 
 -- the numbers of a byte that is no character, and of one too many
@@ -39,7 +39,7 @@ module _ {A : Type 0} (P : A → Type 0) (table : Table) (limits : Limits) (at :
   goes_on on q = elim q [ Ok p ↦ run table limits (on p.0) p.1 p.2 | Err e ↦ Err e ]
 
   scan_at_end : (escaped : Bool) (limit : ℕ) (on : List Mark → Plan A) → LastRead P (run table limits (on []) at [])
-      → LastRead P (goes_on on (limited limits.text (scanned escaped table limit at []) (λ p. p.1)))
+      → LastRead P (goes_on on (limited_token limits.text (token_at_front escaped table limit at []) (λ p. p.1)))
   unfolding outside
   scan_at_end false limit on h =
       let by : Bool → Read A = λ b. goes_on on (elim b [ true ↦ Ok ([], at, []) | false ↦ Err (record { number = FORM_TOO_LONG; at = limits.text }) ]) in

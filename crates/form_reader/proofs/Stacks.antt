@@ -11,7 +11,7 @@ use Rattle.form_reader.specs.declared.stack.Part.TheVariants.{List as InList, Un
 use Rattle.lisp_reading.specs.Plans.{Plan, takes, then_plan, Fault, Read, within, run}
 use Rattle.lisp_reading.specs.InvokedCalls.{InvokedCall}
 use Rattle.lisp_reading.specs.Setting.{Setting}
-use Rattle.lisp_reading.specs.Reading.{Piece, is_whitespace, without_space, piece_of, next_item, Items, items_step, items_turn, items_after, undotted, list_end, completed}
+use Rattle.lisp_reading.specs.Reading.{Piece, is_whitespace, without_space, piece_of, next_item, Items, items_step, items_turn, items_after, undotted_plan, list_end, completed_call}
 use Rattle.form_reader.specs.Stack.{attempt_in, next_item_in, call_in, outer_plan, between_objects, with_found, calls_with}
 use Rattle.lisp_reading.proofs.Steps.{and_then, run_then}
 use Rattle.lisp_reading.proofs.Turns.{Ends, attempt_ends, loop_is, items_guarded}
@@ -104,19 +104,19 @@ ends_in setting stack = attempt_ends setting _ _
 
 pub list_is : (setting : Setting) (stack : List Frame) (call : InvokedCall) (xs : List Object) (at : ℕ) (cs : List ℕ) → at ≤ setting.limits.text
     → run setting.table setting.limits (outer_plan setting stack (then_plan (items_after setting 41 (attempt_in setting stack) xs)
-    (list_end setting (attempt_in setting stack) (λ m. completed setting (length stack) call false false m)))) at cs
+    (list_end setting (attempt_in setting stack) (λ m. completed_call setting (length stack) call false false m)))) at cs
     ≡ run setting.table setting.limits (between_objects setting (record { call = call; part = InList xs } ∷ stack)) at cs
 list_is setting stack call xs at cs h =
     given_moves setting stack _ _ at at cs cs (items_are setting 41 (attempt_in setting stack)
-    (list_end setting (attempt_in setting stack) (λ m. completed setting (length stack) call false false m)) xs at cs (ends_in setting stack) h)
+    (list_end setting (attempt_in setting stack) (λ m. completed_call setting (length stack) call false false m)) xs at cs (ends_in setting stack) h)
 
 pub until_is : (setting : Setting) (stack : List Frame) (call : InvokedCall) (close : ℕ) (xs : List Object) (at : ℕ) (cs : List ℕ) → at ≤ setting.limits.text
     → run setting.table setting.limits (outer_plan setting stack (then_plan (items_after setting close (attempt_in setting stack) xs)
-    (undotted (λ m. completed setting (length stack) call false false m)))) at cs
+    (undotted_plan (λ m. completed_call setting (length stack) call false false m)))) at cs
     ≡ run setting.table setting.limits (between_objects setting (record { call = call; part = InUntil close xs } ∷ stack)) at cs
 until_is setting stack call close xs at cs h =
     given_moves setting stack _ _ at at cs cs (items_are setting close (attempt_in setting stack)
-    (undotted (λ m. completed setting (length stack) call false false m)) xs at cs (ends_in setting stack) h)
+    (undotted_plan (λ m. completed_call setting (length stack) call false false m)) xs at cs (ends_in setting stack) h)
 
 -- ---- a whitespace character that may be discarded
 

@@ -11,7 +11,7 @@ use Rattle.readtable_core.specs.Tables.{Table}
 use Rattle.package_table.specs.declared.error.PackageError.{PackageError}
 use Rattle.package_table.specs.declared.error.PackageError.TheVariants.{NoPackage, NotExternal, LockedPackage}
 use Rattle.package_table.specs.ErrorNumbers.{package_error_number}
-use Rattle.package_table.specs.Lookup.{found, external_home}
+use Rattle.package_table.specs.Lookup.{home_by_name, external_home}
 use Rattle.package_table.specs.Resolving.{Resolution, found_at, new_in, resolution, external_resolution, internal_resolution}
 use Rattle.package_table.specs.Table.{Name, Table as Packages, common_lisp, package_named}
 use Rattle.token_scan.specs.declared.mark.Mark.{Mark}
@@ -24,7 +24,7 @@ use Rattle.token_meaning.specs.declared.refusal.MeaningRefusal.{MeaningRefusal}
 use Rattle.token_meaning.specs.declared.refusal.MeaningRefusal.TheVariants.{DotsOnly, FloatToken, NumberRange, ZeroDenominator, PackageMarkers}
 use Rattle.token_meaning.specs.declared.token.TokenName.{TokenName}
 use Rattle.token_meaning.specs.declared.token.TokenName.TheVariants.{Unqualified, Keyword, External, Internal}
-use Rattle.token_meaning.specs.Folding.{folded}
+use Rattle.token_meaning.specs.Folding.{folded_marks}
 use Rattle.token_meaning.specs.Meanings.{Meaning, number, dot as a_dot, name, meaning_of}
 use Rattle.token_meaning.specs.Results.{meaning_refusal_number}
 use Rattle.user_macros.specs.Calls.{MacroAnswer, value, no_value, improper, refused as answer_refused}
@@ -51,7 +51,7 @@ use Rattle.lisp_reading.specs.Naming.{symbol_in, symbol_at, named, told_meaning,
 use Rattle.lisp_reading.specs.Answering.{may_be_answered}
 use Rattle.form_reader.specs.Token.{is_going}
 use Rattle.form_reader.specs.Stack.{next_item_in, part_gives, call_in, outer_plan, between_objects, token_goes_on}
-use Rattle.lisp_reading.specs.Reading.{Piece, item, dot, closed, is_whitespace, without_space, piece_of, or_closed, next_item_turn, next_item, Items, items_step, items_turn, items_after, undotted, after_tail, after_dot, list_end, bytes_back, finished, plan_after_answer, completed_by, completed, text_to, line_after, block_after, number_after, sub_there, dispatch_plan, told_found, token_found, attempt, Outcome, form, empty, refused}
+use Rattle.lisp_reading.specs.Reading.{Piece, item, dot, closed, is_whitespace, without_space, piece_of, or_closed, next_item_turn, next_item, Items, items_step, items_turn, items_after, undotted_plan, after_tail, after_dot, list_end, bytes_back, finished_plan, plan_after_answer, completed_by, completed_call, text_to, line_after, block_after, number_after, sub_there, dispatch_plan, told_found, token_found, attempt, Outcome, form, empty, refused}
 use Rattle.form_reader.specs.State.{IsStateAt, inner_at, state_gives}
 use Rattle.form_reader.specs.Step.{outcome_of}
 use Rattle.form_reader.proofs.Tokens.{cut, refused_cut}
@@ -77,7 +77,7 @@ standard_blames VectorLength = refl
 standard_blames UninternedToken = refl
 standard_blames OutOfProfile = refl
 
-finished_at_end : (token : Bool) (v : Value) → AtEnd Whatever (finished token v)
+finished_at_end : (token : Bool) (v : Value) → AtEnd Whatever (finished_plan token v)
 finished_at_end token (Ok (Some x)) = gives_at_end Whatever (one token x) tt
 finished_at_end token (Ok None) = gives_at_end Whatever (nothing false) tt
 finished_at_end token (Err refusal) = refuses_at_end Whatever (std_refusal_number refusal) (bytes_back refusal) (standard_blames refusal)
@@ -100,7 +100,7 @@ completed_by_at_end setting depth call (User own) token spaced material =
     answered_at_end setting.packages setting.limits.nesting depth token spaced (setting.answer own (macro_call call material))
 
 completed_at_end : (setting : Setting) (depth : ℕ) (call : InvokedCall) (token spaced : Bool) (material : Material)
-    → AtEnd Whatever (completed setting depth call token spaced material)
+    → AtEnd Whatever (completed_call setting depth call token spaced material)
 completed_at_end setting depth call token spaced material = completed_by_at_end setting depth call call.function token spaced material
 
 -- ---- tokens
@@ -113,7 +113,7 @@ resolved_by p (Some h) = tt
 resolved_by p None = elim (bytes_eq p common_lisp) as (λ b. Resolved {A = Resolution} (if b then Err LockedPackage else Ok (new_in p))) [ true ↦ refl | false ↦ tt ]
 
 resolution_blames : (t : Packages) (p own : Name) → Resolved (resolution t p own)
-resolution_blames t p own = resolved_by p (found t p own)
+resolution_blames t p own = resolved_by p (home_by_name t p own)
 
 external_blames : (t : Packages) (prefix own : Name) → Resolved (external_resolution t prefix own)
 external_blames t prefix own =
@@ -160,7 +160,7 @@ told_found_at_end (Err code) h = refuses_at_end Whatever code 0 h
 token_at_end : (setting : Setting) (marks : List Mark) → AtEnd Whatever (token_found setting marks)
 token_at_end setting [] = gives_at_end Whatever the_end tt
 token_at_end setting (m ∷ ms) =
-    told_found_at_end (token_meant setting (m ∷ ms)) (told_blames setting.packages setting.current (meaning_of setting.base (folded setting.table.letters (m ∷ ms))))
+    told_found_at_end (token_meant setting (m ∷ ms)) (told_blames setting.packages setting.current (meaning_of setting.base (folded_marks setting.table.letters (m ∷ ms))))
 
 -- ---- where an object may begin
 
@@ -194,15 +194,15 @@ module _ (setting : Setting) (depth room : ℕ) (call : InvokedCall) where
   abbrev may : Plan Found
   may = attempt setting room
 
-  undotted_at_end : (items : Items) → AtEnd Whatever (undotted (λ m. completed setting depth call false false m) items)
+  undotted_at_end : (items : Items) → AtEnd Whatever (undotted_plan (λ m. completed_call setting depth call false false m) items)
   undotted_at_end (xs, true) = completed_at_end setting depth call false false (many xs)
   undotted_at_end (xs, false) = refuses_at_end Whatever DOT_CONTEXT 0 refl
 
-  list_at_end : (items : Items) → AtEnd Whatever (list_end setting may (λ m. completed setting depth call false false m) items)
+  list_at_end : (items : Items) → AtEnd Whatever (list_end setting may (λ m. completed_call setting depth call false false m) items)
   list_at_end (xs, true) = completed_at_end setting depth call false false (many xs)
   list_at_end ([], false) = refuses_at_end Whatever DOT_CONTEXT 0 refl
   list_at_end (x ∷ xs, false) =
-      never_then Whatever (next_item setting (Some 41) may) (after_dot setting may (λ m. completed setting depth call false false m) (x ∷ xs)) (next_item_at_end setting (Some 41) room)
+      never_then Whatever (next_item setting (Some 41) may) (after_dot setting may (λ m. completed_call setting depth call false false m) (x ∷ xs)) (next_item_at_end setting (Some 41) room)
 
   step_at_end : (close : ℕ) (xs : List Object) (p : Piece) → AtEnd Whatever (items_step setting.table (items_after setting close may) xs p)
   step_at_end close xs closed = gives_at_end Whatever (xs, true) tt
@@ -216,16 +216,16 @@ module _ (setting : Setting) (depth room : ℕ) (call : InvokedCall) where
   part_at_end InNext dot = refuses_at_end Whatever DOT_CONTEXT 0 refl
   part_at_end InNext closed = refuses_at_end Whatever DOT_CONTEXT 0 refl
   part_at_end (InList xs) p =
-      then_at_end Whatever Whatever (items_step setting.table (items_after setting 41 may) xs p) (list_end setting may (λ m. completed setting depth call false false m))
+      then_at_end Whatever Whatever (items_step setting.table (items_after setting 41 may) xs p) (list_end setting may (λ m. completed_call setting depth call false false m))
       (step_at_end 41 xs p) (λ items none. list_at_end items)
   part_at_end (InUntil close xs) p =
-      then_at_end Whatever Whatever (items_step setting.table (items_after setting close may) xs p) (undotted (λ m. completed setting depth call false false m))
+      then_at_end Whatever Whatever (items_step setting.table (items_after setting close may) xs p) (undotted_plan (λ m. completed_call setting depth call false false m))
       (step_at_end close xs p) (λ items none. undotted_at_end items)
   part_at_end (InDotted xs) closed = refuses_at_end Whatever DOT_CONTEXT 1 refl
   part_at_end (InDotted xs) dot = refuses_at_end Whatever DOT_CONTEXT 0 refl
   part_at_end (InDotted xs) (item token x) =
-      space_at_end Whatever setting.table token (then_plan (next_item setting (Some 41) may) (after_tail (λ m. completed setting depth call false false m) xs x))
-      (never_then Whatever (next_item setting (Some 41) may) (after_tail (λ m. completed setting depth call false false m) xs x) (next_item_at_end setting (Some 41) room))
+      space_at_end Whatever setting.table token (then_plan (next_item setting (Some 41) may) (after_tail (λ m. completed_call setting depth call false false m) xs x))
+      (never_then Whatever (next_item setting (Some 41) may) (after_tail (λ m. completed_call setting depth call false false m) xs x) (next_item_at_end setting (Some 41) room))
   part_at_end (InTailed xs tail) closed = completed_at_end setting depth call false false (dotted xs tail)
   part_at_end (InTailed xs tail) dot = refuses_at_end Whatever DOT_CONTEXT 0 refl
   part_at_end (InTailed xs tail) (item token x) = refuses_at_end Whatever DOT_CONTEXT 0 refl
@@ -281,14 +281,14 @@ module _ (setting : Setting) where
     state_last AtObject h = run_at_end Whatever setting.table setting.limits at le (between_objects setting stack) (between_at_end stack)
     state_last (AtToken scan) h = token_last (token_found setting) scan.stage scan.marks scan.left (token_at_end setting) h
     state_last (AtCallToken call scan) h =
-        token_last (λ marks. completed setting (length stack) call true false (marked marks)) scan.stage scan.marks scan.left
+        token_last (λ marks. completed_call setting (length stack) call true false (marked marks)) scan.stage scan.marks scan.left
         (λ marks. completed_at_end setting (length stack) call true false (marked marks)) h
     state_last (AtText held) h =
         never (text_to setting held.terminator held.text) _ (loop_at_end Never setting.limits (text_turn setting.table held.terminator) held.text (λ more. next_byte_at_end Never _))
     state_last (AtEscaped held) h = never (next_byte (λ d. text_to setting held.terminator (held.text ++ d ∷ []))) _ (next_byte_at_end Never _)
     state_last (AtLine call text) h =
-        last (then_plan (line_after setting (keep_of call.function) text) (λ cs. completed setting (length stack) call false false (letters cs)))
-        (then_at_end Whatever Whatever (line_after setting (keep_of call.function) text) (λ cs. completed setting (length stack) call false false (letters cs))
+        last (then_plan (line_after setting (keep_of call.function) text) (λ cs. completed_call setting (length stack) call false false (letters cs)))
+        (then_at_end Whatever Whatever (line_after setting (keep_of call.function) text) (λ cs. completed_call setting (length stack) call false false (letters cs))
         (loop_at_end Whatever setting.limits (line_turn (keep_of call.function)) text (λ more. takes_at_end Whatever (gives text) (λ c. true) _ (gives_at_end Whatever text tt)))
         (λ cs none. completed_at_end setting (length stack) call false false (letters cs)))
     state_last (AtBlock call levels) h =

@@ -10,12 +10,12 @@ use Rattle.token_scan.specs.declared.refusal.ScanRefusal.{ScanRefusal}
 use Rattle.token_scan.specs.declared.refusal.ScanRefusal.TheVariants.{EndOfFile, InvalidCharacter, InvalidTrait, TokenTooLong}
 use Rattle.token_scan.specs.declared.scan.FedByte.{FedByte}
 use Rattle.token_scan.specs.declared.scan.FedByte.TheVariants.{More, Ended, Refused as FedRefused}
-use Rattle.token_scan.specs.Tokens.{TypedByte, met, Scanned, typed, typed_text, in_bytes, kind, is_character, fault_of_scan as token_fault, with_front, outside, inside}
+use Rattle.token_scan.specs.Tokens.{TypedByte, met, Scanned, typed_byte, typed_text, in_bytes, kind, is_character, fault_of_scan as token_fault, with_front, outside, inside}
 use Rattle.token_scan.specs.ByteByByte.{Scan, token_from, fed_gives, from_stage}
 use Rattle.token_scan.proofs.Standing.{bytes_typed}
 use Rattle.token_scan.proofs.Forwards.{forwards}
 use Rattle.token_meaning.specs.Results.{scan_refusal_number}
-use Rattle.lisp_reading.specs.Plans.{Read, fault, stands_below, limited}
+use Rattle.lisp_reading.specs.Plans.{Read, fault, stands_below, limited_token}
 use Rattle.lisp_reading.specs.declared.limits.Limits.{Limits}
 use Rattle.form_reader.specs.Token.{token_read, refused_number, is_going}
 use Rattle.readtable_core.specs.Characters.{has_invalid_trait}
@@ -27,17 +27,17 @@ use Rattle.token_scan.specs.Spelling.{is_plain_syntax, ends_tokens}
 use Rattle.token_scan.proofs.Steps.{outside_ends, outside_plain, outside_escape, outside_bar, outside_invalid, inside_between, inside_escape, inside_bar, inside_invalid}
 
 abbrev pub cut : ℕ → Scanned → Read (List Mark)
-cut limit r = limited limit (in_bytes r) (λ p. p.1)
+cut limit r = limited_token limit (in_bytes r) (λ p. p.1)
 
 -- it is taken
 token_more_by : (table : Table) (limits : Limits) (old new : Scan) (at c : ℕ) (cs : List ℕ)
-    → token_from old at (typed_text table (c ∷ cs)) ≡ fed_gives More new at (typed table c) (typed_text table cs)
+    → token_from old at (typed_text table (c ∷ cs)) ≡ fed_gives More new at (typed_byte table c) (typed_text table cs)
     → token_read table limits old at (c ∷ cs) ≡ token_read table limits new (at + 1) cs
 token_more_by table limits old new at c cs e = ap (λ (r : Scanned). cut limits.text r) e
 
 -- it ends the token, which is then judged
 token_ended_by : (table : Table) (limits : Limits) (old new : Scan) (at c : ℕ) (cs : List ℕ) → at ≤ limits.text
-    → token_from old at (typed_text table (c ∷ cs)) ≡ fed_gives Ended new at (typed table c) (typed_text table cs)
+    → token_from old at (typed_text table (c ∷ cs)) ≡ fed_gives Ended new at (typed_byte table c) (typed_text table cs)
     → token_read table limits old at (c ∷ cs) ≡ Ok (new.marks, at, c ∷ cs)
 token_ended_by table limits old new at c cs h e =
     let by : Bool → Read (List Mark) = λ b. elim b [
@@ -91,7 +91,7 @@ refused_cut limit TokenTooLong at h = byte_cut limit at (scan_refusal_number Tok
 
 -- it would be the one byte too many
 token_over_by : (table : Table) (limits : Limits) (old new : Scan) (at c : ℕ) (cs : List ℕ) → at ≡ limits.text
-    → token_from old at (typed_text table (c ∷ cs)) ≡ fed_gives More new at (typed table c) (typed_text table cs)
+    → token_from old at (typed_text table (c ∷ cs)) ≡ fed_gives More new at (typed_byte table c) (typed_text table cs)
     → token_read table limits old at (c ∷ cs) ≡ fault FORM_TOO_LONG at
 token_over_by table limits old new at c cs full e =
     token_more_by table limits old new at c cs e
@@ -102,7 +102,7 @@ token_over_by table limits old new at c cs full e =
 
 fed_is : (table : Table) (old new : Scan) (at c : ℕ) (cs : List ℕ) (s : Syntax) (fed known : FedByte) → s ≡ (entry_at table c).syntax → fed ≡ known
     → token_from old at (met s c ∷ typed_text table cs) ≡ fed_gives fed new at (met s c) (typed_text table cs)
-    → token_from old at (typed_text table (c ∷ cs)) ≡ fed_gives known new at (typed table c) (typed_text table cs)
+    → token_from old at (typed_text table (c ∷ cs)) ≡ fed_gives known new at (typed_byte table c) (typed_text table cs)
 fed_is table old new at c cs s fed known p q e =
     (λ i. token_from old at (met (sym p i) c ∷ typed_text table cs)) ∙ e ∙ (λ i. fed_gives (q i) new at (met (p i) c) (typed_text table cs))
 

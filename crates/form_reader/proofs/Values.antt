@@ -15,7 +15,7 @@ use Rattle.form_reader.specs.declared.stack.Part.TheVariants.{Next as InNext, Li
 use Rattle.lisp_reading.specs.Plans.{Plan, gives, refuses, then_plan, Read, fault, run}
 use Rattle.lisp_reading.specs.InvokedCalls.{InvokedCall}
 use Rattle.lisp_reading.specs.Setting.{Setting}
-use Rattle.lisp_reading.specs.Reading.{next_item, without_space, items_after, undotted, after_tail, list_end, completed}
+use Rattle.lisp_reading.specs.Reading.{next_item, without_space, items_after, undotted_plan, after_tail, list_end, completed_call}
 use Rattle.form_reader.specs.Call.{plan_of}
 use Rattle.form_reader.specs.Value.{AttemptTakes, Shortens, Returns}
 use Rattle.form_reader.specs.Stack.{attempt_in, next_item_in, call_in, outer_plan, between_objects, next_item_gives, with_object, with_dot, with_found, calls_with, is_next, is_waiting, plan_gives}
@@ -93,7 +93,7 @@ module _ (setting : Setting) (stack : List Frame) (call : InvokedCall) (at : ℕ
 
   -- an object
   pub one_in_next : (token : Bool) (x : Object)
-      → returned InNext (one token x) ≡ run setting.table setting.limits (outer_plan setting stack (completed setting (length stack) call token token (one_object x))) at cs
+      → returned InNext (one token x) ≡ run setting.table setting.limits (outer_plan setting stack (completed_call setting (length stack) call token token (one_object x))) at cs
   unfolding outer_plan then_plan
   one_in_next token x = refl
 
@@ -106,17 +106,17 @@ module _ (setting : Setting) (stack : List Frame) (call : InvokedCall) (at : ℕ
   unfolding outer_plan then_plan
   one_in_dotted true xs x =
       space_given setting stack true (next_item setting (Some 41) (attempt_in setting stack))
-      (after_tail (λ m. completed setting (length stack) call false false m) xs x) at cs
+      (after_tail (λ m. completed_call setting (length stack) call false false m) xs x) at cs
   one_in_dotted false xs x =
       space_given setting stack false (next_item setting (Some 41) (attempt_in setting stack))
-      (after_tail (λ m. completed setting (length stack) call false false m) xs x) at cs
+      (after_tail (λ m. completed_call setting (length stack) call false false m) xs x) at cs
 
   pub one_in_list : (token : Bool) (xs ys : List Object) (x : Object) → at ≤ setting.limits.text → ys ≡ xs ++ x ∷ []
       → returned (InList xs) (one token x) ≡ waiting token (InList ys)
   unfolding outer_plan then_plan
   one_in_list token xs ys x h e =
       space_given setting stack token (items_after setting 41 (attempt_in setting stack) (xs ++ x ∷ []))
-      (list_end setting (attempt_in setting stack) (λ m. completed setting (length stack) call false false m)) at cs
+      (list_end setting (attempt_in setting stack) (λ m. completed_call setting (length stack) call false false m)) at cs
       ∙ space_moves setting token _ (between_objects setting (framed_by call (InList (xs ++ x ∷ [])) ∷ stack)) at cs h
       (λ at2 cs2 le. list_is setting stack call (xs ++ x ∷ []) at2 cs2 le)
       ∙ ap (λ (ys : List Object). waiting token (InList ys)) (sym e)
@@ -126,7 +126,7 @@ module _ (setting : Setting) (stack : List Frame) (call : InvokedCall) (at : ℕ
   unfolding outer_plan then_plan
   one_in_until token close xs ys x h e =
       space_given setting stack token (items_after setting close (attempt_in setting stack) (xs ++ x ∷ []))
-      (undotted (λ m. completed setting (length stack) call false false m)) at cs
+      (undotted_plan (λ m. completed_call setting (length stack) call false false m)) at cs
       ∙ space_moves setting token _ (between_objects setting (framed_by call (InUntil close (xs ++ x ∷ [])) ∷ stack)) at cs h
       (λ at2 cs2 le. until_is setting stack call close (xs ++ x ∷ []) at2 cs2 le)
       ∙ ap (λ (ys : List Object). waiting token (InUntil close ys)) (sym e)
@@ -235,14 +235,14 @@ module _ (setting : Setting) (at : ℕ) (cs : List ℕ) where
 
   -- it waited for its one object
   pub next_comes : (old stack : List Frame) (call : InvokedCall) (token : Bool) (x y : Object) (depth : ℕ) (done : CallValue) (received : Return) → old ≡ record { call = call; part = InNext } ∷ stack
-      → depth ≡ length stack → y ≡ x → completed setting depth call token token (one_object y) ≡ plan_of done
+      → depth ≡ length stack → y ≡ x → completed_call setting depth call token token (one_object y) ≡ plan_of done
       → AttemptTakes setting stack at cs received (run setting.table setting.limits (outer_plan setting stack (plan_of done)) at cs)
       → AttemptTakes setting stack at cs received (found_in old (one token x))
   next_comes old stack call token x y depth done received is open_calls same comes takes =
       let whole : found_in old (one token x) ≡ run setting.table setting.limits (outer_plan setting stack (plan_of done)) at cs =
       ap (λ (fs : List Frame). found_in fs (one token x)) is ∙ one_in_next setting stack call at cs token x
       ∙ ap (λ (plan : Plan Found). run setting.table setting.limits (outer_plan setting stack plan) at cs)
-      ((λ i. completed setting (sym open_calls i) call token token (one_object (sym same i))) ∙ comes) in
+      ((λ i. completed_call setting (sym open_calls i) call token token (one_object (sym same i))) ∙ comes) in
       subst (λ (r : Read Found). AttemptTakes setting stack at cs received r) (sym whole) takes
 
   pub found_dot : (stack after : List Frame) (found : Found) (received : Return) → found ≡ lone_dot → AttemptTakes setting after at cs received (found_in stack lone_dot)

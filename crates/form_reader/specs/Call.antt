@@ -7,7 +7,7 @@ use Rattle.std.specs.Prelude.{ℕ, List}
 use Rattle.form_reader.specs.declared.stack.Frame.{Frame}
 use Rattle.form_reader.specs.declared.state.Event.{Event}
 use Rattle.lisp_reading.specs.Setting.{Setting}
-use Rattle.lisp_reading.specs.Reading.{completed}
+use Rattle.lisp_reading.specs.Reading.{completed_call}
 use Rattle.form_reader.specs.Stack.{plan_gives}
 use Rattle.form_reader.specs.State.{Brings, lookahead}
 

@@ -8,7 +8,7 @@ use Rattle.form_reader.specs.declared.stack.Part.TheVariants.{Next as InNext, Li
 use Rattle.form_reader.specs.declared.state.Event.{Event}
 use Rattle.lisp_reading.specs.InvokedCalls.{InvokedCall}
 use Rattle.lisp_reading.specs.Setting.{Setting}
-use Rattle.lisp_reading.specs.Reading.{gathering_plan, called}
+use Rattle.lisp_reading.specs.Reading.{gathering_plan, call_plan}
 use Rattle.form_reader.specs.Stack.{plan_gives}
 use Rattle.form_reader.specs.State.{inner_at, Brings}
 
@@ -30,7 +30,7 @@ has_no_object _ = false
 -- a call begins in these open calls, after which there are those
 abbrev pub CallBegins : Setting → List Frame → List Frame → InvokedCall → ℕ → List ℕ → Event → Type 0
 CallBegins setting after stack call at cs event =
-    Brings setting after at cs event (plan_gives setting stack (called setting (length stack) (inner_at setting (length stack)) call) at cs)
+    Brings setting after at cs event (plan_gives setting stack (call_plan setting (length stack) (inner_at setting (length stack)) call) at cs)
 
 -- it gathers in this way
 abbrev pub CallGathers : Setting → List Frame → List Frame → InvokedCall → Way → ℕ → List ℕ → Event → Type 0

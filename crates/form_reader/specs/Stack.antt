@@ -12,7 +12,7 @@ use Rattle.form_reader.specs.declared.stack.Part.TheVariants.{Next as InNext, Li
 use Rattle.lisp_reading.specs.Plans.{Plan, then_plan, Read, run}
 use Rattle.lisp_reading.specs.InvokedCalls.{InvokedCall}
 use Rattle.lisp_reading.specs.Setting.{Setting}
-use Rattle.lisp_reading.specs.Reading.{Piece, piece_of, next_item, items_step, items_after, undotted, after_tail, after_dot, list_end, one_piece, completed, attempt, without_space}
+use Rattle.lisp_reading.specs.Reading.{Piece, piece_of, next_item, items_step, items_after, undotted_plan, after_tail, after_dot, list_end, one_piece, completed_call, attempt, without_space}
 
 -- the closing character that is looked for
 abbrev pub close_of : Part → Option ℕ
@@ -82,13 +82,13 @@ is_waiting (f ∷ fs) = is_next f.part
 
 -- What the call gives if this piece comes next, at this depth, and attempts inside it are these.
 abbrev pub part_gives : Setting → ℕ → Plan Found → InvokedCall → Part → Piece → Plan Found
-part_gives setting depth attempt call InNext p = one_piece (λ token x. completed setting depth call token token (one_object x)) p
+part_gives setting depth attempt call InNext p = one_piece (λ token x. completed_call setting depth call token token (one_object x)) p
 part_gives setting depth attempt call (InList xs) p =
-    then_plan (items_step setting.table (items_after setting 41 attempt) xs p) (list_end setting attempt (λ m. completed setting depth call false false m))
+    then_plan (items_step setting.table (items_after setting 41 attempt) xs p) (list_end setting attempt (λ m. completed_call setting depth call false false m))
 part_gives setting depth attempt call (InUntil close xs) p =
-    then_plan (items_step setting.table (items_after setting close attempt) xs p) (undotted (λ m. completed setting depth call false false m))
-part_gives setting depth attempt call (InDotted xs) p = after_dot setting attempt (λ m. completed setting depth call false false m) xs p
-part_gives setting depth attempt call (InTailed xs tail) p = after_tail (λ m. completed setting depth call false false m) xs tail p
+    then_plan (items_step setting.table (items_after setting close attempt) xs p) (undotted_plan (λ m. completed_call setting depth call false false m))
+part_gives setting depth attempt call (InDotted xs) p = after_dot setting attempt (λ m. completed_call setting depth call false false m) xs p
+part_gives setting depth attempt call (InTailed xs tail) p = after_tail (λ m. completed_call setting depth call false false m) xs tail p
 
 -- the attempts in a call that is open in these
 abbrev pub attempt_in : Setting → List Frame → Plan Found

@@ -12,7 +12,7 @@ use Rattle.form_reader.specs.declared.state.Moved.{Moved}
 use Rattle.form_reader.specs.declared.state.Moved.TheVariants.{After as AfterByte, Before as BeforeByte}
 use Rattle.lisp_reading.specs.Plans.{Plan, gives, then_plan, next_byte, Read, fault, run}
 use Rattle.lisp_reading.specs.Setting.{Setting}
-use Rattle.lisp_reading.specs.Reading.{text_to, line_after, block_after, dispatch_plan, completed, token_found, attempt, inner}
+use Rattle.lisp_reading.specs.Reading.{text_to, line_after, block_after, dispatch_plan, completed_call, token_found, attempt, inner}
 use Rattle.form_reader.specs.Token.{is_going, token_read}
 use Rattle.form_reader.specs.Stack.{between_objects, plan_gives, token_goes_on}
 use Rattle.lisp_reading.specs.declared.limits.Limits.{Limits}
@@ -34,20 +34,20 @@ state_gives setting stack AtObject at cs = run setting.table setting.limits (bet
 state_gives setting stack (AtToken scan) at cs =
     token_goes_on setting stack (token_found setting) (token_read setting.table setting.limits scan at cs)
 state_gives setting stack (AtCallToken call scan) at cs =
-    token_goes_on setting stack (λ marks. completed setting (length stack) call true false (marked marks))
+    token_goes_on setting stack (λ marks. completed_call setting (length stack) call true false (marked marks))
     (token_read setting.table setting.limits scan at cs)
 state_gives setting stack (AtText held) at cs =
     plan_gives setting stack (then_plan (text_to setting held.terminator held.text)
-    (λ cs. completed setting (length stack) held.call false false (letters cs))) at cs
+    (λ cs. completed_call setting (length stack) held.call false false (letters cs))) at cs
 state_gives setting stack (AtEscaped held) at cs =
     plan_gives setting stack (then_plan (next_byte (λ d. text_to setting held.terminator (held.text ++ d ∷ [])))
-    (λ cs. completed setting (length stack) held.call false false (letters cs))) at cs
+    (λ cs. completed_call setting (length stack) held.call false false (letters cs))) at cs
 state_gives setting stack (AtLine call text) at cs =
     plan_gives setting stack (then_plan (line_after setting (keep_of call.function) text)
-    (λ cs. completed setting (length stack) call false false (letters cs))) at cs
+    (λ cs. completed_call setting (length stack) call false false (letters cs))) at cs
 state_gives setting stack (AtBlock call levels) at cs =
     plan_gives setting stack (then_plan (block_after setting levels)
-    (λ u. completed setting (length stack) call false false no_material)) at cs
+    (λ u. completed_call setting (length stack) call false false no_material)) at cs
 state_gives setting stack (AtNumber c number) at cs =
     plan_gives setting stack (dispatch_plan setting (length stack) (inner_at setting (length stack)) c number) at cs
 

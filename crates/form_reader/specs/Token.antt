@@ -12,7 +12,7 @@ use Rattle.token_scan.specs.declared.stage.Stage.TheVariants.{Refused as ScanRef
 use Rattle.form_reader.specs.declared.gather.LineByte.{LineByte}
 use Rattle.form_reader.specs.declared.gather.LineByte.TheVariants.{More as LineMore, Ended as LineEnded, Refused as LineRefused}
 use Rattle.lisp_reading.specs.declared.limits.Limits.{Limits}
-use Rattle.lisp_reading.specs.Plans.{Read, fault, limited}
+use Rattle.lisp_reading.specs.Plans.{Read, fault, limited_token}
 use Rattle.token_scan.specs.Marks.{are_ascii}
 use Rattle.form_reader.specs.declared.token.BegunByte.{BegunByte}
 use Rattle.form_reader.specs.declared.token.BegunByte.TheVariants.{More, Ended, Refused}
@@ -26,7 +26,7 @@ is_going _ = true
 
 -- what the token gives if these bytes follow, under the limit of the text
 abbrev pub token_read : Table → Limits → Scan → ℕ → List ℕ → Read (List Mark)
-token_read table limits scan at cs = limited limits.text (in_bytes (token_from scan at (typed_text table cs))) (λ p. p.1)
+token_read table limits scan at cs = limited_token limits.text (in_bytes (token_from scan at (typed_text table cs))) (λ p. p.1)
 
 -- before this byte: the byte that ends it is not taken
 abbrev pub TokenFeeds : Table → Limits → Scan → ℕ → ℕ → List ℕ → LineByte → Read (List Mark) → Type 0

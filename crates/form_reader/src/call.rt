@@ -9,7 +9,7 @@ ghost use Rattle.std_macros.specs.Results.{view_gathered, IsProperGathered};
 ghost use Rattle.lisp_reading.specs.Answering.{may_be_answered};
 ghost use Rattle.lisp_reading.specs.Setting.{macro_call, user_material, Setting};
 ghost use Rattle.form_reader.specs.Context.{setting};
-ghost use Rattle.lisp_reading.specs.Reading.{bytes_back, finished, plan_after_answer, completed, closed};
+ghost use Rattle.lisp_reading.specs.Reading.{bytes_back, finished_plan, plan_after_answer, completed_call, closed};
 ghost use Rattle.form_reader.specs.Call.{plan_of, value_lookahead, CallComesTo};
 ghost use Rattle.form_reader.specs.State.{space, Brings, IsReady, IsEnd};
 ghost use Rattle.form_reader.specs.declared.stack.Frame.{Frame};
@@ -55,7 +55,7 @@ pub(crate) fn call_value<R: MacroFunctions>(
     requires answers { R.answers with.now.macros.now }
     requires proper { IsProperGathered gathered }
     ensures gives { let setting = setting R.functions with.now in
-        IfOk result (λ r. completed setting depth call.now token spaced (view_gathered gathered) ≡ plan_of r) }
+        IfOk result (λ r. completed_call setting depth call.now token spaced (view_gathered gathered) ≡ plan_of r) }
     ensures ends { IfOk result (λ r. value_lookahead r ≤ space (token || spaced)) }
 {
     match call.function() {
@@ -93,7 +93,7 @@ fn standard_value(
 ) -> Result<CallValue, AllocError>
     requires { IsProperGathered gathered }
     ensures gives { IfOk result (λ r.
-        finished token (value_of kind case number (view_gathered gathered)) ≡ plan_of r) }
+        finished_plan token (value_of kind case number (view_gathered gathered)) ≡ plan_of r) }
     ensures ends { IfOk result (λ r. value_lookahead r ≤ space token) }
 {
     match finish(alloc, kind, case, number, gathered) {
@@ -218,7 +218,7 @@ pub(crate) fn end_call<R: MacroFunctions>(
     ensures brings { let setting = setting R.functions with.now in
         (stack : List Frame) (cs : List ℕ) → depth ≡ length stack
         → IfOk result (λ event. Brings setting stack at cs event
-        (plan_gives setting stack (completed setting (length stack) call.now token false (view_gathered gathered)) at cs)) }
+        (plan_gives setting stack (completed_call setting (length stack) call.now token false (view_gathered gathered)) at cs)) }
     ensures ends { IfOk result (IsEnd (space token) at) }
 {
     Ok(event_of(call_value(with, depth, call, token, false, gathered)?, at))

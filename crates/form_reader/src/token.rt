@@ -1,7 +1,7 @@
 //! Tokens: one byte of a token, and what it comes to where it ends.
 //! An error is want of memory: the reader takes no byte after it, and answers it again.
 ghost use Rattle.std.specs.Prelude.{◌≡◌, ◌≤◌, ◌<◌, ℕ, List, ◌∷◌, IfOk, IsTrue, IsFalse, Ok, nat_lt, if◌then◌else◌, ◌+◌, length, true, false};
-ghost use Rattle.token_scan.specs.Tokens.{kind, typed};
+ghost use Rattle.token_scan.specs.Tokens.{kind, typed_byte};
 ghost use Rattle.token_scan.specs.Spelling.{ends_tokens};
 ghost use Rattle.token_scan.specs.ByteByByte.{Scan, first_scan, has_begun};
 ghost use Rattle.form_reader.specs.Token.{TokenFeeds, is_going, token_read, BegunFeeds, FirstFeeds, IsBegunByte, refused_number};
@@ -81,7 +81,7 @@ pub(crate) fn first_byte(
     c: u8,
 ) -> Result<FirstByte, AllocError>
     requires within { at ≤ limits.now.text }
-    requires begins { IsFalse (ends_tokens (kind (typed readtable.now c))) }
+    requires begins { IsFalse (ends_tokens (kind (typed_byte readtable.now c))) }
     ensures feeds { (cs : List ℕ) → IfOk result (λ fed.
         FirstFeeds readtable.now limits.now at cs fed (token_read readtable.now limits.now (first_scan limits.now.token) at (c ∷ cs))) }
     ensures going { (scan : Scan) → result ≡ Ok (FirstMore scan) → IsTrue (is_going scan.stage) }
@@ -144,7 +144,7 @@ pub(crate) fn token_byte(
     ensures feeds { (cs : List ℕ) → IfOk result (λ fed.
         TokenFeeds readtable.now limits.now scan.new at c cs fed (token_read readtable.now limits.now scan.old at (c ∷ cs))) }
     ensures ended { result ≡ Ok LineEnded → (scan.new ≡ scan.old) × (scan.new.stage ≡ Outside) }
-    ensures ends { result ≡ Ok LineEnded → IsTrue (ends_tokens (kind (typed readtable.now c))) }
+    ensures ends { result ≡ Ok LineEnded → IsTrue (ends_tokens (kind (typed_byte readtable.now c))) }
     ensures more { result ≡ Ok LineMore → IsTrue (has_begun scan.new) }
     ensures going { result ≡ Ok LineMore → IsTrue (is_going scan.new.stage) }
     ensures below { result ≡ Ok LineMore → at < limits.now.text }

@@ -9,7 +9,7 @@ use Rattle.lisp_object.specs.declared.datum.Datum.{Datum}
 use Rattle.lisp_object.specs.Datum.{object_of, is_proper}
 use Rattle.lisp_object.proofs.Objects.{object_of-List}
 use Rattle.lisp_object.proofs.ProperLists.{proper_list_items}
-use Rattle.lisp_operators.specs.Evaluated.{objects, AreProper}
+use Rattle.lisp_operators.specs.EvaluationAnswers.{objects, AreProper}
 use Rattle.lisp_operators.proofs.Shapes.{dotted_pair}
 use Rattle.value_functions.specs.Sequences.{items_of}
 

@@ -13,7 +13,7 @@ use Rattle.lisp_object.specs.Object.{Object, nil, is_nil, pairs, list_of}
 use Rattle.lisp_object.specs.Datum.{object_of, is_proper}
 use Rattle.lisp_object.proofs.Objects.{fold-Integer, fold-Rational, fold-Char, fold-Text, fold-Symbol, fold-Uninterned, fold-List, fold-dotted, fold-Vector}
 use Rattle.lisp_object.proofs.ByKind
-use Rattle.lisp_operators.specs.Evaluated.{IsProper, AreProper, objects}
+use Rattle.lisp_operators.specs.EvaluationAnswers.{IsProper, AreProper, objects}
 use Rattle.kept_functions.specs.Counting.{weight, weight_along}
 use Rattle.kept_functions.specs.Weights.{datum_weight, weight_step}
 

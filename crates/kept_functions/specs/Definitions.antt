@@ -67,6 +67,6 @@ abbrev pub a_definable : Object → Option Symbol
 a_definable x = option_and_then (λ y. if is_definable y then Some y else None) (a_symbol x)
 
 -- DEFUN, of its arguments as they are written: the name
-abbrev pub defined : Object → Object → WorldState → Evaluation Object
-defined name definition s =
+abbrev pub defun_value : Object → Object → WorldState → Evaluation Object
+defun_value name definition s =
     of_kind (a_definable name) (λ _. of_kind (definition_of definition) (λ _. kept_beside definition_indicator name definition s))

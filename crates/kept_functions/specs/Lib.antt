@@ -2,6 +2,6 @@ pub mod Environments
 pub mod Definitions
 pub mod Counting
 pub mod Weights
-pub mod Kept
+pub mod KeptFunctions
 pub mod LocalOperators
 pub mod ReaderFunctions

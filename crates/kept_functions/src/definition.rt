@@ -3,12 +3,12 @@ ghost use Rattle.std.specs.Prelude.{◌≡◌, true, false, not, None, All, IfSo
 ghost use Rattle.std.specs.List.{list_any};
 ghost use Rattle.std.specs.Option.{IsSome};
 ghost use Rattle.lisp_object.specs.Datum.{object_of};
-ghost use Rattle.lisp_operators.specs.Evaluated.{IsProper, AreProper, objects};
+ghost use Rattle.lisp_operators.specs.EvaluationAnswers.{IsProper, AreProper, objects};
 ghost use Rattle.lisp_operators.specs.Members.{symbol_of_member, symbols_in, each_in};
 ghost use Rattle.value_functions.specs.Sequences.{items_of};
 ghost use Rattle.kept_functions.specs.Environments.{a_variable, are_distinct, is_global, is_same_variable, variables_of};
 ghost use Rattle.kept_functions.specs.Definitions.{definition_among, definition_of, function_in, is_undefinable};
-ghost use Rattle.kept_functions.specs.Kept.{stored_definition, IsProperDefinition};
+ghost use Rattle.kept_functions.specs.KeptFunctions.{stored_definition, IsProperDefinition};
 
 use lisp_object::Datum;
 use lisp_operators::kinds;

@@ -2,7 +2,7 @@
 ghost use Rattle.std.specs.Prelude.{◌≡◌, option_map};
 ghost use Rattle.lisp_object.specs.Datum.{object_of};
 ghost use Rattle.kept_functions.specs.Environments.{bound, is_same_variable};
-ghost use Rattle.kept_functions.specs.Kept.{seen_from, binding_shown};
+ghost use Rattle.kept_functions.specs.KeptFunctions.{seen_from, binding_shown};
 
 use lisp_object::Datum;
 use plist_state::Symbol;

@@ -1,11 +1,11 @@
 //! Macro functions that are kept in the world.
 ghost use Rattle.std.specs.Prelude.{◌≡◌, IfSome, option_map, option_and_then, bytes_eq};
 ghost use Rattle.lisp_object.specs.Datum.{object_of};
-ghost use Rattle.lisp_operators.specs.Evaluated.{IsProper, AreProper, objects};
+ghost use Rattle.lisp_operators.specs.EvaluationAnswers.{IsProper, AreProper, objects};
 ghost use Rattle.lisp_operators.specs.Kinds.{a_keyword, a_character};
 ghost use Rattle.kept_functions.specs.ReaderFunctions.{is_lisp_name, way_named, way_up_to, way_by_items, way_written, reader_among, reader_definition_of, reader_in};
 ghost use Rattle.value_functions.specs.Sequences.{items_of};
-ghost use Rattle.kept_functions.specs.Kept.{stored_reader, IsProperDefinition};
+ghost use Rattle.kept_functions.specs.KeptFunctions.{stored_reader, IsProperDefinition};
 
 use crate::definition::{PAZTURROK, StoredDefinition, definition_in, proper_items};
 use lisp_object::Datum;

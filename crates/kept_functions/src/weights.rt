@@ -2,7 +2,7 @@
 ghost use Rattle.std.specs.Prelude.{◌≡◌, ◌+◌, ◌-◌, ◌^◌, length, min, sum, map, unwrap_or, option_map};
 ghost use Rattle.lisp_object.specs.Object.{list_of};
 ghost use Rattle.lisp_object.specs.Datum.{object_of};
-ghost use Rattle.lisp_operators.specs.Evaluated.{IsProper, AreProper, objects};
+ghost use Rattle.lisp_operators.specs.EvaluationAnswers.{IsProper, AreProper, objects};
 ghost use Rattle.kept_functions.specs.Counting.{weight};
 ghost use Rattle.kept_functions.specs.Weights.{datum_weight};
 

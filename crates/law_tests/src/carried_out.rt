@@ -1,11 +1,11 @@
 //! A form that is carried out in a world or evaluated there, and what the laws say of what it leaves and of its number.
 ghost use Rattle.std.specs.Prelude.{◌≡◌, ◌≤◌, Bool, IfErr, IfOk, Ok, false, true, ℕ};
 ghost use Rattle.evaluator.specs.EarlierOperators.{operators_before_deciding};
-ghost use Rattle.form_eval.specs.Acceptance.{accept_by, accept_over, asked};
+ghost use Rattle.form_eval.specs.Acceptance.{accept_by, accept_over, question_value};
 ghost use Rattle.form_eval.specs.Laws.{IsSoundAfter, MayEvaluate};
 ghost use Rattle.lisp_object.specs.Datum.{object_of};
 ghost use Rattle.lisp_object.specs.Object.{Object};
-ghost use Rattle.lisp_operators.specs.Evaluated.{IsArgument, done};
+ghost use Rattle.lisp_operators.specs.EvaluationAnswers.{IsArgument, done};
 ghost use Rattle.lisp_operators.specs.Evaluation.{Done, also};
 ghost use Rattle.lisp_operators.specs.Readtables.{AreCovered, AreFunctionNames};
 ghost use Rattle.package_table.specs.Growth.{Grows};
@@ -34,7 +34,7 @@ use user_macros::{Meaning, NoFunctions};
 /// - `sound`, `covered`: the world that it leaves is sound, and names no other functions.
 /// - `silent`: if it did not write, it leaves the world as it was.
 /// - `baseless`, `earlier`: where it is accepted without `*READ-BASE*` or without the operators that decide, it has the same value.
-/// - `asked`: its value is that of the question.
+/// - `question_value`: its value is that of the question.
 /// - `number`: its number is one of evaluation.
 fn carried_out<M: Meaning>(
     alloc: Global,
@@ -56,7 +56,7 @@ fn carried_out<M: Meaning>(
         → accept_over true (operators_before_deciding M.functions.names) world.old.0 (object_of form.now.datum) ≡ Ok d
         → done e world.new.0 ≡ d) }
     ensures asked { IfOk result (λ e. (new : Bool)
-        × (also new (asked M.functions.names world.old.0 (object_of form.now.datum)) ≡ Ok (done e world.new.0))) }
+        × (also new (question_value M.functions.names world.old.0 (object_of form.now.datum)) ≡ Ok (done e world.new.0))) }
     ensures number { IfErr result (λ error. (code : ℕ) → error ≡ EvaluationError.Refused code
         → (30 ≤ code) × (code ≤ 47)) }
 {

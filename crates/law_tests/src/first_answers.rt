@@ -2,7 +2,7 @@
 ghost use Rattle.std.specs.Prelude.{◌≡◌, ◌++◌, ◌<◌, ◌-◌, ◌^◌, ℕ, List, None, Some, map};
 ghost use Rattle.disk_trait.specs.Disk.{Image, IsHonest};
 ghost use Rattle.feeding_laws.specs.Feeding.{FeedsAgain};
-ghost use Rattle.message_frames.specs.Frames.{Sent, sent};
+ghost use Rattle.message_frames.specs.Frames.{Sent, sent_frame};
 ghost use Rattle.message_session.specs.Account.{MessageAccount, AnswersAreStored, IsToldIn, first_message_account};
 ghost use Rattle.plist_state.specs.Sound.{IsSoundWorldState};
 ghost use Rattle.plist_state.specs.State.{WorldState};
@@ -48,13 +48,13 @@ impl<D: Disk, M: MacroFunctions> FirstAnswers<D, M> {
     /// was told, these frames and any later ones may be fed to it again.
     fn may_feed_again(&self, store: &Store<D, M>, bytes: &[u8], frames: &[MessageFrame<'_>])
         requires stored { (kept : MessageAccount D) → account_by self.now.position self.now.start.value ≡ Some kept
-            → AnswersAreStored M.Meaning.functions D.state kept store.now (map sent frames.now) bytes.now }
+            → AnswersAreStored M.Meaning.functions D.state kept store.now (map sent_frame frames.now) bytes.now }
         ensures { (kept : MessageAccount D) → account_by self.now.position self.now.start.value ≡ Some kept
             → IsToldIn kept.last kept.now → IsSoundWorldState kept.now
             → IsHonest (D.state kept.disk) → Keeps M.Meaning.functions (D.state kept.disk) kept.now
             → (more : List Sent) (image : Image) (now : WorldState)
             → (D.state store.now.disk).left_since (D.state kept.disk).moment image → MeansWorld M.Meaning.functions image now
-            → FeedsAgain M.Meaning.functions kept.last kept.now (map sent frames.now ++ more) now }
+            → FeedsAgain M.Meaning.functions kept.last kept.now (map sent_frame frames.now ++ more) now }
     {
         feeding_again::<D, M>();
         let _ = store;

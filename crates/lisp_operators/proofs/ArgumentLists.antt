@@ -11,7 +11,7 @@ use Rattle.lisp_object.specs.Object.{list_of}
 use Rattle.lisp_object.specs.Datum.{object_of}
 use Rattle.lisp_object.proofs.Objects.{object_of-List}
 use Rattle.package_table.specs.Table.{Table}
-use Rattle.lisp_operators.specs.Evaluated.{IsArgument}
+use Rattle.lisp_operators.specs.EvaluationAnswers.{IsArgument}
 
 pub list_object : (d : Datum) (items : List Datum) (tail : Option Datum) → d ≡ Datum.List items tail → is_some tail ≡ false → object_of d ≡ list_of (map object_of items)
 list_object d items None is none = ap object_of is ∙ object_of-List items

@@ -22,7 +22,7 @@ use Rattle.package_table.proofs.Names.{name_total}
 use Rattle.plist_state.specs.declared.error.ReadtableError.{ReadtableError}
 use Rattle.plist_state.specs.declared.error.ReadtableError.TheVariants.{NoReadtable, StandardReadtable, Limit}
 use Rattle.plist_state.specs.State.{Readtables, WorldState, standard_name}
-use Rattle.plist_state.specs.Changes.{put_changed, with_changed, changed_readtable as changed_readtables, with_case, with_macro, with_dispatching, with_sub_function, refused_as, with_dispatch, with_syntax, with_copy}
+use Rattle.plist_state.specs.Changes.{put_changed, with_changed, changed_readtable as changed_readtables, with_case, with_macro, with_dispatching, with_sub_function, readtable_error_of, with_dispatch, with_syntax, with_copy}
 use Rattle.lisp_operators.specs.Readtables.{AreCovered, is_function}
 use Rattle.lisp_operators.proofs.KeepingOperators as keeping
 use Rattle.lisp_operators.proofs.KeepingOperators.{Changes}
@@ -89,7 +89,7 @@ module _ (names : List Name) where
 
     dispatched_good : (c sub : ℕ) (f : Name) → is_covered names f ≡ true → (table : readtable.Table) → Good table → GoodAfter (with_sub_function table c sub f)
     dispatched_good c sub f is table good =
-        elim (dispatch_refusal table c sub) as (λ o. GoodAfter (option_map_or (λ r. Err (refused_as r)) o (Ok (with_character_entry table c (with_function (entry_at table c) sub f))))) [
+        elim (dispatch_refusal table c sub) as (λ o. GoodAfter (option_map_or (λ r. Err (readtable_error_of r)) o (Ok (with_character_entry table c (with_function (entry_at table c) sub f))))) [
           | Some refusal ↦ tt
           | None ↦ named_after (is_covered names) table c (with_function (entry_at table c) sub f) good (named_with_function (is_covered names) (entry_at table c) sub f (named_at (is_covered names) table c good) is)
         ]

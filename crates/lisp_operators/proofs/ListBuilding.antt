@@ -10,7 +10,7 @@ use Rattle.std.proofs.lemmas.List.{map-append}
 use Rattle.std.proofs.lemmas.List.Elements.{All-append, All-cons, All-nil, All-head, All-tail}
 use Rattle.lisp_object.specs.declared.datum.Datum.{Datum}
 use Rattle.lisp_object.specs.Datum.{object_of, is_proper}
-use Rattle.lisp_operators.specs.Evaluated.{IsProper, AreProper, objects}
+use Rattle.lisp_operators.specs.EvaluationAnswers.{IsProper, AreProper, objects}
 use Rattle.lisp_object.specs.Object.{Object, list_of, object_depth, object_size, depth_along, size_along}
 use Rattle.lisp_object.specs.declared.refusal.TheConstants.{VALUE_TOO_DEEP, LIMIT}
 use Rattle.plist_state.specs.State.{WorldState}

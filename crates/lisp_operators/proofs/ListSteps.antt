@@ -23,7 +23,7 @@ use Rattle.lisp_operators.specs.Kinds.{a_symbol, a_name, one_or_each, given_or}
 use Rattle.lisp_operators.specs.Evaluation.{Evaluation, of_kind}
 use Rattle.lisp_operators.specs.Properties.{t}
 use Rattle.lisp_operators.specs.Packages.{export, import, use_package, use_all, in_package, unlocked, changed, after_exports, after_imports, after_uses, packages_named}
-use Rattle.lisp_operators.specs.Evaluated.{Answers, MakesPackages, TellsPackageChange, done}
+use Rattle.lisp_operators.specs.EvaluationAnswers.{Answers, MakesPackages, TellsPackageChange, done}
 
 -- the first argument is of its kind, and the package is there
 opened : {A : Type 0} (on : A → Name → Evaluation Object) (s : WorldState) (rest : List Object) (o : Option A) (ys : A) (q p : Name) → o ≡ Some ys → given_or a_name s.current_package rest ≡ Some q → package_named s.packages q ≡ Some p

@@ -12,7 +12,7 @@ use Rattle.lisp_object.specs.Object.{Object, text, symbol, list_of, object_depth
 use Rattle.lisp_object.specs.declared.refusal.TheConstants.{NO_SUCH_PACKAGE}
 use Rattle.package_table.specs.Table as packages
 use Rattle.package_table.specs.Table.{Name, IsPackage, package_named}
-use Rattle.package_table.specs.Lookup.{found}
+use Rattle.package_table.specs.Lookup.{home_by_name}
 use Rattle.package_table.specs.Readers.{package_names, own_names}
 use Rattle.package_table.proofs.Found.{found_finds}
 use Rattle.package_table.proofs.Keeping.{present_at_home}
@@ -52,9 +52,9 @@ look_up_silent SymbolsWith (x ∷ rest) s =
     list_silent (map (symbol p) (names_with s i p)) s)))
 
 -- ---- what they give may be stored
-found_value : (s : WorldState) (p n : Name) → IsSoundWorldState s → IsValue s.packages (symbol_or_nil n (found s.packages p n))
+found_value : (s : WorldState) (p n : Name) → IsSoundWorldState s → IsValue s.packages (symbol_or_nil n (home_by_name s.packages p n))
 found_value s p n sound =
-    elim (found s.packages p n) as (λ o. found s.packages p n ≡ o → IsValue s.packages (symbol_or_nil n o)) [
+    elim (home_by_name s.packages p n) as (λ o. home_by_name s.packages p n ≡ o → IsValue s.packages (symbol_or_nil n o)) [
       | Some h ↦ λ e. symbol_is_value s.packages h n sound.packages (present_at_home s.packages p n h sound.packages.joined (found_finds s.packages n p h e))
       | None ↦ λ _. nil_value s.packages sound.packages
     ] refl
@@ -91,7 +91,7 @@ pub look_up_safe : (operator : LookUp) → IsSafe (looked_up operator)
 look_up_safe FindSymbol [] s sound are = refused s _
 look_up_safe FindSymbol (x ∷ rest) s sound are =
     goods_kind IsValue s (a_text x) _ (λ n _. goods_kind IsValue s (given_or a_name s.current_package rest) _ (λ q _. in_package_safe s q _ (λ p _.
-    goods_here IsValue s (symbol_or_nil n (found s.packages p n)) false sound (found_value s p n sound))))
+    goods_here IsValue s (symbol_or_nil n (home_by_name s.packages p n)) false sound (found_value s p n sound))))
 look_up_safe ListAllPackages [] s sound are = list_safe (map text (package_names s.packages)) s sound (names_values s sound)
 look_up_safe ListAllPackages (x ∷ xs) s sound are = refused s _
 look_up_safe SymbolsWith [] s sound are = refused s _

@@ -16,14 +16,14 @@ use Rattle.lisp_object.specs.Datum.{object_of, is_proper}
 use Rattle.lisp_object.proofs.Sound.{all_ascii}
 use Rattle.package_table.specs.declared.error.PackageError.TheVariants.{LockedPackage}
 use Rattle.package_table.specs.Table.{Name, Table, IsPackage, common_lisp}
-use Rattle.package_table.specs.Lookup.{found}
+use Rattle.package_table.specs.Lookup.{home_by_name}
 use Rattle.package_table.specs.Readers.{package_names, names_of}
 use Rattle.package_table.specs.Resolving.{found_at, new_in, resolution}
 use Rattle.plist_state.specs.Properties.{Symbol}
 use Rattle.plist_state.specs.State.{WorldState}
 use Rattle.plist_state.specs.Changes.{property}
 use Rattle.plist_state.specs.Sound.{IsSoundWorldState}
-use Rattle.lisp_operators.specs.Evaluated.{IsAscii}
+use Rattle.lisp_operators.specs.EvaluationAnswers.{IsAscii}
 use Rattle.lisp_operators.proofs.LookUpLaws.{owner_there, package_there}
 use Rattle.lisp_operators.proofs.PropertyRows.{ascii_home, ascii_name}
 use Rattle.lisp_operators.proofs.Storable.{symbol_is_value}
@@ -33,9 +33,9 @@ not_new : (b : Bool) (p h : Name) → cond b (Err LockedPackage) (Ok (new_in p))
 not_new true p h e = cc
 not_new false p h e = cc
 
-pub found_by : (t : Table) (p n h : Name) → resolution t p n ≡ Ok (found_at h) → found t p n ≡ Some h
+pub found_by : (t : Table) (p n h : Name) → resolution t p n ≡ Ok (found_at h) → home_by_name t p n ≡ Some h
 found_by t p n h e =
-    elim (found t p n) as (λ (o : Option Name). option_map_or (λ g. Ok (found_at g)) o (cond (bytes_eq p common_lisp) (Err LockedPackage) (Ok (new_in p))) ≡ Ok (found_at h) → o ≡ Some h) [
+    elim (home_by_name t p n) as (λ (o : Option Name). option_map_or (λ g. Ok (found_at g)) o (cond (bytes_eq p common_lisp) (Err LockedPackage) (Ok (new_in p))) ≡ Ok (found_at h) → o ≡ Some h) [
       | Some g ↦ λ same. cc
       | None ↦ λ new. absurd (not_new (bytes_eq p common_lisp) p h new)
     ] e

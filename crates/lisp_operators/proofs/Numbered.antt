@@ -14,13 +14,13 @@ use Rattle.readtable_core.specs.Changes.{with_character_entry, macro_entry, disp
 use Rattle.package_table.specs.declared.error.PackageError.{PackageError}
 use Rattle.package_table.specs.Table.{Name, Table, common_lisp, keyword, is_locked, package_named, symbol_count}
 use Rattle.package_table.specs.Limits.{most_packages, most_symbols, longest_package_name, longest_symbol_name}
-use Rattle.package_table.specs.Lookup.{found, is_used}
+use Rattle.package_table.specs.Lookup.{home_by_name, is_used}
 use Rattle.package_table.specs.Changes.{after_make, after_intern, after_export, after_import, after_use, finds_this, finds_other, user_finds_other, finds_other_than_shown}
 use Rattle.package_table.specs.ErrorNumbers as package_errors
 use Rattle.plist_state.specs.declared.error.ReadtableError.{ReadtableError}
 use Rattle.plist_state.specs.ErrorNumbers as readtable_errors
 use Rattle.plist_state.specs.State.{Readtables, WorldState, standard_name}
-use Rattle.plist_state.specs.Changes.{writable, put_changed, with_changed, changed_readtable, with_case, with_macro, with_dispatching, refused_as, with_sub_function, with_dispatch, with_syntax, with_copy}
+use Rattle.plist_state.specs.Changes.{writable, put_changed, with_changed, changed_readtable, with_case, with_macro, with_dispatching, readtable_error_of, with_sub_function, with_dispatch, with_syntax, with_copy}
 use Rattle.lisp_operators.specs.Evaluation.{Evaluation, also, and_then, of_kind}
 
 -- a number of evaluation
@@ -86,7 +86,7 @@ module _ (t : Table) where
   pub numbered_intern : (p n : Name) → IsPackagesNumbered (after_intern t p n)
   numbered_intern p n =
       refuses package_errors.package_error_number (not (finite.contains_key t p)) _ _ (omega arith, omega arith)
-      (found_or package_errors.package_error_number (found t p n) _ _ (λ h. tt)
+      (found_or package_errors.package_error_number (home_by_name t p n) _ _ (λ h. tt)
       (refuses package_errors.package_error_number (bytes_eq p common_lisp) _ _ (omega arith, omega arith)
       (refuses package_errors.package_error_number (nat_lt longest_symbol_name (length n) || nat_le most_symbols (symbol_count t)) _ _ (omega arith, omega arith) tt)))
 
@@ -135,7 +135,7 @@ module _ (m : Readtables) (n : Name) where
   pub numbered_dispatching : (c : ℕ) (b : Bool) → IsReadtablesNumbered (with_dispatching m n c b)
   numbered_dispatching c b = changed_numbered m n (λ t. Ok (with_character_entry t c (dispatching_entry b))) (λ t. tt)
 
-  refused_numbered : (r : DispatchRefusal) → IsReadtablesNumbered {A = readtable.Table} (Err (refused_as r))
+  refused_numbered : (r : DispatchRefusal) → IsReadtablesNumbered {A = readtable.Table} (Err (readtable_error_of r))
   refused_numbered NoDispatch = (omega arith, omega arith)
   refused_numbered Digit = (omega arith, omega arith)
 

@@ -18,8 +18,8 @@ use Rattle.plist_state.specs.State.{Readtables, WorldState, standard_name}
 use Rattle.plist_state.specs.Changes.{plist, property, after_in_readtable, with_case, with_macro, with_dispatching, with_dispatch, with_syntax, with_copy, in_state}
 use Rattle.lisp_operators.specs.Kinds.{a_symbol, a_name, a_text, an_integer, a_character, a_keyword, a_source, a_case, one_or_each, given_or, given_or_nil, is_true}
 use Rattle.lisp_operators.specs.Evaluation.{Evaluation, gives}
-use Rattle.lisp_operators.specs.Properties.{t, built, list, get, set, removed, remove, in_turn, symbol_plist, amount, is_in_range, increment, push}
-use Rattle.lisp_operators.specs.Packages.{then_others, one_by_one, in_package, made, make, enter, interned, intern, changed, unlocked, export, import, use_all, packages_named, use_package}
+use Rattle.lisp_operators.specs.Properties.{t, if_within_limits, list, get, set, removed_property, remove, in_turn, symbol_plist, amount, is_in_range, increment, push}
+use Rattle.lisp_operators.specs.Packages.{then_others, one_by_one, in_package, made_package, make, enter, interned_symbol, intern, changed, unlocked, export, import, use_all, packages_named, use_package}
 use Rattle.lisp_operators.specs.Readtables.{value_after, in_readtable, changeable, is_function, a_function, readtable_case, set_case, copy_readtable, enter_readtable, after_first, set_syntax, set_macro, get_macro, make_dispatch, set_dispatch, get_dispatch}
 use Rattle.lisp_operators.specs.ReadBase.{a_base, set_base}
 use Rattle.lisp_operators.proofs.Numbered.{Numbered, IsPackagesNumbered, IsReadtablesNumbered, numbered_if, numbered_kind, numbered_option, numbered_make, numbered_intern, numbered_export, numbered_import, numbered_use, numbered_case, numbered_macro, numbered_dispatching, numbered_dispatch, numbered_syntax, numbered_copy}
@@ -28,7 +28,7 @@ abbrev pub IsNumberedFunction : (List Object → WorldState → Evaluation Objec
 IsNumberedFunction function = (xs : List Object) (s : WorldState) → Numbered (function xs s)
 
 -- ---- property lists
-built_numbered : (s : WorldState) (x : Object) (on : Evaluation Object) → Numbered on → Numbered (built x on)
+built_numbered : (s : WorldState) (x : Object) (on : Evaluation Object) → Numbered on → Numbered (if_within_limits x on)
 built_numbered s x on silent = numbered_if (nat_lt 100 (object_depth x)) _ _ (record { number = (omega arith, omega arith) }) (numbered_if (nat_lt 1000000 (object_size x)) _ on (record { number = (omega arith, omega arith) }) silent)
 
 pub list_numbered : IsNumberedFunction list
@@ -43,7 +43,7 @@ pub set_numbered : IsNumberedFunction set
 set_numbered (x ∷ i ∷ v ∷ []) s = numbered_kind (a_symbol x) _ (λ x'. numbered_kind (a_symbol i) _ (λ i'. record { number = tt }))
 set_numbered _ s = record { number = (omega arith, omega arith) }
 
-removed_numbered : (o : Option Object) (s t : WorldState) → Numbered (removed o s t)
+removed_numbered : (o : Option Object) (s t : WorldState) → Numbered (removed_property o s t)
 removed_numbered None s t = record { number = tt }
 removed_numbered (Some v) s t = record { number = tt }
 
@@ -70,7 +70,7 @@ push_numbered _ s = record { number = (omega arith, omega arith) }
 pub in_package_numbered : {A : Type 0} (s : WorldState) (n : Name) (on : Name → Evaluation A) → ((p : Name) → Numbered (on p)) → Numbered (in_package s n on)
 in_package_numbered s n on each = numbered_option (package_named s.packages n) on (Err NO_SUCH_PACKAGE) each (record { number = (omega arith, omega arith) })
 
-made_numbered : (s : WorldState) (n : Name) (r : Result Table PackageError) → IsPackagesNumbered r → Numbered (made s n r)
+made_numbered : (s : WorldState) (n : Name) (r : Result Table PackageError) → IsPackagesNumbered r → Numbered (made_package s n r)
 made_numbered s n (Ok packages) is = record { number = tt }
 made_numbered s n (Err e) is = record { number = is }
 
@@ -81,7 +81,7 @@ make_numbered _ s = record { number = (omega arith, omega arith) }
 pub enter_numbered : (x : Object) (s : WorldState) → Numbered (enter x s)
 enter_numbered x s = numbered_kind (a_name x) _ (λ n. in_package_numbered s n _ (λ p. record { number = tt }))
 
-interned_numbered : (s : WorldState) (n : Name) (changes : Bool) (r : Result (Name × Table) PackageError) → IsPackagesNumbered r → Numbered (interned s n changes r)
+interned_numbered : (s : WorldState) (n : Name) (changes : Bool) (r : Result (Name × Table) PackageError) → IsPackagesNumbered r → Numbered (interned_symbol s n changes r)
 interned_numbered s n changes (Ok p) is = record { number = tt }
 interned_numbered s n changes (Err e) is = record { number = is }
 

@@ -8,7 +8,7 @@ use Rattle.package_table.specs.declared.error.PackageError.TheVariants.{NoPackag
 use Rattle.package_table.specs.Table.{Table}
 use Rattle.package_table.specs.Changes.{AnswersPackages}
 use Rattle.lisp_operators.specs.Packages.{one_by_one, then_others}
-use Rattle.lisp_operators.specs.Evaluated.{MakesPackages}
+use Rattle.lisp_operators.specs.EvaluationAnswers.{MakesPackages}
 
 -- what is from an index on
 from_index : {X Y : Type 0} (f : X → Y) (xs : List X) (i : ℕ) (x : X) → i < length xs → x ≡ get_or xs i x → map f (drop i xs) ≡ f x ∷ map f (drop (i + 1) xs)

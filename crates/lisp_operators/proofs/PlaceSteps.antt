@@ -12,11 +12,11 @@ use Rattle.package_table.proofs.Names.{same_some, none_some}
 use Rattle.plist_state.specs.Properties.{Symbol}
 use Rattle.plist_state.specs.State.{WorldState, Worlds}
 use Rattle.plist_state.specs.Changes.{property, with_property}
-use Rattle.plist_state.specs.Popped.{first_item, with_rest, with_popped}
+use Rattle.plist_state.specs.PoppedLists.{first_item, with_rest, with_popped}
 use Rattle.plist_state.specs.Sound.{IsValue}
 use Rattle.lisp_operators.specs.Evaluation.{of_kind, writes}
 use Rattle.lisp_operators.specs.Places.{parted, popped_at}
-use Rattle.lisp_operators.specs.Evaluated.{IsArgument}
+use Rattle.lisp_operators.specs.EvaluationAnswers.{IsArgument}
 use Rattle.lisp_operators.proofs.Storable.{nil_value}
 
 pub inserted_arguments : (u : Table) (xs : List Datum) (d : Datum) → AreSoundPackages u → object_of d ≡ nil → is_proper d ≡ true → All (IsArgument u) xs → All (IsArgument u) (insert xs 2 d)

@@ -17,7 +17,7 @@ use Rattle.lisp_object.specs.Object.{Object, symbol, pair, nil, object_depth}
 use Rattle.lisp_object.specs.Datum.{object_of, is_proper}
 use Rattle.lisp_object.proofs.Sound.{all_ascii}
 use Rattle.package_table.specs.Table.{Table, keyword, IsPackage}
-use Rattle.package_table.specs.Lookup.{found}
+use Rattle.package_table.specs.Lookup.{home_by_name}
 use Rattle.package_table.proofs.Found.{found_finds}
 use Rattle.package_table.proofs.Keeping.{present_at_home}
 use Rattle.lisp_operators.specs.Kinds.{a_name, a_text}
@@ -26,7 +26,7 @@ use Rattle.plist_state.specs.State.{WorldState}
 use Rattle.plist_state.specs.Changes.{plist, property}
 use Rattle.plist_state.specs.Sound.{IsSymbol, IsValue, IsSoundWorldState}
 use Rattle.lisp_operators.specs.Properties.{in_turn}
-use Rattle.lisp_operators.specs.Evaluated.{object_of_symbol}
+use Rattle.lisp_operators.specs.EvaluationAnswers.{object_of_symbol}
 use Rattle.lisp_operators.proofs.Storable.{name_kind, text_kind, symbol_is_value, nil_value, pair_value}
 use Rattle.lisp_operators.proofs.SoundProperties.{property_value, held}
 
@@ -90,6 +90,6 @@ pub text_ascii : (u : Table) (x : Object) (n : List ℕ) → Some n ≡ a_text x
 text_ascii u x n e is = all_ascii n (text_kind u x n (sym e) is)
 
 -- the home of a symbol that a package finds
-pub home_ascii : (s : WorldState) (p n h : List ℕ) → IsSoundWorldState s → found s.packages p n ≡ Some h → list_all is_ascii h ≡ true
+pub home_ascii : (s : WorldState) (p n h : List ℕ) → IsSoundWorldState s → home_by_name s.packages p n ≡ Some h → list_all is_ascii h ≡ true
 home_ascii s p n h sound e =
     all_ascii h ((symbol_is_value s.packages h n sound.packages (present_at_home s.packages p n h sound.packages.joined (found_finds s.packages n p h e))).object.0)

@@ -12,11 +12,11 @@ use Rattle.plist_state.specs.Properties.{Symbol}
 use Rattle.plist_state.specs.State.{WorldState}
 use Rattle.plist_state.specs.Changes.{property}
 use Rattle.plist_state.specs.Sound.{IsSoundWorldState}
-use Rattle.plist_state.specs.Pushed.{holds_pair, pair_size, pushed}
+use Rattle.plist_state.specs.PushedLists.{holds_pair, pair_size, pushed_list}
 use Rattle.lisp_object.specs.declared.refusal.TheConstants.{VALUE_TOO_DEEP, LIMIT}
 use Rattle.lisp_operators.specs.Kinds.{is_pair}
 use Rattle.lisp_operators.specs.Evaluation.{Evaluation}
-use Rattle.lisp_operators.specs.Properties.{built}
+use Rattle.lisp_operators.specs.Properties.{if_within_limits}
 use Rattle.lisp_operators.proofs.SoundProperties.{property_value}
 use Rattle.lisp_operators.proofs.Storable.{nil_value}
 
@@ -52,7 +52,7 @@ sized_pair (vector xs) n is = absurd (cc)
 
 -- the size of a list with an item more in front
 pub before_size : (a : Object) (old : Option Object) (n : ℕ) → pair_size old ≡ Some n
-    → pair_size (Some (pushed a old)) ≡ Some (min (min (object_size a) (2 ^ 64 - 1) + n) (2 ^ 64 - 1))
+    → pair_size (Some (pushed_list a old)) ≡ Some (min (min (object_size a) (2 ^ 64 - 1) + n) (2 ^ 64 - 1))
 before_size a None n is = absurd (cc)
 before_size a (Some (pair b c)) n is = ap Some (sym (together (object_size a) (object_size b) (size_along c) n (ap (λ o. unwrap_or o n) is)))
 before_size a (Some (integer k)) n is = absurd (cc)
@@ -66,8 +66,8 @@ before_size a (Some (vector xs)) n is = absurd (cc)
 within_size : (x n : ℕ) → min x (2 ^ 64 - 1) ≡ n → nat_lt 1000000 x ≡ nat_lt 1000000 n
 within_size x n is = grind (arith, nat_tests, is)
 
-pub pushed_size : (a : Object) (old : Option Object) (n : ℕ) → pair_size (Some (pushed a old)) ≡ Some n → nat_lt 1000000 (object_size (pushed a old)) ≡ nat_lt 1000000 n
-pushed_size a old n is = within_size (object_size (pushed a old)) n (ap (λ o. unwrap_or o n) is)
+pub pushed_size : (a : Object) (old : Option Object) (n : ℕ) → pair_size (Some (pushed_list a old)) ≡ Some n → nat_lt 1000000 (object_size (pushed_list a old)) ≡ nat_lt 1000000 n
+pushed_size a old n is = within_size (object_size (pushed_list a old)) n (ap (λ o. unwrap_or o n) is)
 
 -- the property of a sound state is within the depth of what may be stored
 pub list_within : (s : WorldState) (x i : Symbol) (list : Object) → IsSoundWorldState s → Some list ≡ property s x i → object_depth list ≤ 100
@@ -77,9 +77,9 @@ list_within s x i list sound is =
 -- how deep the list is with a value more in front, where its size is known
 pub pushed_depth : (s : WorldState) (x i : Symbol) (v : Object) (n : ℕ) (deep : Bool) → IsSoundWorldState s → pair_size (property s x i) ≡ Some n
     → ((list : Object) → holds_pair (Some list) ≡ true → object_depth list ≤ 100 → deep ≡ nat_lt 100 (object_depth (pair v list)))
-    → deep ≡ nat_lt 100 (object_depth (pushed v (property s x i)))
+    → deep ≡ nat_lt 100 (object_depth (pushed_list v (property s x i)))
 pushed_depth s x i v n deep sound is before =
-    elim (property s x i) as (λ o. property s x i ≡ o → pair_size o ≡ Some n → deep ≡ nat_lt 100 (object_depth (pushed v o))) [
+    elim (property s x i) as (λ o. property s x i ≡ o → pair_size o ≡ Some n → deep ≡ nat_lt 100 (object_depth (pushed_list v o))) [
       | None ↦ λ e t. absurd (cc)
       | Some list ↦ λ e t. before list (sized_pair list n t) (list_within s x i list sound (sym e))
     ] refl is
@@ -95,13 +95,13 @@ pair_held (pair a b) = refl
 pair_held (vector xs) = refl
 
 module _ (x : Object) (on : Evaluation Object) where
-  pub too_deep : nat_lt 100 (object_depth x) ≡ true → built x on ≡ Err VALUE_TOO_DEEP
+  pub too_deep : nat_lt 100 (object_depth x) ≡ true → if_within_limits x on ≡ Err VALUE_TOO_DEEP
   too_deep deep = ap (λ b. cond b (Err VALUE_TOO_DEEP) (cond (nat_lt 1000000 (object_size x)) (Err LIMIT) on)) deep
 
-  pub too_large : nat_lt 100 (object_depth x) ≡ false → nat_lt 1000000 (object_size x) ≡ true → built x on ≡ Err LIMIT
+  pub too_large : nat_lt 100 (object_depth x) ≡ false → nat_lt 1000000 (object_size x) ≡ true → if_within_limits x on ≡ Err LIMIT
   too_large shallow large =
       ap (λ b. cond b (Err VALUE_TOO_DEEP) (cond (nat_lt 1000000 (object_size x)) (Err LIMIT) on)) shallow ∙ ap (λ b. cond b (Err LIMIT) on) large
 
-  pub built_up : nat_lt 100 (object_depth x) ≡ false → nat_lt 1000000 (object_size x) ≡ false → built x on ≡ on
+  pub built_up : nat_lt 100 (object_depth x) ≡ false → nat_lt 1000000 (object_size x) ≡ false → if_within_limits x on ≡ on
   built_up shallow small =
       ap (λ b. cond b (Err VALUE_TOO_DEEP) (cond (nat_lt 1000000 (object_size x)) (Err LIMIT) on)) shallow ∙ ap (λ b. cond b (Err LIMIT) on) small

@@ -20,7 +20,7 @@ use Rattle.lisp_operators.specs.Evaluation.{Evaluation}
 use Rattle.lisp_operators.specs.Kinds.{a_character, a_keyword, given_or, given_or_nil, is_true}
 use Rattle.lisp_operators.specs.Properties.{t}
 use Rattle.lisp_operators.specs.Readtables.{value_after, with_readtables, changeable, is_function, a_function, after_first, set_macro, make_dispatch, set_dispatch}
-use Rattle.lisp_operators.specs.Evaluated.{Answers, done}
+use Rattle.lisp_operators.specs.EvaluationAnswers.{Answers, done}
 use Rattle.lisp_operators.proofs.KindSteps.{kind_is}
 
 pub told_made : (s new : WorldState) (said : Result WorldState ReadtableError) (e : Evaluated) → object_of e.value ≡ t → e.wrote ≡ true → said ≡ Ok new → value_after s t said ≡ Ok (done e new)

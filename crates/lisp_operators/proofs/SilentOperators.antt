@@ -17,8 +17,8 @@ use Rattle.plist_state.specs.State.{WorldState, standard_name}
 use Rattle.plist_state.specs.Changes.{plist, property, with_packages, after_in_readtable, with_case, with_macro, with_dispatching, with_dispatch, with_syntax, with_copy, in_state}
 use Rattle.lisp_operators.specs.Kinds.{a_symbol, a_name, a_text, an_integer, a_character, a_keyword, a_source, a_case, one_or_each, given_or, given_or_nil, is_true}
 use Rattle.lisp_operators.specs.Evaluation.{Evaluation, gives}
-use Rattle.lisp_operators.specs.Properties.{t, built, list, get, set, removed, remove, in_turn, symbol_plist, amount, is_in_range, increment, push}
-use Rattle.lisp_operators.specs.Packages.{in_package, made, make, enter, interned, intern, changed, unlocked, export, import, use_all, packages_named, use_package}
+use Rattle.lisp_operators.specs.Properties.{t, if_within_limits, list, get, set, removed_property, remove, in_turn, symbol_plist, amount, is_in_range, increment, push}
+use Rattle.lisp_operators.specs.Packages.{in_package, made_package, make, enter, interned_symbol, intern, changed, unlocked, export, import, use_all, packages_named, use_package}
 use Rattle.lisp_operators.specs.Readtables.{value_after, in_readtable, changeable, is_function, a_function, readtable_case, set_case, copy_readtable, enter_readtable, after_first, set_syntax, set_macro, get_macro, make_dispatch, set_dispatch, get_dispatch}
 use Rattle.lisp_operators.specs.ReadBase.{a_base, set_base}
 use Rattle.lisp_operators.proofs.Silence.{Keeps, written, keeps_if, keeps_kind, keeps_option}
@@ -28,7 +28,7 @@ abbrev pub IsSilent : (List Object → WorldState → Evaluation Object) → Typ
 IsSilent function = (xs : List Object) (s : WorldState) → Keeps s (function xs s)
 
 -- ---- property lists
-built_silent : (s : WorldState) (x : Object) (on : Evaluation Object) → Keeps s on → Keeps s (built x on)
+built_silent : (s : WorldState) (x : Object) (on : Evaluation Object) → Keeps s on → Keeps s (if_within_limits x on)
 built_silent s x on silent = keeps_if s (nat_lt 100 (object_depth x)) _ _ (record { same = tt }) (keeps_if s (nat_lt 1000000 (object_size x)) _ on (record { same = tt }) silent)
 
 pub list_silent : IsSilent list
@@ -43,7 +43,7 @@ pub set_silent : IsSilent set
 set_silent (x ∷ i ∷ v ∷ []) s = keeps_kind s (a_symbol x) _ (λ x'. keeps_kind s (a_symbol i) _ (λ i'. record { same = written }))
 set_silent _ s = record { same = tt }
 
-removed_silent : (o : Option Object) (s t : WorldState) → Keeps s (removed o s t)
+removed_silent : (o : Option Object) (s t : WorldState) → Keeps s (removed_property o s t)
 removed_silent None s t = record { same = λ _. refl }
 removed_silent (Some v) s t = record { same = written }
 
@@ -70,7 +70,7 @@ push_silent _ s = record { same = tt }
 pub in_package_silent : {A : Type 0} (s : WorldState) (n : Name) (on : Name → Evaluation A) → ((p : Name) → Keeps s (on p)) → Keeps s (in_package s n on)
 in_package_silent s n on each = keeps_option s (package_named s.packages n) on (Err NO_SUCH_PACKAGE) each (record { same = tt })
 
-made_silent : (s : WorldState) (n : Name) (r : Result Table PackageError) → Keeps s (made s n r)
+made_silent : (s : WorldState) (n : Name) (r : Result Table PackageError) → Keeps s (made_package s n r)
 made_silent s n (Ok packages) = record { same = written }
 made_silent s n (Err e) = record { same = tt }
 
@@ -81,7 +81,7 @@ make_silent _ s = record { same = tt }
 pub enter_silent : (x : Object) (s : WorldState) → Keeps s (enter x s)
 enter_silent x s = keeps_kind s (a_name x) _ (λ n. in_package_silent s n _ (λ p. record { same = written }))
 
-interned_silent : (s : WorldState) (n : Name) (changes : Bool) (r : Result (Name × Table) PackageError) → ((h : Name) (u : Table) → r ≡ Ok (h, u) → changes ≡ false → u ≡ s.packages) → Keeps s (interned s n changes r)
+interned_silent : (s : WorldState) (n : Name) (changes : Bool) (r : Result (Name × Table) PackageError) → ((h : Name) (u : Table) → r ≡ Ok (h, u) → changes ≡ false → u ≡ s.packages) → Keeps s (interned_symbol s n changes r)
 interned_silent s n changes (Ok p) still = record { same = λ none. ap (with_packages s) (still p.0 p.1 refl none) }
 interned_silent s n changes (Err e) still = record { same = tt }
 

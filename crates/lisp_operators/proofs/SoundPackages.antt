@@ -23,7 +23,7 @@ use Rattle.plist_state.proofs.Soundness.{sound_packages, sound_in_package}
 use Rattle.lisp_operators.specs.Kinds.{a_symbol, a_name, a_text, one_or_each, given_or}
 use Rattle.lisp_operators.specs.Evaluation.{Evaluation}
 use Rattle.lisp_operators.specs.Properties.{t}
-use Rattle.lisp_operators.specs.Packages.{in_package, made, make, enter, interned, intern, then_others, one_by_one, changed, unlocked, export, import, use_all, packages_named, use_package}
+use Rattle.lisp_operators.specs.Packages.{in_package, made_package, make, enter, interned_symbol, intern, then_others, one_by_one, changed, unlocked, export, import, use_all, packages_named, use_package}
 use Rattle.lisp_operators.proofs.Good.{Goods, goods_state, goods_if, goods_kind, goods_option}
 use Rattle.lisp_operators.proofs.Storable.{symbol_is_value, t_value, text_value, symbols_kind, name_kind, text_kind}
 use Rattle.lisp_operators.proofs.SoundProperties.{IsSafe, refused, first_of}
@@ -40,7 +40,7 @@ pub in_package_safe : (s : WorldState) (n : Name) (on : Name → Evaluation Obje
 in_package_safe s n on each = goods_option IsValue s (package_named s.packages n) on (Err NO_SUCH_PACKAGE) (λ p e. each p (named_there s.packages n p e)) (refused s _)
 
 -- ---- MAKE-PACKAGE and IN-PACKAGE
-made_safe : (s : WorldState) (n : Name) (r : Result Table PackageError) → IsSoundWorldState s → All (λ b. b < 128) n → after_make s.packages n ≡ r → Goods IsValue s (made s n r)
+made_safe : (s : WorldState) (n : Name) (r : Result Table PackageError) → IsSoundWorldState s → All (λ b. b < 128) n → after_make s.packages n ≡ r → Goods IsValue s (made_package s n r)
 made_safe s n (Ok u) sound ascii is =
     let kept = (kept_make s.packages n u sound.packages ascii is).0 in
     goods_state IsValue s (text n) (with_packages s u) true (sound_packages s u sound kept.sound kept.grows) kept.grows (text_value u n ascii)
@@ -57,7 +57,7 @@ enter_safe x s sound =
     (text_value s.packages p (sound.packages.within.package_names p there).ascii)))
 
 -- ---- INTERN
-interned_safe : (s : WorldState) (p n : Name) (changes : Bool) (r : Result (Name × Table) PackageError) → IsSoundWorldState s → All (λ b. b < 128) n → after_intern s.packages p n ≡ r → Goods IsValue s (interned s n changes r)
+interned_safe : (s : WorldState) (p n : Name) (changes : Bool) (r : Result (Name × Table) PackageError) → IsSoundWorldState s → All (λ b. b < 128) n → after_intern s.packages p n ≡ r → Goods IsValue s (interned_symbol s n changes r)
 interned_safe s p n changes (Ok q) sound ascii is =
     let done = kept_intern s.packages p n sound.packages q.0 q.1 ascii is in
     goods_state IsValue s (symbol q.0 n) (with_packages s q.1) changes (sound_packages s q.1 sound done.kept.sound done.kept.grows) done.kept.grows

@@ -16,7 +16,7 @@ use Rattle.plist_state.specs.Sound.{IsSymbol, IsValue, IsSoundWorldState}
 use Rattle.plist_state.proofs.Soundness.{sound_put, sound_removed}
 use Rattle.lisp_operators.specs.Kinds.{a_symbol, an_integer, given_or_nil}
 use Rattle.lisp_operators.specs.Evaluation.{Evaluation, gives}
-use Rattle.lisp_operators.specs.Properties.{t, built, list, get, set, removed, remove, in_turn, symbol_plist, amount, is_in_range, increment, push}
+use Rattle.lisp_operators.specs.Properties.{t, if_within_limits, list, get, set, removed_property, remove, in_turn, symbol_plist, amount, is_in_range, increment, push}
 use Rattle.lisp_operators.proofs.Good.{Goods, goods_here, goods_state, goods_if, goods_kind}
 use Rattle.lisp_operators.proofs.Storable.{AreValues, symbol_is_value, t_value, nil_value, list_value, pair_value, symbol_kind}
 
@@ -58,7 +58,7 @@ turn_values u sound (p ∷ ps) indicators values =
     (turn_values u sound ps (All-tail (λ p. IsSymbol u p.0) p ps indicators) (All-tail (λ p. IsValue u p.1) p ps values)))
 
 -- ---- the operators
-built_safe : (s : WorldState) (x : Object) (on : Evaluation Object) → (object_depth x ≤ 100 → Goods IsValue s on) → Goods IsValue s (built x on)
+built_safe : (s : WorldState) (x : Object) (on : Evaluation Object) → (object_depth x ≤ 100 → Goods IsValue s on) → Goods IsValue s (if_within_limits x on)
 built_safe s x on safe =
     goods_if IsValue s (nat_lt 100 (object_depth x)) _ _ (λ _. refused s _)
     (λ shallow. goods_if IsValue s (nat_lt 1000000 (object_size x)) _ on (λ _. refused s _) (λ _. safe (ltb-false 100 (object_depth x) shallow)))
@@ -97,7 +97,7 @@ set_safe (x ∷ i ∷ v ∷ []) s sound are =
     put_safe s x' i' v sound (symbol_kind s.packages x x' e (first_of s x (i ∷ v ∷ []) are)) (symbol_kind s.packages i i' f (first_of s i (v ∷ []) rest)) (first_of s v [] (rest_of s i (v ∷ []) rest))))
 set_safe _ s sound are = refused s _
 
-removed_safe : (o : Option Object) (s later : WorldState) → IsSoundWorldState s → IsSoundWorldState later → later.packages ≡ s.packages → Goods IsValue s (removed o s later)
+removed_safe : (o : Option Object) (s later : WorldState) → IsSoundWorldState s → IsSoundWorldState later → later.packages ≡ s.packages → Goods IsValue s (removed_property o s later)
 removed_safe None s later sound after same = goods_here IsValue s nil false sound (nil_value s.packages sound.packages)
 removed_safe (Some v) s later sound after same =
     goods_state IsValue s t later true after (subst (λ u. packages_grow s.packages u) (sym same) (grows_same s.packages)) (t_value later.packages after.packages)

@@ -9,7 +9,7 @@ use Rattle.package_table.specs.declared.error.PackageError.{PackageError}
 use Rattle.package_table.specs.declared.error.PackageError.TheVariants.{NoSuchPackage, PackageIsLocked, NameConflict, NotAccessible, Limit}
 use Rattle.package_table.specs.Limits.{most_symbols, longest_symbol_name}
 use Rattle.package_table.specs.Table.{Name, Table, common_lisp, keyword, is_locked, symbol_count, with_entry, with_used}
-use Rattle.package_table.specs.Lookup.{found, is_external, is_present, is_used}
+use Rattle.package_table.specs.Lookup.{home_by_name, is_external, is_present, is_used}
 use Rattle.package_table.specs.Changes.{after_intern, after_export, after_import, after_use, intern_changes, export_changes, import_changes, use_changes, with_new_symbol, with_external, with_present, finds_this, finds_other, user_finds_other, finds_other_than_shown}
 use Rattle.package_table.proofs.KeptChanges.{exported_again}
 use Rattle.lisp_operators.specs.Packages.{one_by_one, then_others}
@@ -31,7 +31,7 @@ module _ (t : Table) (p : Name) where
   pub intern_still : (n h : Name) (u : Table) → after_intern t p n ≡ Ok (h, u) → intern_changes t p n ≡ false → u ≡ t
   intern_still n h u is none =
       let there = passed (not (finite.contains_key t p)) NoSuchPackage _ (h, u) is in
-      elim (found t p n) as (λ o. is_none o ≡ false → option_map_or {U = Result (Name × Table) PackageError} (λ g. Ok (g, t)) o (cond (bytes_eq p common_lisp) (Err PackageIsLocked) (cond (nat_lt longest_symbol_name (length n) || nat_le most_symbols (symbol_count t)) (Err Limit) (Ok (p, with_new_symbol t p n)))) ≡ Ok (h, u) → u ≡ t) [
+      elim (home_by_name t p n) as (λ o. is_none o ≡ false → option_map_or {U = Result (Name × Table) PackageError} (λ g. Ok (g, t)) o (cond (bytes_eq p common_lisp) (Err PackageIsLocked) (cond (nat_lt longest_symbol_name (length n) || nat_le most_symbols (symbol_count t)) (Err Limit) (Ok (p, with_new_symbol t p n)))) ≡ Ok (h, u) → u ≡ t) [
         | Some g ↦ λ _ same. ap (λ (q : Name × Table). q.1) (sym (same_ok (g, t) (h, u) same))
         | None ↦ λ no _. absurd (false≢true (sym no))
       ] none there

@@ -4,12 +4,12 @@ use Rattle.lisp_object.specs.Object.{Object}
 use Rattle.plist_state.specs.Properties.{Symbol}
 use Rattle.plist_state.specs.State.{WorldState}
 use Rattle.plist_state.specs.Changes.{property}
-use Rattle.plist_state.specs.Pushed.{pushed, with_pushed}
+use Rattle.plist_state.specs.PushedLists.{pushed_list, with_pushed}
 use Rattle.lisp_operators.specs.declared.error.EvaluationError.{EvaluationError}
 use Rattle.lisp_operators.specs.declared.error.EvaluationError.TheVariants.{Refused, OutOfMemory}
 use Rattle.lisp_operators.specs.Evaluation.{Evaluation, gives, writes}
 use Rattle.lisp_operators.specs.Kinds.{is_true}
-use Rattle.lisp_operators.specs.Properties.{built}
+use Rattle.lisp_operators.specs.Properties.{if_within_limits}
 
 -- the state that an evaluation leaves, and whether it wrote
 abbrev pub effect : {A : Type 0} → Evaluation A → Result (WorldState × Bool) ℕ
@@ -32,4 +32,4 @@ IsTruth (Err OutOfMemory) s said = Unit {0}
 
 -- PUSH of a value to the property of a symbol
 abbrev pub pushes : WorldState → Symbol → Symbol → Object → Evaluation Object
-pushes s x i v = built (pushed v (property s x i)) (writes (pushed v (property s x i)) (with_pushed s x i v))
+pushes s x i v = if_within_limits (pushed_list v (property s x i)) (writes (pushed_list v (property s x i)) (with_pushed s x i v))

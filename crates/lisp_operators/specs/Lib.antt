@@ -1,5 +1,5 @@
 pub mod ErrorNumbers
-pub mod Evaluated
+pub mod EvaluationAnswers
 pub mod Evaluation
 pub mod Kinds
 pub mod Members

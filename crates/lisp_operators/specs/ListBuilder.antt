@@ -6,7 +6,7 @@ use Rattle.lisp_operators.specs.declared.error.EvaluationError.{EvaluationError}
 use Rattle.lisp_operators.specs.declared.evaluated.Evaluated.{Evaluated}
 use Rattle.lisp_operators.specs.declared.list_builder.ListBuilder.{ListBuilder}
 use Rattle.lisp_operators.specs.declared.list_builder.ListBuilder.TheVariants.{Within, TooDeep, TooLarge}
-use Rattle.lisp_operators.specs.Evaluated.{Answers, done, AreProper, IsProperValue, objects}
+use Rattle.lisp_operators.specs.EvaluationAnswers.{Answers, done, AreProper, IsProperValue, objects}
 use Rattle.lisp_operators.specs.Properties.{list}
 
 -- Of these values it holds all while their list is of depth at most 100 and of size at most 1,000,000, and then which of the

@@ -5,7 +5,7 @@ use Rattle.std.specs.Str.{bytes_eq}
 use Rattle.lisp_object.specs.Object.{Object, text, symbol, nil}
 use Rattle.lisp_object.specs.declared.refusal.TheConstants.{ARGUMENT_KIND}
 use Rattle.package_table.specs.Table.{Name}
-use Rattle.package_table.specs.Lookup.{found}
+use Rattle.package_table.specs.Lookup.{home_by_name}
 use Rattle.package_table.specs.Readers.{package_names, own_names}
 use Rattle.plist_state.specs.Properties.{Symbol}
 use Rattle.plist_state.specs.State.{WorldState}
@@ -26,7 +26,7 @@ symbol_or_nil n None = nil
 abbrev pub find_symbol : List Object → WorldState → Evaluation Object
 find_symbol (x ∷ rest) s =
     of_kind (a_text x) (λ n. of_kind (given_or a_name s.current_package rest) (λ q.
-    in_package s q (λ p. gives (symbol_or_nil n (found s.packages p n)) s)))
+    in_package s q (λ p. gives (symbol_or_nil n (home_by_name s.packages p n)) s)))
 find_symbol _ s = Err ARGUMENT_KIND
 
 -- LIST-ALL-PACKAGES: the names of the packages as texts, in the order of their bytes

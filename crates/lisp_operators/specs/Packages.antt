@@ -21,13 +21,13 @@ abbrev pub in_package : {A : Type 0} → WorldState → Name → (Name → Evalu
 in_package s n on = option_map_or on (package_named s.packages n) (Err NO_SUCH_PACKAGE)
 
 -- MAKE-PACKAGE: the name
-abbrev pub made : WorldState → Name → Result Table PackageError → Evaluation Object
-made s n (Ok packages) = writes (text n) (with_packages s packages)
-made s n (Err e) = Err (package_error_number e)
+abbrev pub made_package : WorldState → Name → Result Table PackageError → Evaluation Object
+made_package s n (Ok packages) = writes (text n) (with_packages s packages)
+made_package s n (Err e) = Err (package_error_number e)
 
 -- MAKE-PACKAGE
 abbrev pub make : List Object → WorldState → Evaluation Object
-make (x ∷ []) s = of_kind (a_name x) (λ n. made s n (after_make s.packages n))
+make (x ∷ []) s = of_kind (a_name x) (λ n. made_package s n (after_make s.packages n))
 make _ s = Err ARGUMENT_KIND
 
 -- IN-PACKAGE, of its argument as it is written: the package's name
@@ -35,15 +35,15 @@ abbrev pub enter : Object → WorldState → Evaluation Object
 enter x s = of_kind (a_name x) (λ n. in_package s n (λ p. writes (text p) (record s { current_package = p })))
 
 -- INTERN: the symbol
-abbrev pub interned : WorldState → Name → Bool → Result (Name × Table) PackageError → Evaluation Object
-interned s n changes (Ok p) = Ok (record { value = symbol p.0 n; state = with_packages s p.1; wrote = changes })
-interned s n changes (Err e) = Err (package_error_number e)
+abbrev pub interned_symbol : WorldState → Name → Bool → Result (Name × Table) PackageError → Evaluation Object
+interned_symbol s n changes (Ok p) = Ok (record { value = symbol p.0 n; state = with_packages s p.1; wrote = changes })
+interned_symbol s n changes (Err e) = Err (package_error_number e)
 
 -- INTERN
 abbrev pub intern : List Object → WorldState → Evaluation Object
 intern (x ∷ rest) s =
     of_kind (a_text x) (λ n. of_kind (given_or a_name s.current_package rest) (λ q.
-    in_package s q (λ p. interned s n (intern_changes s.packages p n) (after_intern s.packages p n))))
+    in_package s q (λ p. interned_symbol s n (intern_changes s.packages p n) (after_intern s.packages p n))))
 intern _ s = Err ARGUMENT_KIND
 
 abbrev pub then_others : Result Table PackageError → (Table → Result (Table × Bool) PackageError) → Result (Table × Bool) PackageError

@@ -18,7 +18,7 @@ use Rattle.lisp_operators.specs.declared.places.Direction.{Direction}
 use Rattle.lisp_operators.specs.declared.places.Direction.TheVariants.{Increment, Decrement}
 use Rattle.lisp_operators.specs.Evaluation.{Evaluation, writes, of_kind}
 use Rattle.lisp_operators.specs.declared.evaluated.Evaluated.{Evaluated}
-use Rattle.lisp_operators.specs.Evaluated.{Answers, done}
+use Rattle.lisp_operators.specs.EvaluationAnswers.{Answers, done}
 use Rattle.lisp_operators.specs.Kinds.{a_symbol, an_integer}
 use Rattle.lisp_operators.specs.Properties.{amount, is_in_range}
 

@@ -14,14 +14,14 @@ abbrev pub t : Object
 t = symbol common_lisp (codes "T")
 
 -- a value that was built: of depth at most 100, and of size at most 1,000,000
-abbrev pub built : Object → Evaluation Object → Evaluation Object
-built x on =
+abbrev pub if_within_limits : Object → Evaluation Object → Evaluation Object
+if_within_limits x on =
     if nat_lt 100 (object_depth x) then Err VALUE_TOO_DEEP
     else (if nat_lt 1000000 (object_size x) then Err LIMIT else on)
 
 -- LIST
 abbrev pub list : List Object → WorldState → Evaluation Object
-list xs s = built (list_of xs) (gives (list_of xs) s)
+list xs s = if_within_limits (list_of xs) (gives (list_of xs) s)
 
 -- GET of a symbol and an indicator: the property, else the third argument, else NIL
 abbrev pub get : List Object → WorldState → Evaluation Object
@@ -34,14 +34,14 @@ set (x ∷ i ∷ v ∷ []) s = of_kind (a_symbol x) (λ x'. of_kind (a_symbol i)
 set _ s = Err ARGUMENT_KIND
 
 -- REMPROP: whether the symbol had the property
-abbrev pub removed : Option Object → WorldState → WorldState → Evaluation Object
-removed None old new = gives nil old
-removed (Some v) old new = writes t new
+abbrev pub removed_property : Option Object → WorldState → WorldState → Evaluation Object
+removed_property None old new = gives nil old
+removed_property (Some v) old new = writes t new
 
 -- REMPROP
 abbrev pub remove : List Object → WorldState → Evaluation Object
 remove (x ∷ i ∷ []) s =
-    of_kind (a_symbol x) (λ x'. of_kind (a_symbol i) (λ i'. removed (property s x' i') s (without_property s x' i')))
+    of_kind (a_symbol x) (λ x'. of_kind (a_symbol i) (λ i'. removed_property (property s x' i') s (without_property s x' i')))
 remove _ s = Err ARGUMENT_KIND
 
 -- indicators and values in turn
@@ -76,6 +76,6 @@ increment _ s = Err ARGUMENT_KIND
 abbrev pub push : List Object → WorldState → Evaluation Object
 push (v ∷ x ∷ i ∷ []) s =
     of_kind (a_symbol x) (λ x'. of_kind (a_symbol i) (λ i'.
-    built (pair v (unwrap_or (property s x' i') nil))
+    if_within_limits (pair v (unwrap_or (property s x' i') nil))
     (writes (pair v (unwrap_or (property s x' i') nil)) (with_property s x' i' (pair v (unwrap_or (property s x' i') nil))))))
 push _ s = Err ARGUMENT_KIND

@@ -3,7 +3,7 @@ ghost use Rattle.std.specs.Prelude.{◌≡◌, ◌<◌, true, [], ◌∷◌, All
 ghost use Rattle.lisp_object.specs.Datum.{object_of};
 ghost use Rattle.lisp_operators.specs.Kinds.{a_name, a_keyword, a_source, given_or, given_or_nil, is_true};
 ghost use Rattle.lisp_operators.specs.Readtables.{after_first};
-ghost use Rattle.lisp_operators.specs.Evaluated.{IsArgument, IsOfKind, IsProper, AreProper, AreExactly, AreAtLeast, WhereArguments, objects};
+ghost use Rattle.lisp_operators.specs.EvaluationAnswers.{IsArgument, IsOfKind, IsProper, AreProper, AreExactly, AreAtLeast, WhereArguments, objects};
 
 use crate::EvaluationError::Refused;
 use crate::{EvaluationError, kinds};

@@ -6,7 +6,7 @@ ghost use Rattle.plist_state.specs.Changes.{with_packages};
 ghost use Rattle.plist_state.specs.Sound.{IsSymbol};
 ghost use Rattle.lisp_operators.specs.Members.{symbol_of_member, name_in, symbols_in, packages_in};
 ghost use Rattle.lisp_operators.specs.Packages.{after_exports, after_imports, after_uses, finds_symbol};
-ghost use Rattle.lisp_operators.specs.Evaluated.{MakesPackages, IsProper, AreProper};
+ghost use Rattle.lisp_operators.specs.EvaluationAnswers.{MakesPackages, IsProper, AreProper};
 
 use crate::either;
 use crate::lists::{name_in, symbol_in};

@@ -3,12 +3,12 @@
 ghost use Rattle.std.specs.Prelude.{◌≡◌, Some, IfErr};
 ghost use Rattle.lisp_object.specs.Datum.{object_of};
 ghost use Rattle.plist_state.specs.Changes.{property};
-ghost use Rattle.plist_state.specs.Pushed.{pair_size};
+ghost use Rattle.plist_state.specs.PushedLists.{pair_size};
 ghost use Rattle.plist_state.specs.Views.{symbol_of};
 ghost use Rattle.plist_state.specs.Sound.{IsSymbol};
 ghost use Rattle.lisp_operators.specs.Properties.{get, set, push};
 ghost use Rattle.lisp_operators.specs.Effects.{IsTruth, Leaves, pushes};
-ghost use Rattle.lisp_operators.specs.Evaluated.{AreArgumentsOf, IsArgument, objects};
+ghost use Rattle.lisp_operators.specs.EvaluationAnswers.{AreArgumentsOf, IsArgument, objects};
 
 use crate::EvaluationError::Refused;
 use crate::arguments::is_given;

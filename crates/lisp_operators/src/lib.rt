@@ -2,7 +2,7 @@
 //!
 //! `specs/` says what each gives in a state of the world: a value, the state after it and whether anything was written, or the
 //! number of its refusal. Each function does with a `World` what its definition says, or answers that memory ran out (`Answers`
-//! of specs/Evaluated.antt). After a refusal or out of memory the world may have changed, but for its marks. Which form is a call
+//! of specs/EvaluationAnswers.antt). After a refusal or out of memory the world may have changed, but for its marks. Which form is a call
 //! of which operator, the crate `evaluator` says.
 //!
 //! - `properties`, `places`, `packages`, `package_lists`, `look_ups`, `readtables`, `read_base`: the operators of each family;

@@ -4,7 +4,7 @@ ghost use Rattle.lisp_object.specs.Object.{Object, object_depth};
 ghost use Rattle.lisp_object.specs.Datum.{object_of};
 ghost use Rattle.lisp_operators.specs.declared.list_builder.ListBuilder.TheVariants.{Within};
 ghost use Rattle.lisp_operators.specs.ListBuilder.{HoldsList, AnswersList};
-ghost use Rattle.lisp_operators.specs.Evaluated.{IsProper};
+ghost use Rattle.lisp_operators.specs.EvaluationAnswers.{IsProper};
 
 use crate::EvaluationError::Refused;
 use crate::sizes::size_of;

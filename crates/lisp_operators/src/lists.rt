@@ -4,7 +4,7 @@ ghost use Rattle.lisp_object.specs.Datum.{object_of};
 ghost use Rattle.lisp_operators.specs.Kinds.{a_symbol, a_name, one_or_each};
 ghost use Rattle.lisp_operators.specs.declared.error.EvaluationError.TheVariants.{Refused};
 ghost use Rattle.lisp_operators.specs.Members.{AreMembers, symbol_of_member, name_in, symbols_in, names_in};
-ghost use Rattle.lisp_operators.specs.Evaluated.{IsOfKind, IsProper, AreProper, IsRefusedAs, objects};
+ghost use Rattle.lisp_operators.specs.EvaluationAnswers.{IsOfKind, IsProper, AreProper, IsRefusedAs, objects};
 
 use crate::EvaluationError::Refused;
 use crate::{EvaluationError, kinds};

@@ -4,13 +4,13 @@ ghost use Rattle.std.specs.List.{list_all};
 ghost use Rattle.lisp_object.specs.Object.{text, symbol};
 ghost use Rattle.lisp_object.specs.Datum.{object_of, is_proper};
 ghost use Rattle.package_table.specs.Table.{IsPackage};
-ghost use Rattle.package_table.specs.Lookup.{found};
+ghost use Rattle.package_table.specs.Lookup.{home_by_name};
 ghost use Rattle.package_table.specs.Readers.{names_of};
 ghost use Rattle.plist_state.specs.Changes.{property};
 ghost use Rattle.plist_state.specs.Views.{symbol_named};
 ghost use Rattle.lisp_operators.specs.Kinds.{a_symbol};
 ghost use Rattle.lisp_operators.specs.LookUps.{look_up_named, least_of_look_up, most_of_look_up, looked_up, symbol_or_nil, find_symbol, list_all_packages, names_with, symbols_with};
-ghost use Rattle.lisp_operators.specs.Evaluated.{IsOfKind, IsProper, IsAscii, IsProperValue, AreArgumentsOf, CarriesOut, objects};
+ghost use Rattle.lisp_operators.specs.EvaluationAnswers.{IsOfKind, IsProper, IsAscii, IsProperValue, AreArgumentsOf, CarriesOut, objects};
 
 use crate::EvaluationError::Refused;
 use crate::arguments::{name_or, one_and_rest};
@@ -90,7 +90,7 @@ fn found(alloc: Global, world: &World, owner: &[u8], name: &[u8]) -> Result<Datu
     requires owner { IsPackage world.now.0.packages owner.now }
     requires name { IsAscii name.now }
     ensures value { IfOk result (λ d. object_of d
-        ≡ symbol_or_nil name.now (found world.now.0.packages owner.now name.now)) }
+        ≡ symbol_or_nil name.now (home_by_name world.now.0.packages owner.now name.now)) }
     ensures proper { IfOk result IsProper }
 {
     world.soundness();

@@ -1,6 +1,6 @@
 //! The arguments of an operator, for it to keep: so many of them. Takes no memory.
 ghost use Rattle.std.specs.Prelude.{◌<◌, [], ◌∷◌, All};
-ghost use Rattle.lisp_operators.specs.Evaluated.{IsArgument, AreExactly, AreAtLeast, WhereArguments};
+ghost use Rattle.lisp_operators.specs.EvaluationAnswers.{IsArgument, AreExactly, AreAtLeast, WhereArguments};
 
 use crate::EvaluationError;
 use crate::EvaluationError::Refused;

@@ -5,7 +5,7 @@ ghost use Rattle.lisp_object.specs.declared.refusal.TheConstants.{NO_SUCH_PACKAG
 ghost use Rattle.package_table.specs.Table.{IsPackage, package_named, full_name, keyword};
 ghost use Rattle.lisp_operators.specs.Packages.{export, import, use_package, packages_named};
 ghost use Rattle.lisp_operators.specs.Members.{name_in, names_in, packages_in};
-ghost use Rattle.lisp_operators.specs.Evaluated.{IsUnlocked, FoundOr, TellsPackageChange, AreProper, IsProperValue, AreArgumentsOf, CarriesOut};
+ghost use Rattle.lisp_operators.specs.EvaluationAnswers.{IsUnlocked, FoundOr, TellsPackageChange, AreProper, IsProperValue, AreArgumentsOf, CarriesOut};
 
 use crate::EvaluationError::Refused;
 use crate::arguments::{name_or, one_and_rest};

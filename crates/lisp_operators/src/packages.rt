@@ -3,7 +3,7 @@ ghost use Rattle.std.specs.Prelude.{◌≡◌, true, IfErr, IfOk};
 ghost use Rattle.lisp_object.specs.Datum.{object_of};
 ghost use Rattle.package_table.specs.Table.{IsPackage, package_named, full_name};
 ghost use Rattle.lisp_operators.specs.Packages.{make, enter, intern};
-ghost use Rattle.lisp_operators.specs.Evaluated.{IsArgument, IsPackageOr, Answers, done, IsProperValue, AreArgumentsOf, CarriesOut};
+ghost use Rattle.lisp_operators.specs.EvaluationAnswers.{IsArgument, IsPackageOr, Answers, done, IsProperValue, AreArgumentsOf, CarriesOut};
 
 use crate::EvaluationError::Refused;
 use crate::arguments::{name_or, one, one_and_rest};

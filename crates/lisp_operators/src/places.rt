@@ -10,7 +10,7 @@ ghost use Rattle.plist_state.specs.Views.{symbol_of};
 ghost use Rattle.lisp_operators.specs.Kinds.{an_integer};
 ghost use Rattle.lisp_operators.specs.Places.{change_named, most_of_change, with_default, place_changed, if_stepped, take_step, parted, pop, Pops, IsParted};
 ghost use Rattle.lisp_operators.specs.declared.error.EvaluationError.TheVariants.{OutOfMemory};
-ghost use Rattle.lisp_operators.specs.Evaluated.{IsArgument, IsOfKind, IsProper, IsProperValue, AreArgumentsOf, CarriesOut, objects};
+ghost use Rattle.lisp_operators.specs.EvaluationAnswers.{IsArgument, IsOfKind, IsProper, IsProperValue, AreArgumentsOf, CarriesOut, objects};
 ghost use Rattle.plist_state.specs.Sound.{IsSymbol};
 
 use crate::EvaluationError::Refused;

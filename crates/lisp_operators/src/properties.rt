@@ -4,12 +4,12 @@ ghost use Rattle.std.specs.List.{list_all};
 ghost use Rattle.lisp_object.specs.Object.{IsSound, pair};
 ghost use Rattle.lisp_object.specs.Datum.{object_of, is_proper};
 ghost use Rattle.plist_state.specs.Changes.{property};
-ghost use Rattle.plist_state.specs.Pushed.{holds_pair};
+ghost use Rattle.plist_state.specs.PushedLists.{holds_pair};
 ghost use Rattle.plist_state.specs.Views.{symbol_of};
 ghost use Rattle.plist_state.specs.Sound.{IsSymbol};
 ghost use Rattle.lisp_operators.specs.Kinds.{a_symbol};
 ghost use Rattle.lisp_operators.specs.Properties.{get, set, remove, in_turn, symbol_plist, amount, increment, push};
-ghost use Rattle.lisp_operators.specs.Evaluated.{IsOfKind, IsPropertyKey, object_of_symbol, or_nil, IsProper, AreProper, IsProperValue, AreArgumentsOf, CarriesOut, IsArgument, StoresProperty, objects};
+ghost use Rattle.lisp_operators.specs.EvaluationAnswers.{IsOfKind, IsPropertyKey, object_of_symbol, or_nil, IsProper, AreProper, IsProperValue, AreArgumentsOf, CarriesOut, IsArgument, StoresProperty, objects};
 
 use crate::EvaluationError::Refused;
 use crate::arguments::given_or_nil;

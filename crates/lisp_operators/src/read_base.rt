@@ -2,7 +2,7 @@
 ghost use Rattle.std.specs.Prelude.{◌≡◌, ◌≤◌, IfOk};
 ghost use Rattle.lisp_object.specs.declared.refusal.TheConstants.{INTEGER_RANGE as WRONG_RANGE};
 ghost use Rattle.lisp_operators.specs.ReadBase.{a_base, set_base};
-ghost use Rattle.lisp_operators.specs.Evaluated.{FoundOr, IsProperValue, AreArgumentsOf, CarriesOut};
+ghost use Rattle.lisp_operators.specs.EvaluationAnswers.{FoundOr, IsProperValue, AreArgumentsOf, CarriesOut};
 
 use crate::EvaluationError::Refused;
 use crate::arguments::one;

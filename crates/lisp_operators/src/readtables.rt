@@ -9,7 +9,7 @@ ghost use Rattle.plist_state.specs.Changes.{writable, AnswersReadtables as Tells
 ghost use Rattle.lisp_operators.specs.Properties.{t};
 ghost use Rattle.lisp_operators.specs.Readtables.{value_after, name_or_nil, is_function, readtable_case, set_case, copy_readtable, enter_readtable, set_syntax, set_macro, get_macro, make_dispatch, set_dispatch, get_dispatch};
 ghost use Rattle.lisp_operators.specs.Readtables.{AreFunctionNames};
-ghost use Rattle.lisp_operators.specs.Evaluated.{IsReadtableOr, IsFunctionOr, IsWritableOr, Answers, done, IsProper, IsProperValue, AreArgumentsOf, CarriesOut};
+ghost use Rattle.lisp_operators.specs.EvaluationAnswers.{IsReadtableOr, IsFunctionOr, IsWritableOr, Answers, done, IsProper, IsProperValue, AreArgumentsOf, CarriesOut};
 
 use crate::EvaluationError::Refused;
 use crate::arguments::{

@@ -2,8 +2,8 @@
 ghost use Rattle.std.specs.Prelude.{◌≡◌, ◌-◌, ◌^◌, min, sum, map, Option, Some};
 ghost use Rattle.lisp_object.specs.Object.{Object, object_size};
 ghost use Rattle.lisp_object.specs.Datum.{object_of, size};
-ghost use Rattle.plist_state.specs.Pushed.{pair_size, pushed};
-ghost use Rattle.lisp_operators.specs.Evaluated.{IsProper};
+ghost use Rattle.plist_state.specs.PushedLists.{pair_size, pushed_list};
+ghost use Rattle.lisp_operators.specs.EvaluationAnswers.{IsProper};
 
 use lisp_object::Datum;
 
@@ -51,7 +51,7 @@ pub(crate) fn size_of(datum: &Datum) -> u64
 pub(crate) fn size_before(first: &Datum, list: u64) -> u64
     requires { IsProper first.now }
     ensures { (old : Option Object) → pair_size old ≡ Some list
-        → pair_size (Some (pushed (object_of first.now) old)) ≡ Some result }
+        → pair_size (Some (pushed_list (object_of first.now) old)) ≡ Some result }
 {
     size_of(first).saturating_add(list)
 }

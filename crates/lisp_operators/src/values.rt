@@ -5,9 +5,9 @@ ghost use Rattle.lisp_object.specs.Object.{Object, nil, pair, object_depth, obje
 ghost use Rattle.lisp_object.specs.Datum.{object_of, is_proper};
 ghost use Rattle.package_table.specs.Table.{keyword};
 ghost use Rattle.plist_state.specs.State.{WorldState};
-ghost use Rattle.plist_state.specs.Pushed.{holds_pair};
+ghost use Rattle.plist_state.specs.PushedLists.{holds_pair};
 ghost use Rattle.lisp_operators.specs.Properties.{t, list};
-ghost use Rattle.lisp_operators.specs.Evaluated.{Answers, done, IsProper, IsProperValue, IsAscii, objects};
+ghost use Rattle.lisp_operators.specs.EvaluationAnswers.{Answers, done, IsProper, IsProperValue, IsAscii, objects};
 
 use crate::EvaluationError::Refused;
 use crate::{Evaluated, EvaluationError};

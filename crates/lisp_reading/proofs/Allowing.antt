@@ -14,7 +14,7 @@ use Rattle.readtable_core.specs.declared.table.Case.{Case}
 use Rattle.readtable_core.specs.declared.table.Case.TheVariants.{Upcase, Downcase, Preserve, Invert}
 use Rattle.package_table.specs.declared.error.PackageError.TheVariants.{LockedPackage, NoPackage, NotExternal}
 use Rattle.package_table.specs.Table.{Name, Present, Table as Packages, name_cmp, common_lisp, common_lisp_names, common_lisp_package, keyword, package_named, Finds}
-use Rattle.package_table.specs.Lookup.{found, external_home}
+use Rattle.package_table.specs.Lookup.{home_by_name, external_home}
 use Rattle.package_table.specs.Resolving.{found_at, new_in, resolution}
 use Rattle.package_table.proofs.Found.{found_finds}
 use Rattle.package_table.proofs.Names.{name_total}
@@ -26,7 +26,7 @@ use Rattle.token_meaning.specs.declared.refusal.MeaningRefusal.{MeaningRefusal}
 use Rattle.token_meaning.specs.declared.refusal.MeaningRefusal.TheVariants.{DotsOnly}
 use Rattle.token_meaning.specs.declared.token.TokenName.{TokenName}
 use Rattle.token_meaning.specs.declared.token.TokenName.TheVariants.{Unqualified, Keyword, External, Internal}
-use Rattle.token_meaning.specs.Folding.{on_plain, lower_case, has_upper_case, has_lower_case, in_upper_case, in_lower_case, folded}
+use Rattle.token_meaning.specs.Folding.{on_plain, lower_case, has_upper_case, has_lower_case, in_upper_case, in_lower_case, folded_marks}
 use Rattle.token_meaning.specs.Meanings.{Meaning, dot, is_unescaped, number_or_name, name_of_marks, dots_of, pattern, meaning_of, rational_of, is_package_marker}
 use Rattle.token_meaning.specs.Numbers.{number_in_base, rational_number, is_point}
 use Rattle.token_meaning.specs.Numerals.{without_sign, is_negative}
@@ -34,7 +34,7 @@ use Rattle.std_macros.specs.declared.kind.Standard.{Standard}
 use Rattle.std_macros.specs.declared.kind.Standard.TheVariants.{List as AList, Close, Quote, Comment, String, Out, Char, Function as FunctionName, Vector, Uninterned, Block as ABlock, Binary, Octal, Hex, Radix}
 use Rattle.std_macros.specs.declared.refusal.StdRefusal.TheVariants.{VectorLength, UninternedToken}
 use Rattle.std_macros.specs.Kinds.{radix_of}
-use Rattle.std_macros.specs.Values.{Material, nothing, one, many, dotted, letters, marked, Value, given, headed_value, list_value, text_value, code_named, character_or_refused, character_of, character_value, last_of, bounded, vector_with, vector_of, vector_value, is_own_name, uninterned_value, rational_or_refused, rational_value, radix_value, value_of}
+use Rattle.std_macros.specs.Values.{Material, nothing, one, many, dotted, letters, marked, Value, gives_one, headed_value, list_value, text_value, code_named, character_or_refused, character_of, character_value, last_of, bounded_value, vector_with, vector_of, vector_value, is_own_name, uninterned_value, rational_or_refused, rational_value, radix_value, value_of}
 use Rattle.lisp_reading.specs.declared.told.Told.{Told}
 use Rattle.lisp_reading.specs.declared.told.Told.TheVariants.{Object as told_object, Dot as dot_alone}
 use Rattle.lisp_reading.specs.Answering.{is_known, are_known}
@@ -62,7 +62,7 @@ same_characters (Plain c ∷ marks) = omega (arith, same_characters marks, plain
 same_characters (Quoted c ∷ marks) = omega (arith, same_characters marks, quoted_counts c marks)
 same_characters (Bar ∷ marks) = omega (arith, same_characters marks, bar_counts marks)
 
-folded_characters : (case : Case) (marks : List Mark) → length (characters (folded case marks)) ≡ character_count marks
+folded_characters : (case : Case) (marks : List Mark) → length (characters (folded_marks case marks)) ≡ character_count marks
 folded_characters Upcase marks = changed_characters upper_case marks
 folded_characters Downcase marks = changed_characters lower_case marks
 folded_characters Preserve marks = same_characters marks
@@ -105,7 +105,7 @@ function_first = listed_first (codes "FUNCTION") refl
 -- uninterned one, answered or read; and of an atom that is no symbol.
 pub record Allows (packages : Packages) (limit : ℕ) (P : Object → Type 0) : Type 0 where
   pub present : (p own home : Name) → Finds packages p own home → P (o.symbol home own)
-  pub new : (p own : Name) → found packages p own ≡ None → P (o.symbol p own)
+  pub new : (p own : Name) → home_by_name packages p own ≡ None → P (o.symbol p own)
   pub first : (own : Name) → IsFirst own → P (o.symbol common_lisp own)
   pub keywords : (own : Name) → P (o.symbol keyword own)
   pub known : (home own : Name) → is_known packages home own ≡ true → P (o.symbol home own)
@@ -133,7 +133,7 @@ module _ (t : Packages) (limit : ℕ) (P : Object → Type 0) (allows : Allows t
   ToldAllowed (Ok dot_alone) = Unit {0}
   ToldAllowed (Err code) = Unit {0}
 
-  found_allowed : (p own : Name) (f : Option Name) → found t p own ≡ f
+  found_allowed : (p own : Name) (f : Option Name) → home_by_name t p own ≡ f
       → ToldAllowed (symbol_in own (option_map_or (λ h. Ok (found_at h)) f (if bytes_eq p common_lisp then Err LockedPackage else Ok (new_in p))))
   found_allowed p own (Some h) e = (omega arith, allows.present p own h (found_finds t own p h e))
   found_allowed p own None e =
@@ -143,7 +143,7 @@ module _ (t : Packages) (limit : ℕ) (P : Object → Type 0) (allows : Allows t
       ]
 
   inside_allowed : (p own : Name) → ToldAllowed (symbol_in own (resolution t p own))
-  inside_allowed p own = found_allowed p own (found t p own) refl
+  inside_allowed p own = found_allowed p own (home_by_name t p own) refl
 
   prefixed_allowed : (own : Name) (p : Option Name) → ToldAllowed (symbol_in own (option_map_or (λ p. resolution t p own) p (Err NoPackage)))
   prefixed_allowed own None = tt
@@ -285,13 +285,13 @@ module _ (t : Packages) (limit : ℕ) (P : Object → Type 0) (allows : Allows t
 
   repeated_good : (room n : ℕ) (xs : List Object) (last : Option Object) → last_of xs ≡ last → All (Good room) xs → ValueAllowed (suc room) (vector_with n xs last)
   repeated_good room n xs None e all =
-      value_chosen (suc room) (n == 0) (given (o.vector (list_of []))) (Err VectorLength) (vector_within P room [] nil_allowed (All-nil (Good room))) tt
+      value_chosen (suc room) (n == 0) (gives_one (o.vector (list_of []))) (Err VectorLength) (vector_within P room [] nil_allowed (All-nil (Good room))) tt
   repeated_good room n xs (Some last) e all =
       let more = replicate (n - length xs) last in
       let whole = o.vector (list_of (xs ++ more)) in
       let each : All (Good room) (xs ++ more) = All-append (Good room) xs more all (All-replicate (Good room) (n - length xs) last (last_within P room xs last e all)) in
-      value_chosen (suc room) (nat_lt n (length xs)) (Err VectorLength) (bounded (nat_lt (length xs) n) whole) tt
-      (value_chosen (suc room) (nat_lt (length xs) n && nat_lt 1000000 (object_size whole)) (Err VectorLength) (given whole) tt (vector_within P room (xs ++ more) nil_allowed each))
+      value_chosen (suc room) (nat_lt n (length xs)) (Err VectorLength) (bounded_value (nat_lt (length xs) n) whole) tt
+      (value_chosen (suc room) (nat_lt (length xs) n && nat_lt 1000000 (object_size whole)) (Err VectorLength) (gives_one whole) tt (vector_within P room (xs ++ more) nil_allowed each))
 
   counted_good : (room : ℕ) (n : Option ℕ) (xs : List Object) → All (Good room) xs → ValueAllowed (suc room) (vector_of n xs)
   counted_good room None xs all = vector_within P room xs nil_allowed all
@@ -308,8 +308,8 @@ module _ (t : Packages) (limit : ℕ) (P : Object → Type 0) (allows : Allows t
 
   uninterned_good : (case : Case) (room : ℕ) (m : Material) → MaterialAt Good limit room m → ValueAllowed room (uninterned_value case m)
   uninterned_good case room (marked marks) h =
-      value_chosen room (is_own_name marks) (given (o.uninterned (characters (folded case marks)))) (Err UninternedToken)
-      (omega arith, allows.uninterned (characters (folded case marks)) (omega (arith, h, folded_characters case marks))) tt
+      value_chosen room (is_own_name marks) (gives_one (o.uninterned (characters (folded_marks case marks)))) (Err UninternedToken)
+      (omega arith, allows.uninterned (characters (folded_marks case marks)) (omega (arith, h, folded_characters case marks))) tt
   uninterned_good case room (many xs) h = tt
   uninterned_good case room (dotted xs tail) h = tt
   uninterned_good case room nothing h = tt
@@ -364,7 +364,7 @@ kept_within : (setting : Setting) (P : Object → Type 0) → Allows setting.pac
 kept_within setting P allows = record {
   tokens = λ room marks x e.
       let h : (object_depth x ≤ 0) × AllAtoms P x =
-      subst (ToldAllowed setting.packages setting.limits.token P allows) e (meant_allowed setting.packages setting.limits.token P allows setting.current setting.base (folded setting.table.letters marks)) in
+      subst (ToldAllowed setting.packages setting.limits.token P allows) e (meant_allowed setting.packages setting.limits.token P allows setting.current setting.base (folded_marks setting.table.letters marks)) in
       (omega (arith, h.0), h.1);
   values = λ room kind number material x h e.
       subst (ValueAllowed setting.packages setting.limits.token P allows room) e (value_good setting.packages setting.limits.token P allows setting.table.letters number room kind material h);

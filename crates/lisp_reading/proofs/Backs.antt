@@ -6,14 +6,14 @@ use Rattle.lisp_object.specs.Object.{Object, uninterned, vector, list_of, object
 use Rattle.readtable_core.specs.declared.table.Case.{Case}
 use Rattle.token_scan.specs.Marks.{characters}
 use Rattle.token_meaning.specs.declared.refusal.MeaningRefusal.{MeaningRefusal}
-use Rattle.token_meaning.specs.Folding.{folded}
+use Rattle.token_meaning.specs.Folding.{folded_marks}
 use Rattle.token_meaning.specs.Meanings.{rational_of}
 use Rattle.std_macros.specs.declared.kind.Standard.{Standard}
 use Rattle.std_macros.specs.declared.kind.Standard.TheVariants.{List as AList, Close, Quote, Comment, String, Out, Char, Function as FunctionName, Vector, Uninterned, Block as ABlock, Binary, Octal, Hex, Radix}
 use Rattle.std_macros.specs.declared.refusal.StdRefusal.{StdRefusal}
 use Rattle.std_macros.specs.declared.refusal.StdRefusal.TheVariants.{StrayClose, Rational, NumericArgument, CharacterName, RadixToken, VectorLength, UninternedToken, OutOfProfile}
 use Rattle.std_macros.specs.Kinds.{radix_of, way_of_standard}
-use Rattle.std_macros.specs.Values.{Material, nothing, one, many, dotted, letters, marked, Value, given, headed_value, list_value, text_value, code_named, character_or_refused, character_of, character_value, last_of, bounded, vector_with, vector_of, vector_value, is_own_name, uninterned_value, rational_or_refused, rational_value, radix_value, value_of}
+use Rattle.std_macros.specs.Values.{Material, nothing, one, many, dotted, letters, marked, Value, gives_one, headed_value, list_value, text_value, code_named, character_or_refused, character_of, character_value, last_of, bounded_value, vector_with, vector_of, vector_value, is_own_name, uninterned_value, rational_or_refused, rational_value, radix_value, value_of}
 use Rattle.lisp_reading.specs.declared.way.Function.{Function}
 use Rattle.lisp_reading.specs.declared.way.Function.TheVariants.{Standard as AStandard, User}
 use Rattle.lisp_reading.specs.declared.way.Way.{Way}
@@ -81,11 +81,11 @@ character_back (one x) = refl
 character_back (letters cs) = refl
 
 repeated_back : (n : ℕ) (xs : List Object) (last : Option Object) → back (vector_with n xs last) ≡ 0
-repeated_back n xs None = either (n == 0) (given (vector (list_of []))) (Err VectorLength) refl refl
+repeated_back n xs None = either (n == 0) (gives_one (vector (list_of []))) (Err VectorLength) refl refl
 repeated_back n xs (Some last) =
     let whole = vector (list_of (xs ++ replicate (n - length xs) last)) in
-    either (nat_lt n (length xs)) (Err VectorLength) (bounded (nat_lt (length xs) n) whole) refl
-    (either (nat_lt (length xs) n && nat_lt 1000000 (object_size whole)) (Err VectorLength) (given whole) refl refl)
+    either (nat_lt n (length xs)) (Err VectorLength) (bounded_value (nat_lt (length xs) n) whole) refl
+    (either (nat_lt (length xs) n && nat_lt 1000000 (object_size whole)) (Err VectorLength) (gives_one whole) refl refl)
 
 counted_back : (number : Option ℕ) (xs : List Object) → back (vector_of number xs) ≡ 0
 counted_back None xs = refl
@@ -100,7 +100,7 @@ vector_back number (letters cs) = refl
 vector_back number (marked marks) = refl
 
 uninterned_back : (case : Case) (m : Material) → back (uninterned_value case m) ≡ 0
-uninterned_back case (marked marks) = either (is_own_name marks) (given (uninterned (characters (folded case marks)))) (Err UninternedToken) refl refl
+uninterned_back case (marked marks) = either (is_own_name marks) (gives_one (uninterned (characters (folded_marks case marks)))) (Err UninternedToken) refl refl
 uninterned_back case (many xs) = refl
 uninterned_back case (dotted xs tail) = refl
 uninterned_back case nothing = refl

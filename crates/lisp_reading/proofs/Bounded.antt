@@ -9,7 +9,7 @@ use Rattle.lisp_object.specs.declared.refusal.TheConstants.{FORM_TOO_LONG}
 use Rattle.lisp_object.specs.Object.{Object}
 use Rattle.readtable_core.specs.Tables.{Table}
 use Rattle.lisp_reading.specs.declared.limits.Limits.{Limits}
-use Rattle.lisp_reading.specs.Plans.{Plan, Read, Fault, gives, refuses, takes, scans, run, limited, scanned, stands_below, within}
+use Rattle.lisp_reading.specs.Plans.{Plan, Read, Fault, gives, refuses, takes, scans, run, limited_token, token_at_front, stands_below, within}
 use Rattle.lisp_reading.specs.Setting.{Setting}
 use Rattle.lisp_reading.specs.Reading.{attempt, form, reads}
 use Rattle.lisp_reading.proofs.Forms.{stood}
@@ -23,7 +23,7 @@ no_end : (limit : ℕ) (b : Bool) (e f : Fault) → EndsBelow {A = List Mark} li
 no_end limit true e f = tt
 no_end limit false e f = tt
 
-limited_below : (limit : ℕ) (r : ScannedBytes) → EndsBelow limit (limited limit r (λ p. p.1))
+limited_below : (limit : ℕ) (r : ScannedBytes) → EndsBelow limit (limited_token limit r (λ p. p.1))
 limited_below limit (Ok (marks, at, cs)) = go (nat_le at limit) refl where
   go : (b : Bool) → nat_le at limit ≡ b → EndsBelow {A = List Mark} limit (elim b [ true ↦ Ok (marks, at, cs) | false ↦ Err (record { number = FORM_TOO_LONG; at = limit }) ])
   go true e = leb-true at limit e
@@ -52,7 +52,7 @@ bounded {A = A} table limits (takes other test on) at (c ∷ cs) le =
       | false ↦ bounded table limits other at (c ∷ cs) le
     ]
 bounded table limits (scans escaped limit on) at cs le =
-    scan_below table limits on (limited limits.text (scanned escaped table limit at cs) (λ p. p.1)) (limited_below limits.text (scanned escaped table limit at cs))
+    scan_below table limits on (limited_token limits.text (token_at_front escaped table limit at cs) (λ p. p.1)) (limited_below limits.text (token_at_front escaped table limit at cs))
     (λ marks next ds below. bounded table limits (on marks) next ds below)
 
 -- what a form is ends at most as many bytes after its start as the limit of the text says

@@ -17,7 +17,7 @@ use Rattle.token_scan.specs.declared.mark.Mark.{Mark}
 use Rattle.token_meaning.specs.declared.refusal.MeaningRefusal.{MeaningRefusal}
 use Rattle.token_meaning.specs.declared.token.TokenName.{TokenName}
 use Rattle.token_meaning.specs.declared.token.TokenName.TheVariants.{Unqualified, Keyword, External, Internal}
-use Rattle.token_meaning.specs.Folding.{folded}
+use Rattle.token_meaning.specs.Folding.{folded_marks}
 use Rattle.token_meaning.specs.Meanings.{Meaning, number, dot, name, meaning_of}
 use Rattle.user_macros.specs.Calls.{MacroAnswer, value, no_value, improper, refused as answer_refused}
 use Rattle.std_macros.specs.Values.{Material, nothing as no_material, one as one_object, letters, marked}
@@ -34,7 +34,7 @@ use Rattle.lisp_reading.specs.SamePackages.{FindsSame}
 use Rattle.lisp_reading.specs.Naming.{symbol_at, symbol_in, named, told_meaning, token_meant}
 use Rattle.lisp_reading.specs.Plans.{Plan, gives, refuses, takes, scans, then_plan, next_byte, run}
 use Rattle.lisp_reading.specs.Setting.{Setting, macro_call, way_by, way_in, function_of}
-use Rattle.lisp_reading.specs.Reading.{text_to, line_after, block_after, number_after, next_item, items_after, undotted, list_end, one_piece, plan_after_answer, completed_by, completed, opened, gathering_plan, gathered_by, called, sub_called, dispatch_plan, macro_called, stands_alone, alone, told_found, token_found, attempt_by, inner, attempt, outcome, reads_in, reads}
+use Rattle.lisp_reading.specs.Reading.{text_to, line_after, block_after, number_after, next_item, items_after, undotted_plan, list_end, one_piece, plan_after_answer, completed_by, completed_call, opened_plan, gathering_plan, gathered_by, call_plan, sub_called, dispatch_plan, macro_called, stands_alone, alone, told_found, token_found, attempt_by, inner, attempt, outcome, reads_in, reads}
 
 -- ---- what a name stands for
 
@@ -102,24 +102,24 @@ module _ (setting : Setting) (packages : Packages) (same : FindsSame setting.pac
   other = record setting { packages = packages }
 
   told_same : (marks : List Mark) → token_meant other marks ≡ token_meant setting marks
-  told_same marks = meant_same setting.packages packages same setting.current (meaning_of setting.base (folded setting.table.letters marks))
+  told_same marks = meant_same setting.packages packages same setting.current (meaning_of setting.base (folded_marks setting.table.letters marks))
 
   by_same : (depth : ℕ) (call : InvokedCall) (f : Function) (token spaced : Bool) (m : Material) → completed_by other depth call f token spaced m ≡ completed_by setting depth call f token spaced m
   by_same depth call (AStandard kind) token spaced m = refl
   by_same depth call (User f) token spaced m = answered_same setting.packages packages same setting.limits.nesting depth token spaced (setting.answer f (macro_call call m))
 
-  completed_same : (depth : ℕ) (call : InvokedCall) (token spaced : Bool) (m : Material) → completed other depth call token spaced m ≡ completed setting depth call token spaced m
+  completed_same : (depth : ℕ) (call : InvokedCall) (token spaced : Bool) (m : Material) → completed_call other depth call token spaced m ≡ completed_call setting depth call token spaced m
   completed_same depth call token spaced m = by_same depth call call.function token spaced m
 
   module _ (depth : ℕ) (may : Option (Plan Found)) where
     gathered_same : (call : InvokedCall) (way : Way) → gathering_plan other depth may call way ≡ gathering_plan setting depth may call way
     gathered_same call Nothing = completed_same depth call false false no_material
     gathered_same call Next =
-        λ i. opened may (λ attempt. then_plan (next_item setting None attempt) (one_piece (λ token x. completed_same depth call token token (one_object x) i)))
+        λ i. opened_plan may (λ attempt. then_plan (next_item setting None attempt) (one_piece (λ token x. completed_same depth call token token (one_object x) i)))
     gathered_same call AList =
-        λ i. opened may (λ attempt. then_plan (items_after setting 41 attempt []) (list_end setting attempt (λ m. completed_same depth call false false m i)))
+        λ i. opened_plan may (λ attempt. then_plan (items_after setting 41 attempt []) (list_end setting attempt (λ m. completed_same depth call false false m i)))
     gathered_same call (Until close) =
-        λ i. opened may (λ attempt. then_plan (items_after setting close attempt []) (undotted (λ m. completed_same depth call false false m i)))
+        λ i. opened_plan may (λ attempt. then_plan (items_after setting close attempt []) (undotted_plan (λ m. completed_same depth call false false m i)))
     gathered_same call (Text close) = λ i. then_plan (text_to setting close []) (λ cs. completed_same depth call false false (letters cs) i)
     gathered_same call (Line keep) = λ i. then_plan (line_after setting keep []) (λ cs. completed_same depth call false false (letters cs) i)
     gathered_same call Block = λ i. then_plan (block_after setting (0, 0)) (λ u. completed_same depth call false false no_material i)
@@ -134,7 +134,7 @@ module _ (setting : Setting) (packages : Packages) (same : FindsSame setting.pac
     function_same call (AStandard kind) = refl
     function_same call (User f) = refl
 
-    called_same : (call : InvokedCall) → called other depth may call ≡ called setting depth may call
+    called_same : (call : InvokedCall) → call_plan other depth may call ≡ call_plan setting depth may call
     called_same call = way_same call (way_in other call) ∙ ap (gathered_by setting depth may call) (function_same call call.function)
 
     sub_same : (c sub : ℕ) (n : Option ℕ) (f : Option (List ℕ)) → sub_called other depth may c sub n f ≡ sub_called setting depth may c sub n f
@@ -149,10 +149,10 @@ module _ (setting : Setting) (packages : Packages) (same : FindsSame setting.pac
     macro_same c (Some f) =
         elim (is_dispatch_name f) as (λ b. ◌≡◌ {A = Plan Found} (elim b [
           | true ↦ dispatch_plan other depth may c None
-          | false ↦ called other depth may (record { function = function_of f; character = c; sub = None; number = None })
+          | false ↦ call_plan other depth may (record { function = function_of f; character = c; sub = None; number = None })
         ]) (elim b [
           | true ↦ dispatch_plan setting depth may c None
-          | false ↦ called setting depth may (record { function = function_of f; character = c; sub = None; number = None })
+          | false ↦ call_plan setting depth may (record { function = function_of f; character = c; sub = None; number = None })
         ])) [ true ↦ dispatched_same c None | false ↦ called_same (record { function = function_of f; character = c; sub = None; number = None }) ]
 
     alone_same : (c : ℕ) (s : Syntax) → alone other depth may c s ≡ alone setting depth may c s

@@ -11,7 +11,7 @@ use Rattle.token_scan.specs.declared.mark.Mark.{Mark}
 use Rattle.token_scan.specs.declared.mark.Mark.TheVariants.{Plain, Quoted, Bar}
 use Rattle.token_scan.specs.declared.refusal.ScanRefusal.TheVariants.{InvalidCharacter, TokenTooLong, InvalidTrait}
 use Rattle.token_scan.specs.Spelling.{is_plain_syntax}
-use Rattle.token_scan.specs.Tokens.{TypedByte, Scanned, fault_of_scan as scan_fault, with_front, is_character, kind, typed, typed_text, in_bytes, token_in, outside, inside, escaped_outside}
+use Rattle.token_scan.specs.Tokens.{TypedByte, Scanned, fault_of_scan as scan_fault, with_front, is_character, kind, typed_byte, typed_text, in_bytes, token_in, outside, inside, escaped_outside}
 use Rattle.token_scan.proofs.Steps.{outside_plain, outside_escape, outside_bar, outside_invalid}
 use Rattle.token_meaning.specs.Results.{scan_refusal_number}
 use Rattle.lisp_reading.specs.declared.found.Found.{Found}
@@ -20,7 +20,7 @@ use Rattle.lisp_reading.specs.declared.told.Told.{Told}
 use Rattle.lisp_reading.specs.declared.told.Told.TheVariants.{Object as told_object, Dot as dot_alone}
 use Rattle.lisp_reading.specs.DiscardedText.{IsDiscarded, nothing, more}
 use Rattle.lisp_reading.specs.Naming.{token_meant}
-use Rattle.lisp_reading.specs.Plans.{Read, within, stands_below, limited, run}
+use Rattle.lisp_reading.specs.Plans.{Read, within, stands_below, limited_token, run}
 use Rattle.lisp_reading.specs.Setting.{Setting}
 use Rattle.lisp_reading.specs.Reading.{Outcome, empty, stands_alone, alone, told_found, token_found, inner, attempt, outcome, reads_in, reads_at, reads}
 use Rattle.lisp_reading.proofs.Refusals.{any}
@@ -47,7 +47,7 @@ chosen_marks false r s p q = q
 
 module _ (table : Table) (c : ℕ) (cs : List ℕ) (left at : ℕ) where
   abbrev x : TypedByte
-  x = typed table c
+  x = typed_byte table c
 
   abbrev xs : List TypedByte
   xs = typed_text table cs
@@ -114,7 +114,7 @@ module _ (setting : Setting) where
   abbrev step : Read (List Mark) → Read Found
   step q = elim q [ Ok p ↦ run setting.table setting.limits (token_found setting p.0) p.1 p.2 | Err e ↦ Err e ]
 
-  token_ends : (r : Scanned) → HasMarks r → IsEnd (step (limited setting.limits.text (in_bytes r) (λ p. p.1))) → ⊥
+  token_ends : (r : Scanned) → HasMarks r → IsEnd (step (limited_token setting.limits.text (in_bytes r) (λ p. p.1))) → ⊥
   token_ends (Ok ([], next, ds)) h e = h
   token_ends (Ok (m ∷ ms, next, ds)) h e =
       elim (nat_le next setting.limits.text) as (λ b. IsEnd (step (elim b [ true ↦ Ok (m ∷ ms, next, bytes_of ds) | false ↦ Err (record { number = FORM_TOO_LONG; at = setting.limits.text }) ])) → ⊥) [
@@ -141,7 +141,7 @@ module _ (setting : Setting) where
       (outermost_calls setting (λ room x. Unit {0}) (any setting) c (entry_at setting.table c).syntax)) in
       let read : Bool → Read Found = λ b. elim b [
         | true ↦ within (nat_le setting.limits.text 0) 0 (run setting.table setting.limits on (0 + 1) cs)
-        | false ↦ step (limited setting.limits.text (token_in setting.table setting.limits.token 0 (c ∷ cs)) (λ p. p.1))
+        | false ↦ step (limited_token setting.limits.text (token_in setting.table setting.limits.token 0 (c ∷ cs)) (λ p. p.1))
       ] in
       let by : (b : Bool) → stands_alone (entry_at setting.table c).syntax ≡ b → IsEnd (read b) → ⊥ =
       λ b. elim b as (λ b. stands_alone (entry_at setting.table c).syntax ≡ b → IsEnd (read b) → ⊥) [

@@ -11,7 +11,7 @@ use Rattle.token_scan.specs.Marks.{character_count}
 use Rattle.token_scan.specs.Tokens.{TokenFault, ScannedBytes}
 use Rattle.token_meaning.specs.Results.{scan_refusal_number}
 use Rattle.lisp_reading.specs.declared.limits.Limits.{Limits}
-use Rattle.lisp_reading.specs.Plans.{Plan, gives, refuses, takes, scans, Read, within, stands_below, limited, scanned, run}
+use Rattle.lisp_reading.specs.Plans.{Plan, gives, refuses, takes, scans, Read, within, stands_below, limited_token, token_at_front, run}
 use Rattle.lisp_reading.proofs.Following.{Follows, token_follows}
 use Rattle.lisp_reading.proofs.Keeping.{most_back, Keeps, few}
 use Rattle.lisp_reading.proofs.Offsets.{Parts, token_parts}
@@ -61,7 +61,7 @@ module _ {A : Type 0} (table : Table) (limits : Limits) (on : List Mark → Plan
   step q = elim q [ Ok p ↦ run table limits (on p.0) p.1 p.2 | Err e ↦ Err e ]
 
   abbrev cut : ScannedBytes → Read A
-  cut r = step (limited limits.text r (λ p. p.1))
+  cut r = step (limited_token limits.text r (λ p. p.1))
 
   abbrev too_long : Read A
   too_long = Err (record { number = FORM_TOO_LONG; at = limits.text })
@@ -142,6 +142,6 @@ decided P table limits (takes other test on) taken at (c ∷ cs) le h =
     (λ more. run table limits (on c) (at + 1) (cs ++ more)) (λ more. run table limits other at (c ∷ cs ++ more)) (run table limits (on c) (at + 1) cs) (run table limits other at (c ∷ cs)) refl
     (λ lt. decided P table limits (on c) true (at + 1) cs (omega (arith, lt)) (h.1 c)) (decided P table limits other false at (c ∷ cs) le h.0)
 decided P table limits (scans escaped limit on) taken at cs le h =
-    token_decided table limits on limit (most_back taken) at cs (λ more. scanned escaped table limit at (cs ++ more)) (scanned escaped table limit at cs) le (few escaped table limit at cs)
+    token_decided table limits on limit (most_back taken) at cs (λ more. token_at_front escaped table limit at (cs ++ more)) (token_at_front escaped table limit at cs) le (few escaped table limit at cs)
     (token_from_here escaped table limit at cs) (token_parts escaped table limit at cs) (λ more. token_longer escaped table limit at cs more)
     (λ more. token_follows escaped table limit at cs more) (λ marks next ds there small. decided P table limits (on marks) false next ds there (h marks small))

@@ -9,7 +9,7 @@ use Rattle.lisp_reading.specs.declared.limits.Limits.{Limits}
 use Rattle.lisp_reading.specs.declared.way.Keep.{Keep}
 use Rattle.lisp_reading.specs.declared.way.Keep.TheVariants.{Kept, Dropped}
 use Rattle.lisp_reading.specs.Plans.{Plan, gives, refuses, takes, character, next_byte, loop, Read, fault, within, run}
-use Rattle.lisp_reading.specs.Gathering.{text_turn, is_escape, kept, line_turn, block_next, block_goes, block_turn, next_digit, number_turn}
+use Rattle.lisp_reading.specs.Gathering.{text_turn, is_escape, kept_characters, line_turn, block_next, block_goes, block_turn, next_digit, number_turn}
 use Rattle.lisp_reading.proofs.Turns.{loop_is, text_guarded, line_guarded, block_guarded, number_guarded}
 
 -- ---- a byte that has to be a character
@@ -99,7 +99,7 @@ module _ (table : Table) (limits : Limits) (terminator : ℕ) (cs : List ℕ) (a
 -- ---- a line
 
 abbrev line_on : Limits → Keep → List ℕ → ℕ → Bool → Plan (List ℕ)
-line_on limits keep cs c ends = elim ends [ true ↦ gives cs | false ↦ loop limits (line_turn keep) (kept keep cs c) ]
+line_on limits keep cs c ends = elim ends [ true ↦ gives cs | false ↦ loop limits (line_turn keep) (kept_characters keep cs c) ]
 
 module _ (table : Table) (limits : Limits) where
   line_is : (keep : Keep) (cs : List ℕ) (at c : ℕ) (ds : List ℕ) → at ≤ limits.text → run table limits (loop limits (line_turn keep) cs) at (c ∷ ds)

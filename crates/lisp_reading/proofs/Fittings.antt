@@ -10,7 +10,7 @@ use Rattle.lisp_object.specs.Object.{Object, is_nil, object_depth}
 use Rattle.lisp_object.proofs.ProperLists.{nil_symbol}
 use Rattle.package_table.specs.declared.error.PackageError.TheVariants.{LockedPackage}
 use Rattle.package_table.specs.Table.{Name, Present, Package, Table as Packages, common_lisp, keyword, AreSoundPackages, Finds}
-use Rattle.package_table.specs.Lookup.{found}
+use Rattle.package_table.specs.Lookup.{home_by_name}
 use Rattle.package_table.specs.Resolving.{found_at, new_in, resolution}
 use Rattle.package_table.proofs.Found.{found_finds, present_found}
 use Rattle.package_table.proofs.Frames.{equal_names}
@@ -25,7 +25,7 @@ module _ (t : Packages) (sound : AreSoundPackages t) where
   -- what is found is found at its home
   finds_fit : (p own home : Name) → Finds t p own home → FitsPackages t (o.symbol home own)
   finds_fit p own home finds = λ h e.
-      let here : found t home own ≡ Some home = present_found t own home home (present_at_home t p own home sound.joined finds) in
+      let here : home_by_name t home own ≡ Some home = present_found t own home home (present_at_home t p own home sound.joined finds) in
       let same : Some h ≡ Some home = sym e ∙ here in
       cc
 

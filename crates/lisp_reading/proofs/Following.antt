@@ -9,7 +9,7 @@ use Rattle.token_scan.specs.Tokens.{ScannedBytes, token_in, escaped_token_in}
 use Rattle.token_scan.specs.Spelling.{IsSpelledAt}
 use Rattle.token_scan.proofs.Standing.{token_stands, escaped_token_stands}
 use Rattle.token_meaning.specs.Results.{scan_refusal_number}
-use Rattle.lisp_reading.specs.Plans.{Plan, gives, refuses, takes, scans, Read, within, stands_below, limited, scanned, run}
+use Rattle.lisp_reading.specs.Plans.{Plan, gives, refuses, takes, scans, Read, within, stands_below, limited_token, token_at_front, run}
 use Rattle.lisp_reading.specs.declared.limits.Limits.{Limits}
 use Rattle.lisp_reading.specs.declared.found.Found.{Found}
 use Rattle.lisp_reading.specs.declared.found.Found.TheVariants.{Nothing as nothing, One as one, LoneDot as lone_dot, TheEnd as the_end}
@@ -47,7 +47,7 @@ token_at table scan at text more (Ok (marks, next, d ∷ ds)) st =
 token_at table scan at text more (Err e) st = tt
 
 pub token_follows : (escaped : Bool) (table : Table) (limit at : ℕ) (text more : List ℕ)
-    → Follows more (scanned escaped table limit at (text ++ more)) (scanned escaped table limit at text)
+    → Follows more (token_at_front escaped table limit at (text ++ more)) (token_at_front escaped table limit at text)
 token_follows false table limit at text more =
     token_at table (token_in table limit at) at text more (token_in table limit at text) (token_stands table limit at text)
 token_follows true table limit at text more =
@@ -58,7 +58,7 @@ module _ {A : Type 0} (table : Table) (limits : Limits) (on : List Mark → Plan
   step q = elim q [ Ok p ↦ run table limits (on p.0) p.1 p.2 | Err e ↦ Err e ]
 
   abbrev cut : ScannedBytes → Read (List Mark)
-  cut r = limited limits.text r (λ p. p.1)
+  cut r = limited_token limits.text r (λ p. p.1)
 
   goes_follows : (longer r : ScannedBytes) → ((marks : List Mark) (next : ℕ) (ds : List ℕ) → Follows more (run table limits (on marks) next (ds ++ more)) (run table limits (on marks) next ds))
       → Follows more longer r → Follows more (step (cut longer)) (step (cut r))
@@ -94,7 +94,7 @@ follows table limits (takes other test on) at (c ∷ cs) more =
     (run table limits (on c) (at + 1) (cs ++ more)) (run table limits other at (c ∷ cs ++ more))
     (follows table limits (on c) (at + 1) cs more) (follows table limits other at (c ∷ cs) more)
 follows table limits (scans escaped limit on) at cs more =
-    goes_follows table limits on more (scanned escaped table limit at (cs ++ more)) (scanned escaped table limit at cs)
+    goes_follows table limits on more (token_at_front escaped table limit at (cs ++ more)) (token_at_front escaped table limit at cs)
     (λ marks next ds. follows table limits (on marks) next ds more) (token_follows escaped table limit at cs more)
 
 -- ---- forms

@@ -8,7 +8,7 @@ use Rattle.token_scan.specs.Spelling.{IsSpelledAt, may_end}
 use Rattle.token_scan.proofs.Standing.{token_stands, escaped_token_stands}
 use Rattle.lisp_object.specs.declared.refusal.TheConstants.{FORM_TOO_LONG}
 use Rattle.token_meaning.specs.Results.{scan_refusal_number}
-use Rattle.lisp_reading.specs.Plans.{Plan, gives, refuses, takes, scans, Read, within, stands_below, limited, scanned, run}
+use Rattle.lisp_reading.specs.Plans.{Plan, gives, refuses, takes, scans, Read, within, stands_below, limited_token, token_at_front, run}
 use Rattle.lisp_reading.specs.declared.limits.Limits.{Limits}
 
 -- `front k` is what is read of the first k bytes. Those that were taken are enough, and more of them are left alone.
@@ -70,7 +70,7 @@ token_at table scan at text (Ok (marks, next, rest)) st = (
 token_at table scan at text (Err e) st = tt
 
 token_framed : (escaped : Bool) (table : Table) (limit at : ℕ) (text : List ℕ)
-    → Framed (λ k. scanned escaped table limit at (take k text)) at (scanned escaped table limit at text)
+    → Framed (λ k. token_at_front escaped table limit at (take k text)) at (token_at_front escaped table limit at text)
 token_framed false table limit at text =
     token_at table (token_in table limit at) at text (token_in table limit at text) (token_stands table limit at text)
 token_framed true table limit at text =
@@ -83,12 +83,12 @@ cut_framed true front at count next x ds f here fronts = (count, here, fronts)
 cut_framed false front at count next x ds f here fronts = tt
 
 limited_framed : (limit : ℕ) (front : ℕ → Result (List Mark × ℕ × List ℕ) TokenFault) (at : ℕ) (r : Result (List Mark × ℕ × List ℕ) TokenFault)
-    → Framed front at r → Framed (λ k. limited limit (front k) (λ p. p.1)) at (limited limit r (λ p. p.1))
+    → Framed front at r → Framed (λ k. limited_token limit (front k) (λ p. p.1)) at (limited_token limit r (λ p. p.1))
 limited_framed limit front at (Ok (marks, next, ds)) h =
-    cut_framed (nat_le next limit) (λ k. limited limit (front k) (λ p. p.1)) at h.0 next marks ds _ h.1
-    (λ m. ap (λ (r : Result (List Mark × ℕ × List ℕ) TokenFault). limited limit r (λ p. p.1)) (h.2 m))
+    cut_framed (nat_le next limit) (λ k. limited_token limit (front k) (λ p. p.1)) at h.0 next marks ds _ h.1
+    (λ m. ap (λ (r : Result (List Mark × ℕ × List ℕ) TokenFault). limited_token limit r (λ p. p.1)) (h.2 m))
 limited_framed limit front at (Err e) h =
-    elim (stands_below limit e.refusal e.at) as (λ b. Framed (λ k. limited limit (front k) (λ p. p.1)) at (elim b [
+    elim (stands_below limit e.refusal e.at) as (λ b. Framed (λ k. limited_token limit (front k) (λ p. p.1)) at (elim b [
       | true ↦ Err (record { number = scan_refusal_number e.refusal; at = e.at })
       | false ↦ Err (record { number = FORM_TOO_LONG; at = limit })
     ])) [ true ↦ tt | false ↦ tt ]
@@ -130,6 +130,6 @@ framed table limits (takes other test on) at (c ∷ cs) =
     (run table limits (on c) (at + 1) cs) (run table limits other at (c ∷ cs)) refl (λ k. refl)
     (framed table limits (on c) (at + 1) cs) (framed table limits other at (c ∷ cs))
 framed table limits (scans escaped limit on) at cs =
-    goes_on_framed table limits on (λ k. limited limits.text (scanned escaped table limit at (take k cs)) (λ p. p.1)) at
-    (limited limits.text (scanned escaped table limit at cs) (λ p. p.1)) (λ marks next ds. framed table limits (on marks) next ds)
-    (limited_framed limits.text (λ k. scanned escaped table limit at (take k cs)) at (scanned escaped table limit at cs) (token_framed escaped table limit at cs))
+    goes_on_framed table limits on (λ k. limited_token limits.text (token_at_front escaped table limit at (take k cs)) (λ p. p.1)) at
+    (limited_token limits.text (token_at_front escaped table limit at cs) (λ p. p.1)) (λ marks next ds. framed table limits (on marks) next ds)
+    (limited_framed limits.text (λ k. token_at_front escaped table limit at (take k cs)) at (token_at_front escaped table limit at cs) (token_framed escaped table limit at cs))

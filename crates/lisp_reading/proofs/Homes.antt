@@ -11,7 +11,7 @@ use Rattle.package_table.specs.declared.error.PackageError.{PackageError}
 use Rattle.package_table.specs.declared.error.PackageError.TheVariants.{LockedPackage, NoPackage, NotExternal}
 use Rattle.package_table.specs.declared.resolve.Resolved.{Resolved}
 use Rattle.package_table.specs.Table.{Name, Present, Package, Table, common_lisp, full_name, package_named, entry_at, IsPackage, IsPresent, AreSoundPackages}
-use Rattle.package_table.specs.Lookup.{found, external_home}
+use Rattle.package_table.specs.Lookup.{home_by_name, external_home}
 use Rattle.package_table.specs.Resolving.{Resolution, found_at, new_in, home_of, resolution_of, resolution, external_resolution, internal_resolution}
 use Rattle.package_table.proofs.Found.{found_finds}
 use Rattle.package_table.proofs.Keeping.{present_at_home}
@@ -40,14 +40,14 @@ module _ (t : Table) (sound : AreSoundPackages t) where
         | Some k ↦ λ e. refl
       ] here
 
-  found_ascii : (p n h : Name) → found t p n ≡ Some h → list_all is_ascii h ≡ true
+  found_ascii : (p n h : Name) → home_by_name t p n ≡ Some h → list_all is_ascii h ≡ true
   found_ascii p n h e =
       package_ascii h (present_package h n h (present_at_home t p n h sound.joined (found_finds t n p h e)))
 
   external_ascii : (p n h : Name) → external_home t p n ≡ Some h → list_all is_ascii h ≡ true
   external_ascii p n h e = package_ascii h (present_package h n h (sound.joined.homes p n h (external_there t p n h e)))
 
-  resolved_by : (p n : Name) (r : Resolution) (o : Option Name) → found t p n ≡ o → IsPackage t p
+  resolved_by : (p n : Name) (r : Resolution) (o : Option Name) → home_by_name t p n ≡ o → IsPackage t p
       → option_map_or (λ h. Ok (found_at h)) o (if bytes_eq p common_lisp then Err LockedPackage else Ok (new_in p)) ≡ Ok r → Fits r
   resolved_by p n r (Some h) is there e = let same : found_at h ≡ r = cc in subst (λ r. Fits r) same (found_ascii p n h is)
   resolved_by p n r None is there e =
@@ -57,7 +57,7 @@ module _ (t : Table) (sound : AreSoundPackages t) where
       ] e
 
   resolution_ascii : (p n : Name) (r : Resolution) → IsPackage t p → resolution t p n ≡ Ok r → Fits r
-  resolution_ascii p n r there e = resolved_by p n r (found t p n) refl there e
+  resolution_ascii p n r there e = resolved_by p n r (home_by_name t p n) refl there e
 
   named_by : (prefix : Name) (p : Name) → package_named t prefix ≡ Some p → IsPackage t p
   named_by prefix p e =

@@ -11,7 +11,7 @@ use Rattle.token_scan.specs.Tokens.{TypedByte, Scanned, ScannedBytes, in_bytes, 
 use Rattle.token_scan.proofs.Split.{SplitsBy, splits, escaped_token_splits}
 use Rattle.token_meaning.specs.Results.{scan_refusal_number}
 use Rattle.lisp_reading.specs.declared.limits.Limits.{Limits}
-use Rattle.lisp_reading.specs.Plans.{Plan, gives, refuses, takes, scans, then_plan, character, next_byte, loop_in, Read, within, stands_below, limited, scanned, run}
+use Rattle.lisp_reading.specs.Plans.{Plan, gives, refuses, takes, scans, then_plan, character, next_byte, loop_in, Read, within, stands_below, limited_token, token_at_front, run}
 
 -- how far before an offset a refusal may be: at the byte that was just taken
 abbrev pub most_back : Bool → ℕ
@@ -73,7 +73,7 @@ few_by : (spells : List TypedByte → List Mark → Type 0) (limit at : ℕ) (te
 few_by spells limit at text (Ok (marks, next, rest)) s = s.fits
 few_by spells limit at text (Err e) s = tt
 
-pub few : (escaped : Bool) (table : Table) (limit at : ℕ) (text : List ℕ) → IfOk (scanned escaped table limit at text) (λ t. character_count t.0 ≤ limit)
+pub few : (escaped : Bool) (table : Table) (limit at : ℕ) (text : List ℕ) → IfOk (token_at_front escaped table limit at text) (λ t. character_count t.0 ≤ limit)
 few false table limit at text = few_by (Spells false) limit at (typed_text table text) _ (splits limit at (typed_text table text))
 few true table limit at text = few_by SpellsEscaped limit at (typed_text table text) _ (escaped_token_splits limit at (typed_text table text))
 
@@ -92,7 +92,7 @@ module _ {A : Type 0} (P : Bool → A → Type 0) (table : Table) (limits : Limi
 
   given_token : (limit : ℕ) (r : ScannedBytes) → IfOk r (λ t. character_count t.0 ≤ limit)
       → ((marks : List Mark) (next : ℕ) (ds : List ℕ) → character_count marks ≤ limit → Given P (run table limits (on marks) next ds))
-      → Given P (step (limited limits.text r (λ p. p.1)))
+      → Given P (step (limited_token limits.text r (λ p. p.1)))
   given_token limit (Ok (marks, next, ds)) small all =
       elim (nat_le next limits.text) as (λ b. Given P (step (elim b [ true ↦ Ok (marks, next, ds) | false ↦ Err (record { number = FORM_TOO_LONG; at = limits.text }) ]))) [
         | true ↦ all marks next ds small
@@ -115,5 +115,5 @@ given_keeps P more table limits (takes other test on) taken at (c ∷ cs) h =
     given_byte P (test c) (nat_le limits.text at) at (run table limits (on c) (at + 1) cs) (run table limits other at (c ∷ cs))
     (given_keeps P more table limits (on c) true (at + 1) cs (h.1 c)) (given_keeps P more table limits other false at (c ∷ cs) h.0)
 given_keeps P more table limits (scans escaped limit on) taken at cs h =
-    given_token P table limits on limit (scanned escaped table limit at cs) (few escaped table limit at cs)
+    given_token P table limits on limit (token_at_front escaped table limit at cs) (few escaped table limit at cs)
     (λ marks next ds small. given_keeps P more table limits (on marks) false next ds (h marks small))

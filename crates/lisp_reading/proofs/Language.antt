@@ -30,7 +30,7 @@ use Rattle.lisp_reading.specs.InvokedCalls.{InvokedCall}
 use Rattle.lisp_reading.specs.Naming.{token_meant}
 use Rattle.lisp_reading.specs.Plans.{Plan, gives, refuses, then_plan}
 use Rattle.lisp_reading.specs.Setting.{Setting, macro_call, way_in, function_of}
-use Rattle.lisp_reading.specs.Reading.{text_to, line_after, block_after, number_after, Piece, item, dot, closed, without_space, piece_of, or_closed, next_item_turn, next_item, Items, items_step, items_turn, items_after, undotted, after_tail, after_dot, list_end, one_piece, bytes_back, finished, plan_after_answer, completed_by, completed, gathering_plan, gathered_by, called, sub_called, sub_there, dispatch_plan, macro_called, alone, told_found, token_found, attempt_by, inner, attempt}
+use Rattle.lisp_reading.specs.Reading.{text_to, line_after, block_after, number_after, Piece, item, dot, closed, without_space, piece_of, or_closed, next_item_turn, next_item, Items, items_step, items_turn, items_after, undotted_plan, after_tail, after_dot, list_end, one_piece, bytes_back, finished_plan, plan_after_answer, completed_by, completed_call, gathering_plan, gathered_by, call_plan, sub_called, sub_there, dispatch_plan, macro_called, alone, told_found, token_found, attempt_by, inner, attempt}
 use Rattle.lisp_reading.proofs.Keeping.{most_back, Keeps, keeps_either, keeps_weaker, keeps_then, keeps_loop, keeps_next}
 use Rattle.lisp_reading.proofs.Backs.{back_of, StaysIn, way_stays}
 use Rattle.lisp_reading.proofs.TextsKept.{Any, text_keeps, line_keeps, block_keeps, number_keeps}
@@ -158,7 +158,7 @@ module _ (setting : Setting) (V : ℕ → Object → Type 0) (laws : AreKept set
   -- ---- what a call gives
 
   finished_keeps : (room : ℕ) (taken token : Bool) (v : Value) → ((x : Object) → v ≡ Ok (Some x) → V room x)
-      → ((refusal : StdRefusal) → v ≡ Err refusal → bytes_back refusal ≤ most_back taken) → Keeps (CallAt V room) taken (finished token v)
+      → ((refusal : StdRefusal) → v ≡ Err refusal → bytes_back refusal ≤ most_back taken) → Keeps (CallAt V room) taken (finished_plan token v)
   finished_keeps room taken token (Ok (Some x)) all back = all x refl
   finished_keeps room taken token (Ok None) all back = tt
   finished_keeps room taken token (Err refusal) all back = back refusal refl
@@ -191,15 +191,15 @@ module _ (setting : Setting) (V : ℕ → Object → Type 0) (laws : AreKept set
   -- after which nothing more is asked of what comes next
   completed_keeps : (room : ℕ) (taken : Bool) (call : InvokedCall) (token spaced : Bool) (material : Material) → room ≤ setting.limits.nesting
       → StaysIn setting.table.letters call.number 0 call.function → MaterialAt V setting.limits.token room material
-      → Keeps (CallAt V room) taken (completed setting (setting.limits.nesting - room) call token spaced material)
+      → Keeps (CallAt V room) taken (completed_call setting (setting.limits.nesting - room) call token spaced material)
   completed_keeps room taken call token spaced material le back h =
-      call_either room taken (completed setting (setting.limits.nesting - room) call token spaced material)
+      call_either room taken (completed_call setting (setting.limits.nesting - room) call token spaced material)
       (completed_by_keeps room false call call.function token spaced material le back h)
 
   -- ---- lists
 
   undotted_keeps : (room : ℕ) (on : Material → Plan Found) (taken : Bool) (xs : List Object) (all : Bool) → ((t : Bool) → Keeps (CallAt V room) t (on (many xs)))
-      → Keeps (CallAt V room) taken (undotted on (xs, all))
+      → Keeps (CallAt V room) taken (undotted_plan on (xs, all))
   undotted_keeps room on taken xs true h = h taken
   undotted_keeps room on taken xs false h = omega arith
 
@@ -250,28 +250,28 @@ module _ (setting : Setting) (V : ℕ → Object → Type 0) (laws : AreKept set
   gathered_keeps (suc room) (Some may) call Next le h back =
       call_either (suc room) true (gathering_plan setting (setting.limits.nesting - suc room) (Some may) call Next)
       (keeps_then (PieceAt V room) (CallAt V (suc room)) false (next_item setting None may)
-      (one_piece (λ token x. completed setting (setting.limits.nesting - suc room) call token token (one_object x))) (next_item_keeps room None may h)
-      (λ t p f. one_piece_keeps room (λ token x. completed setting (setting.limits.nesting - suc room) call token token (one_object x)) t p
+      (one_piece (λ token x. completed_call setting (setting.limits.nesting - suc room) call token token (one_object x))) (next_item_keeps room None may h)
+      (λ t p f. one_piece_keeps room (λ token x. completed_call setting (setting.limits.nesting - suc room) call token token (one_object x)) t p
       (λ token x v. completed_keeps (suc room) t call token token (one_object x) le back v) f))
   gathered_keeps (suc room) (Some may) call AList le h back =
-      let on : Material → Plan Found = λ m. completed setting (setting.limits.nesting - suc room) call false false m in
+      let on : Material → Plan Found = λ m. completed_call setting (setting.limits.nesting - suc room) call false false m in
       call_either (suc room) true (gathering_plan setting (setting.limits.nesting - suc room) (Some may) call AList)
       (keeps_then (ItemsAt V room) (CallAt V (suc room)) false (items_after setting 41 may []) (list_end setting may on) (items_keep room 41 may [] h (All-nil (V room)))
       (λ t xs f. list_end_keeps room may h on (λ ys all u. completed_keeps (suc room) u call false false (many ys) le back all)
       (λ ys tail all v u. completed_keeps (suc room) u call false false (dotted ys tail) le back (all, v)) t xs.0 xs.1 f))
   gathered_keeps (suc room) (Some may) call (Until close) le h back =
-      let on : Material → Plan Found = λ m. completed setting (setting.limits.nesting - suc room) call false false m in
+      let on : Material → Plan Found = λ m. completed_call setting (setting.limits.nesting - suc room) call false false m in
       call_either (suc room) true (gathering_plan setting (setting.limits.nesting - suc room) (Some may) call (Until close))
-      (keeps_then (ItemsAt V room) (CallAt V (suc room)) false (items_after setting close may []) (undotted on) (items_keep room close may [] h (All-nil (V room)))
+      (keeps_then (ItemsAt V room) (CallAt V (suc room)) false (items_after setting close may []) (undotted_plan on) (items_keep room close may [] h (All-nil (V room)))
       (λ t xs f. undotted_keeps (suc room) on t xs.0 xs.1 (λ u. completed_keeps (suc room) u call false false (many xs.0) le back f)))
   gathered_keeps room may call (Text close) le h back =
-      keeps_then (Any {A = List ℕ}) (CallAt V room) true (text_to setting close []) (λ cs. completed setting (setting.limits.nesting - room) call false false (letters cs))
+      keeps_then (Any {A = List ℕ}) (CallAt V room) true (text_to setting close []) (λ cs. completed_call setting (setting.limits.nesting - room) call false false (letters cs))
       (text_keeps setting close true []) (λ t cs f. completed_keeps room t call false false (letters cs) le back tt)
   gathered_keeps room may call (Line keep) le h back =
-      keeps_then (Any {A = List ℕ}) (CallAt V room) true (line_after setting keep []) (λ cs. completed setting (setting.limits.nesting - room) call false false (letters cs))
+      keeps_then (Any {A = List ℕ}) (CallAt V room) true (line_after setting keep []) (λ cs. completed_call setting (setting.limits.nesting - room) call false false (letters cs))
       (line_keeps setting keep true []) (λ t cs f. completed_keeps room t call false false (letters cs) le back tt)
   gathered_keeps room may call Block le h back =
-      keeps_then (Any {A = Unit {0}}) (CallAt V room) true (block_after setting (0, 0)) (λ u. completed setting (setting.limits.nesting - room) call false false no_material)
+      keeps_then (Any {A = Unit {0}}) (CallAt V room) true (block_after setting (0, 0)) (λ u. completed_call setting (setting.limits.nesting - room) call false false no_material)
       (block_keeps setting true (0, 0)) (λ t u f. completed_keeps room t call false false no_material le back tt)
   gathered_keeps room may call Token le h back = λ marks few. completed_keeps room false call true false (marked marks) le back few
   gathered_keeps room may call EscapedToken le h back = λ marks few. completed_keeps room false call true false (marked marks) le back few
@@ -282,7 +282,7 @@ module _ (setting : Setting) (V : ℕ → Object → Type 0) (laws : AreKept set
   gathered_by_keeps room may call (Some way) e le h = gathered_keeps room may call way le h (way_stays setting call way e)
 
   called_keeps : (room : ℕ) (may : Option (Plan Found)) (call : InvokedCall) → room ≤ setting.limits.nesting → InnerAt V room may
-      → Keeps (CallAt V room) true (called setting (setting.limits.nesting - room) may call)
+      → Keeps (CallAt V room) true (call_plan setting (setting.limits.nesting - room) may call)
   called_keeps room may call le h = gathered_by_keeps room may call (way_in setting call) refl le h
 
   -- ---- dispatch
@@ -305,7 +305,7 @@ module _ (setting : Setting) (V : ℕ → Object → Type 0) (laws : AreKept set
         let one_call : InvokedCall = record { function = function_of name; character = c; sub = None; number = None } in
         elim (is_dispatch_name name) as (λ b. Keeps (CallAt V room) true (elim b [
           | true ↦ dispatch_plan setting (setting.limits.nesting - room) may c None
-          | false ↦ called setting (setting.limits.nesting - room) may (record { function = function_of name; character = c; sub = None; number = None })
+          | false ↦ call_plan setting (setting.limits.nesting - room) may (record { function = function_of name; character = c; sub = None; number = None })
         ])) [ true ↦ dispatched_keeps true c None | false ↦ called_keeps room may one_call le h ]
 
     -- ---- attempts

@@ -16,7 +16,7 @@ use Rattle.token_scan.proofs.Split.{SplitsBy, escaped_token_splits, splits}
 use Rattle.token_meaning.specs.Results.{scan_refusal_number}
 use Rattle.lisp_reading.specs.declared.found.Found.{Found}
 use Rattle.lisp_reading.specs.declared.found.Found.TheVariants.{Nothing as nothing, One as one, LoneDot as lone_dot, TheEnd as the_end}
-use Rattle.lisp_reading.specs.Plans.{Fault, Read, limited, stands_below, within, scanned}
+use Rattle.lisp_reading.specs.Plans.{Fault, Read, limited_token, stands_below, within, token_at_front}
 use Rattle.lisp_reading.specs.Reading.{Outcome, form, outcome}
 
 -- ---- results
@@ -67,7 +67,7 @@ module _ (limit wider : ℕ) (larger : limit ≤ wider) where
       (ap scan s.split ∙ gives s.taken marks rest s.spelled (omega (arith, larger, s.fits)) s.ends ∙ (λ i. Ok (marks, sym s.offset i, rest)))
   scan_too spells scan at xs (Err e) gives s = tt
 
-  pub scanned_too : (escaped : Bool) (table : Table) (at : ℕ) (text : List ℕ) → GivesToo (scanned escaped table limit at text) (scanned escaped table wider at text)
+  pub scanned_too : (escaped : Bool) (table : Table) (at : ℕ) (text : List ℕ) → GivesToo (token_at_front escaped table limit at text) (token_at_front escaped table wider at text)
   scanned_too false table at text =
       scan_too (Spells false) (token wider at) at (typed_text table text) (token limit at (typed_text table text))
       (λ taken marks rest s fits ends. spelled_gives s wider at rest fits ends) (splits limit at (typed_text table text))
@@ -76,7 +76,7 @@ module _ (limit wider : ℕ) (larger : limit ≤ wider) where
       (λ taken marks rest s fits ends. escaped_gives s wider at rest fits ends) (escaped_token_splits limit at (typed_text table text))
 
 abbrev pub within_text : ℕ → ScannedBytes → Read (List Mark)
-within_text limit r = limited limit r (λ p. p.1)
+within_text limit r = limited_token limit r (λ p. p.1)
 
 pub token_too : (limit wider : ℕ) → limit ≤ wider → (r r2 : ScannedBytes) → GivesToo r r2 → GivesToo (within_text limit r) (within_text wider r2)
 token_too limit wider larger (Ok (marks, next, ds)) r2 h =

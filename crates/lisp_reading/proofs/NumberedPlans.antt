@@ -13,8 +13,8 @@ use Rattle.token_meaning.specs.Meanings.{number}
 use Rattle.token_meaning.specs.Results.{scan_refusal_number}
 use Rattle.lisp_reading.specs.declared.limits.Limits.{Limits}
 use Rattle.lisp_reading.specs.declared.way.Keep.{Keep}
-use Rattle.lisp_reading.specs.Plans.{Plan, gives, refuses, takes, scans, then_plan, character, next_byte, loop_in, loop, Fault, Read, within, stands_below, limited, scanned, run}
-use Rattle.lisp_reading.specs.Gathering.{is_escape, text_turn, kept, line_turn, block_next, block_goes, block_turn, next_digit, number_turn}
+use Rattle.lisp_reading.specs.Plans.{Plan, gives, refuses, takes, scans, then_plan, character, next_byte, loop_in, loop, Fault, Read, within, stands_below, limited_token, token_at_front, run}
+use Rattle.lisp_reading.specs.Gathering.{is_escape, text_turn, kept_characters, line_turn, block_next, block_goes, block_turn, next_digit, number_turn}
 
 abbrev pub IsOfReading : ℕ → Type 0
 IsOfReading code = (END_OF_FILE ≤ code) × (code ≤ OUT_OF_PROFILE)
@@ -55,7 +55,7 @@ fault_numbered : (A : Type 0) (b : Bool) (limit at : ℕ) (refusal : ScanRefusal
 fault_numbered A true limit at refusal = scan_numbered refusal
 fault_numbered A false limit at refusal = (omega arith, omega arith)
 
-limited_numbered : {A : Type 0} (limit : ℕ) (r : Result A TokenFault) (end_of : A → ℕ) → NumberedResult (limited limit r end_of)
+limited_numbered : {A : Type 0} (limit : ℕ) (r : Result A TokenFault) (end_of : A → ℕ) → NumberedResult (limited_token limit r end_of)
 limited_numbered limit (Ok p) end_of = cut_numbered (nat_le (end_of p) limit) p limit
 limited_numbered limit (Err e) end_of = fault_numbered _ (stands_below limit e.refusal e.at) limit e.at e.refusal
 
@@ -74,8 +74,8 @@ run_numbered table limits (takes other test on) at (c ∷ cs) h =
     byte_numbered (test c) (nat_le limits.text at) at (run table limits (on c) (at + 1) cs) (run table limits other at (c ∷ cs))
     (run_numbered table limits (on c) (at + 1) cs (h.1 c)) (run_numbered table limits other at (c ∷ cs) h.0)
 run_numbered table limits (scans escaped limit on) at cs h =
-    goes_on_numbered table limits on (limited limits.text (scanned escaped table limit at cs) (λ p. p.1))
-    (λ marks next ds. run_numbered table limits (on marks) next ds (h marks)) (limited_numbered limits.text (scanned escaped table limit at cs) (λ p. p.1))
+    goes_on_numbered table limits on (limited_token limits.text (token_at_front escaped table limit at cs) (λ p. p.1))
+    (λ marks next ds. run_numbered table limits (on marks) next ds (h marks)) (limited_numbered limits.text (token_at_front escaped table limit at cs) (λ p. p.1))
 
 -- ---- parts of plans
 
@@ -137,9 +137,9 @@ text_numbered table terminator more all cs =
 
 pub line_numbered : (keep : Keep) → NumberedTurn (line_turn keep)
 line_numbered keep more all cs =
-    let on : ℕ → Plan (List ℕ) = λ c. elim (c == 10) [ true ↦ gives cs | false ↦ more (kept keep cs c) ] in
+    let on : ℕ → Plan (List ℕ) = λ c. elim (c == 10) [ true ↦ gives cs | false ↦ more (kept_characters keep cs c) ] in
     takes_numbered (gives cs) (λ c. true) (character on) (gives_numbered cs)
-    (λ c. character_numbered on c (if_numbered (c == 10) (gives cs) (more (kept keep cs c)) (gives_numbered cs) (all (kept keep cs c))))
+    (λ c. character_numbered on c (if_numbered (c == 10) (gives cs) (more (kept_characters keep cs c)) (gives_numbered cs) (all (kept_characters keep cs c))))
 
 goes_numbered : (more : ℕ × ℕ → Plan (Unit {0})) (next : Option (ℕ × ℕ)) → ((levels : ℕ × ℕ) → Numbered (more levels)) → Numbered (block_goes more next)
 goes_numbered more None all = gives_numbered tt

@@ -13,7 +13,7 @@ use Rattle.readtable_core.specs.declared.characters.Syntax.TheVariants.{Whitespa
 use Rattle.package_table.specs.declared.error.PackageError.{PackageError}
 use Rattle.package_table.specs.declared.error.PackageError.TheVariants.{NoPackage, NotExternal, LockedPackage}
 use Rattle.package_table.specs.ErrorNumbers.{package_error_number}
-use Rattle.package_table.specs.Lookup.{found, external_home}
+use Rattle.package_table.specs.Lookup.{home_by_name, external_home}
 use Rattle.package_table.specs.Resolving.{Resolution, found_at, new_in, resolution, external_resolution, internal_resolution}
 use Rattle.package_table.specs.Table.{Name, Table as Packages, common_lisp, package_named}
 use Rattle.token_scan.specs.declared.mark.Mark.{Mark}
@@ -21,7 +21,7 @@ use Rattle.token_meaning.specs.declared.refusal.MeaningRefusal.{MeaningRefusal}
 use Rattle.token_meaning.specs.declared.refusal.MeaningRefusal.TheVariants.{DotsOnly, FloatToken, NumberRange, ZeroDenominator, PackageMarkers}
 use Rattle.token_meaning.specs.declared.token.TokenName.{TokenName}
 use Rattle.token_meaning.specs.declared.token.TokenName.TheVariants.{Unqualified, Keyword, External, Internal}
-use Rattle.token_meaning.specs.Folding.{folded}
+use Rattle.token_meaning.specs.Folding.{folded_marks}
 use Rattle.token_meaning.specs.Meanings.{Meaning, number, dot as a_dot, name, meaning_of}
 use Rattle.token_meaning.specs.Results.{meaning_refusal_number}
 use Rattle.user_macros.specs.Calls.{MacroAnswer, value, no_value, improper, refused as answer_refused}
@@ -43,7 +43,7 @@ use Rattle.lisp_reading.specs.Setting.{Setting, macro_call, way_in, function_of}
 use Rattle.lisp_reading.specs.Gathering.{text_turn, line_turn, block_turn, number_turn}
 use Rattle.lisp_reading.specs.Naming.{symbol_in, symbol_at, named, told_meaning, token_meant}
 use Rattle.lisp_reading.specs.Answering.{may_be_answered}
-use Rattle.lisp_reading.specs.Reading.{Piece, item, dot, closed, is_whitespace, without_space, piece_of, or_closed, next_item_turn, next_item, Items, items_step, items_turn, items_after, undotted, after_tail, after_dot, list_end, one_piece, bytes_back, finished, plan_after_answer, completed_by, completed, opened, gathering_plan, gathered_by, called, sub_called, sub_there, dispatch_plan, macro_called, stands_alone, alone, told_found, token_found, attempt_by, inner, attempt, Outcome, form, empty, refused, outcome, reads_in, reads, text_to, line_after, block_after, number_after}
+use Rattle.lisp_reading.specs.Reading.{Piece, item, dot, closed, is_whitespace, without_space, piece_of, or_closed, next_item_turn, next_item, Items, items_step, items_turn, items_after, undotted_plan, after_tail, after_dot, list_end, one_piece, bytes_back, finished_plan, plan_after_answer, completed_by, completed_call, opened_plan, gathering_plan, gathered_by, call_plan, sub_called, sub_there, dispatch_plan, macro_called, stands_alone, alone, told_found, token_found, attempt_by, inner, attempt, Outcome, form, empty, refused, outcome, reads_in, reads, text_to, line_after, block_after, number_after}
 use Rattle.lisp_reading.proofs.NumberedPlans.{IsOfReading, Numbered, NumberedResult, run_numbered, gives_numbered, refuses_numbered, takes_numbered, scans_numbered, then_numbered, if_numbered, next_byte_numbered, loop_numbered, text_numbered, line_numbered, block_numbered, number_numbered}
 
 -- ---- what tokens mean
@@ -65,7 +65,7 @@ resolved_by t p None own =
     elim (bytes_eq p common_lisp) as (λ b. Resolved {A = Resolution} (if b then Err LockedPackage else Ok (new_in p))) [ true ↦ (omega arith, omega arith) | false ↦ tt ]
 
 resolution_numbered : (t : Packages) (p own : Name) → Resolved (resolution t p own)
-resolution_numbered t p own = resolved_by t p (found t p own) own
+resolution_numbered t p own = resolved_by t p (home_by_name t p own) own
 
 external_numbered : (t : Packages) (prefix own : Name) → Resolved (external_resolution t prefix own)
 external_numbered t prefix own =
@@ -112,7 +112,7 @@ token_numbered : (setting : Setting) (marks : List Mark) → Numbered (token_fou
 token_numbered setting [] = gives_numbered the_end
 token_numbered setting (m ∷ ms) =
     told_found_numbered (token_meant setting (m ∷ ms))
-    (told_numbered setting.packages setting.current (meaning_of setting.base (folded setting.table.letters (m ∷ ms))))
+    (told_numbered setting.packages setting.current (meaning_of setting.base (folded_marks setting.table.letters (m ∷ ms))))
 
 -- ---- what comes next, and objects, inside a call
 
@@ -160,7 +160,7 @@ standard_numbered VectorLength = (omega arith, omega arith)
 standard_numbered UninternedToken = (omega arith, omega arith)
 standard_numbered OutOfProfile = (omega arith, omega arith)
 
-finished_numbered : (token : Bool) (v : Value) → Numbered (finished token v)
+finished_numbered : (token : Bool) (v : Value) → Numbered (finished_plan token v)
 finished_numbered token (Ok (Some x)) = gives_numbered (one token x)
 finished_numbered token (Ok None) = gives_numbered (nothing false)
 finished_numbered token (Err refusal) = refuses_numbered _ (std_refusal_number refusal) (bytes_back refusal) (standard_numbered refusal)
@@ -181,7 +181,7 @@ completed_by_numbered setting depth call (User own) token spaced material =
     answered_numbered setting.packages setting.limits.nesting depth token spaced (setting.answer own (macro_call call material))
 
 completed_numbered : (setting : Setting) (depth : ℕ) (call : InvokedCall) (token spaced : Bool) (material : Material)
-    → Numbered (completed setting depth call token spaced material)
+    → Numbered (completed_call setting depth call token spaced material)
 completed_numbered setting depth call token spaced material = completed_by_numbered setting depth call call.function token spaced material
 
 -- ---- calls
@@ -191,7 +191,7 @@ one_numbered on (item token x) all = all token x
 one_numbered on dot all = refuses_numbered _ DOT_CONTEXT 0 (omega arith, omega arith)
 one_numbered on closed all = refuses_numbered _ DOT_CONTEXT 0 (omega arith, omega arith)
 
-undotted_numbered : (on : Material → Plan Found) (items : Items) → ((m : Material) → Numbered (on m)) → Numbered (undotted on items)
+undotted_numbered : (on : Material → Plan Found) (items : Items) → ((m : Material) → Numbered (on m)) → Numbered (undotted_plan on items)
 undotted_numbered on (xs, true) all = all (many xs)
 undotted_numbered on (xs, false) all = refuses_numbered _ DOT_CONTEXT 0 (omega arith, omega arith)
 
@@ -221,7 +221,7 @@ NumberedInner None = Unit {0}
 NumberedInner (Some attempt) = Numbered attempt
 
 opened_numbered : (may : Option (Plan Found)) (on : Plan Found → Plan Found) → NumberedInner may → ((attempt : Plan Found) → Numbered attempt → Numbered (on attempt))
-    → Numbered (opened may on)
+    → Numbered (opened_plan may on)
 opened_numbered None on h all = refuses_numbered _ TOO_DEEP 1 (omega arith, omega arith)
 opened_numbered (Some attempt) on h all = all attempt h
 
@@ -230,37 +230,37 @@ module _ (setting : Setting) (depth : ℕ) (may : Option (Plan Found)) (numbered
   gathered_numbered call Nothing = completed_numbered setting depth call false false no_material
   gathered_numbered call Next =
       opened_numbered may _ numbered (λ attempt h. then_numbered (next_item setting None attempt)
-      (one_piece (λ token x. completed setting depth call token token (one_object x))) (next_item_numbered setting None attempt h)
-      (λ p. one_numbered (λ token x. completed setting depth call token token (one_object x)) p (λ token x. completed_numbered setting depth call token token (one_object x))))
+      (one_piece (λ token x. completed_call setting depth call token token (one_object x))) (next_item_numbered setting None attempt h)
+      (λ p. one_numbered (λ token x. completed_call setting depth call token token (one_object x)) p (λ token x. completed_numbered setting depth call token token (one_object x))))
   gathered_numbered call AList =
       opened_numbered may _ numbered (λ attempt h. then_numbered (items_after setting 41 attempt [])
-      (list_end setting attempt (λ m. completed setting depth call false false m)) (items_numbered setting 41 attempt [] h)
-      (λ items. list_end_numbered setting attempt (λ m. completed setting depth call false false m) items h (λ m. completed_numbered setting depth call false false m)))
+      (list_end setting attempt (λ m. completed_call setting depth call false false m)) (items_numbered setting 41 attempt [] h)
+      (λ items. list_end_numbered setting attempt (λ m. completed_call setting depth call false false m) items h (λ m. completed_numbered setting depth call false false m)))
   gathered_numbered call (Until close) =
       opened_numbered may _ numbered (λ attempt h. then_numbered (items_after setting close attempt [])
-      (undotted (λ m. completed setting depth call false false m)) (items_numbered setting close attempt [] h)
-      (λ items. undotted_numbered (λ m. completed setting depth call false false m) items (λ m. completed_numbered setting depth call false false m)))
+      (undotted_plan (λ m. completed_call setting depth call false false m)) (items_numbered setting close attempt [] h)
+      (λ items. undotted_numbered (λ m. completed_call setting depth call false false m) items (λ m. completed_numbered setting depth call false false m)))
   gathered_numbered call (Text close) =
-      then_numbered (text_to setting close []) (λ cs. completed setting depth call false false (letters cs))
+      then_numbered (text_to setting close []) (λ cs. completed_call setting depth call false false (letters cs))
       (loop_numbered setting.limits (text_turn setting.table close) (text_numbered setting.table close) []) (λ cs. completed_numbered setting depth call false false (letters cs))
   gathered_numbered call (Line keep) =
-      then_numbered (line_after setting keep []) (λ cs. completed setting depth call false false (letters cs))
+      then_numbered (line_after setting keep []) (λ cs. completed_call setting depth call false false (letters cs))
       (loop_numbered setting.limits (line_turn keep) (line_numbered keep) []) (λ cs. completed_numbered setting depth call false false (letters cs))
   gathered_numbered call Block =
-      then_numbered (block_after setting (0, 0)) (λ u. completed setting depth call false false no_material)
+      then_numbered (block_after setting (0, 0)) (λ u. completed_call setting depth call false false no_material)
       (loop_numbered setting.limits block_turn block_numbered (0, 0)) (λ u. completed_numbered setting depth call false false no_material)
   gathered_numbered call Token =
-      scans_numbered false setting.limits.token (λ marks. completed setting depth call true false (marked marks))
+      scans_numbered false setting.limits.token (λ marks. completed_call setting depth call true false (marked marks))
       (λ marks. completed_numbered setting depth call true false (marked marks))
   gathered_numbered call EscapedToken =
-      scans_numbered true setting.limits.token (λ marks. completed setting depth call true false (marked marks))
+      scans_numbered true setting.limits.token (λ marks. completed_call setting depth call true false (marked marks))
       (λ marks. completed_numbered setting depth call true false (marked marks))
 
   gathered_by_numbered : (call : InvokedCall) (way : Option Way) → Numbered (gathered_by setting depth may call way)
   gathered_by_numbered call None = refuses_numbered _ OUT_OF_PROFILE 1 (omega arith, omega arith)
   gathered_by_numbered call (Some way) = gathered_numbered call way
 
-  called_numbered : (call : InvokedCall) → Numbered (called setting depth may call)
+  called_numbered : (call : InvokedCall) → Numbered (call_plan setting depth may call)
   called_numbered call = gathered_by_numbered call (way_in setting call)
 
   sub_numbered : (c sub : ℕ) (argument : Option ℕ) (own : Option (List ℕ)) → Numbered (sub_called setting depth may c sub argument own)
@@ -278,7 +278,7 @@ module _ (setting : Setting) (depth : ℕ) (may : Option (Plan Found)) (numbered
   macro_numbered c None = refuses_numbered _ OUT_OF_PROFILE 1 (omega arith, omega arith)
   macro_numbered c (Some own) =
       let call : InvokedCall = record { function = function_of own; character = c; sub = None; number = None } in
-      if_numbered (is_dispatch_name own) (dispatch_plan setting depth may c None) (called setting depth may call) (dispatched_numbered c None) (called_numbered call)
+      if_numbered (is_dispatch_name own) (dispatch_plan setting depth may c None) (call_plan setting depth may call) (dispatched_numbered c None) (called_numbered call)
 
   -- ---- objects
 

@@ -8,7 +8,7 @@ use Rattle.token_meaning.specs.Results.{scan_refusal_number}
 use Rattle.token_scan.specs.Tokens.{TokenFault, ScannedBytes, token_in, escaped_token_in}
 use Rattle.token_scan.specs.Spelling.{IsSpelledAt}
 use Rattle.token_scan.proofs.Standing.{token_stands, escaped_token_stands}
-use Rattle.lisp_reading.specs.Plans.{Plan, gives, refuses, takes, scans, Fault, Read, within, stands_below, limited, scanned, run}
+use Rattle.lisp_reading.specs.Plans.{Plan, gives, refuses, takes, scans, Fault, Read, within, stands_below, limited_token, token_at_front, run}
 use Rattle.lisp_reading.specs.declared.limits.Limits.{Limits}
 
 pub record Parted (at : ℕ) (whole : List ℕ) (next : ℕ) (rest : List ℕ) : Type 0 where
@@ -44,7 +44,7 @@ token_at : (table : Table) (scan : List ℕ → ScannedBytes) (at : ℕ) (text :
 token_at table scan at text (Ok (marks, next, rest)) st = record { taken = st.taken; split = st.split; offset = st.offset }
 token_at table scan at text (Err e) st = tt
 
-pub token_parts : (escaped : Bool) (table : Table) (limit at : ℕ) (text : List ℕ) → Parts at text (scanned escaped table limit at text)
+pub token_parts : (escaped : Bool) (table : Table) (limit at : ℕ) (text : List ℕ) → Parts at text (token_at_front escaped table limit at text)
 token_parts false table limit at text = token_at table (token_in table limit at) at text (token_in table limit at text) (token_stands table limit at text)
 token_parts true table limit at text =
     token_at table (escaped_token_in table limit at) at text (escaped_token_in table limit at text) (escaped_token_stands table limit at text)
@@ -53,7 +53,7 @@ cut_parts : {A E : Type 0} (b : Bool) (at next : ℕ) (whole rest : List ℕ) (x
 cut_parts true at next whole rest x f h = h
 cut_parts false at next whole rest x f h = tt
 
-limited_parts : (limit at : ℕ) (whole : List ℕ) (r : Result (List Mark × ℕ × List ℕ) TokenFault) → Parts at whole r → Parts at whole (limited limit r (λ p. p.1))
+limited_parts : (limit at : ℕ) (whole : List ℕ) (r : Result (List Mark × ℕ × List ℕ) TokenFault) → Parts at whole r → Parts at whole (limited_token limit r (λ p. p.1))
 limited_parts limit at whole (Ok (marks, next, ds)) h = cut_parts (nat_le next limit) at next whole ds marks _ h
 limited_parts limit at whole (Err e) h =
     elim (stands_below limit e.refusal e.at) as (λ b. Parts {A = List Mark} {E = Fault} at whole (elim b [
@@ -76,5 +76,5 @@ parts table limits (takes other test on) at (c ∷ cs) =
     byte_parts (test c) (nat_le limits.text at) at c cs (run table limits (on c) (at + 1) cs) (run table limits other at (c ∷ cs))
     (parts table limits (on c) (at + 1) cs) (parts table limits other at (c ∷ cs))
 parts table limits (scans escaped limit on) at cs =
-    goes_on_parts table limits on at cs (limited limits.text (scanned escaped table limit at cs) (λ p. p.1)) (λ marks next ds. parts table limits (on marks) next ds)
-    (limited_parts limits.text at cs (scanned escaped table limit at cs) (token_parts escaped table limit at cs))
+    goes_on_parts table limits on at cs (limited_token limits.text (token_at_front escaped table limit at cs) (λ p. p.1)) (λ marks next ds. parts table limits (on marks) next ds)
+    (limited_parts limits.text at cs (token_at_front escaped table limit at cs) (token_parts escaped table limit at cs))

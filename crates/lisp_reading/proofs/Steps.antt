@@ -7,7 +7,7 @@ use Rattle.readtable_core.specs.Tables.{Table}
 use Rattle.token_scan.specs.declared.mark.Mark.{Mark}
 use Rattle.token_meaning.specs.Results.{scan_refusal_number}
 use Rattle.token_scan.specs.Tokens.{TokenFault}
-use Rattle.lisp_reading.specs.Plans.{Plan, gives, refuses, takes, scans, then_plan, Read, within, stands_below, limited, scanned, run}
+use Rattle.lisp_reading.specs.Plans.{Plan, gives, refuses, takes, scans, then_plan, Read, within, stands_below, limited_token, token_at_front, run}
 use Rattle.lisp_reading.specs.declared.limits.Limits.{Limits}
 use Rattle.lisp_reading.proofs.Framing.{Framed, framed}
 
@@ -43,7 +43,7 @@ run_then table limits (takes other test on) next at (c ∷ cs) =
     (run table limits (then_plan (on c) next) (at + 1) cs) (run table limits (then_plan other next) at (c ∷ cs))
     (run_then table limits (on c) next (at + 1) cs) (run_then table limits other next at (c ∷ cs))
 run_then table limits (scans escaped limit on) next at cs =
-    token_then table limits next on (λ marks. then_plan (on marks) next) (limited limits.text (scanned escaped table limit at cs) (λ p. p.1))
+    token_then table limits next on (λ marks. then_plan (on marks) next) (limited_token limits.text (token_at_front escaped table limit at cs) (λ p. p.1))
     (λ marks next_at ds. run_then table limits (on marks) next next_at ds)
 
 -- ---- what was taken is below the limit
@@ -60,7 +60,7 @@ byte_below limit false full at r s e p q = q
 
 token_below : {A : Type 0} (table : Table) (limits : Limits) (on : List Mark → Plan A) (r : Result (List Mark × ℕ × List ℕ) TokenFault) (at : ℕ)
     → ((marks : List Mark) (next : ℕ) (cs : List ℕ) → next ≤ limits.text → IsBelow limits.text (run table limits (on marks) next cs))
-    → IsBelow limits.text (elim (limited limits.text r (λ p. p.1)) [ Ok p ↦ run table limits (on p.0) p.1 p.2 | Err e ↦ Err e ])
+    → IsBelow limits.text (elim (limited_token limits.text r (λ p. p.1)) [ Ok p ↦ run table limits (on p.0) p.1 p.2 | Err e ↦ Err e ])
 token_below {A = A} table limits on (Ok (marks, next, ds)) at all =
     let step : Read (List Mark) → Read A = λ r. elim r [ Ok p ↦ run table limits (on p.0) p.1 p.2 | Err e ↦ Err e ] in
     let cut : Bool → Read (List Mark) = λ b. elim b [ true ↦ Ok (marks, next, ds) | false ↦ Err (record { number = FORM_TOO_LONG; at = limits.text }) ] in
@@ -88,7 +88,7 @@ below table limits (takes other test on) at (c ∷ cs) h =
     byte_below limits.text (test c) (nat_le limits.text at) at (run table limits (on c) (at + 1) cs) (run table limits other at (c ∷ cs)) refl
     (λ lt. below table limits (on c) (at + 1) cs (omega arith)) (below table limits other at (c ∷ cs) h)
 below table limits (scans escaped limit on) at cs h =
-    token_below table limits on (scanned escaped table limit at cs) at (λ marks next ds le. below table limits (on marks) next ds le)
+    token_below table limits on (token_at_front escaped table limit at cs) at (λ marks next ds le. below table limits (on marks) next ds le)
 
 -- ---- a plan that gives no such value on the empty text takes a byte before it gives it
 

@@ -3,7 +3,7 @@ use Rattle.std.proofs.Common.{ℕ, ◌+◌, Bool, true, false, List, [], ◌∷�
 use Rattle.std.specs.Prelude.{nat_le, ◌==◌}
 use Rattle.readtable_core.specs.Tables.{entry_at}
 use Rattle.lisp_reading.specs.declared.way.Keep.{Keep}
-use Rattle.lisp_reading.specs.Gathering.{text_turn, is_escape, kept, line_turn, block_next, block_goes, block_turn, number_turn, next_digit}
+use Rattle.lisp_reading.specs.Gathering.{text_turn, is_escape, kept_characters, line_turn, block_next, block_goes, block_turn, number_turn, next_digit}
 use Rattle.lisp_reading.specs.Plans.{Plan, gives, refuses, next_byte}
 use Rattle.lisp_reading.specs.Setting.{Setting}
 use Rattle.lisp_reading.specs.Reading.{text_to, line_after, block_after, number_after}
@@ -49,10 +49,10 @@ line_keeps setting keep taken cs =
     (keeps_loop (Any {A = List ℕ}) (λ s. Unit {0}) (line_turn keep)
     (λ more all s i. (
       tt,
-      λ c. keeps_character (Any {A = List ℕ}) (λ c. elim (c == 10) [ true ↦ gives s | false ↦ more (kept keep s c) ]) c (λ small.
-          elim (c == 10) as (λ b. Keeps (Any {A = List ℕ}) true (elim b [ true ↦ gives s | false ↦ more (kept keep s c) ])) [
+      λ c. keeps_character (Any {A = List ℕ}) (λ c. elim (c == 10) [ true ↦ gives s | false ↦ more (kept_characters keep s c) ]) c (λ small.
+          elim (c == 10) as (λ b. Keeps (Any {A = List ℕ}) true (elim b [ true ↦ gives s | false ↦ more (kept_characters keep s c) ])) [
             | true ↦ tt
-            | false ↦ keeps_either (Any {A = List ℕ}) (λ x h. tt) true (more (kept keep s c)) (all (kept keep s c) tt)
+            | false ↦ keeps_either (Any {A = List ℕ}) (λ x h. tt) true (more (kept_characters keep s c)) (all (kept_characters keep s c) tt)
           ]),
     ))
     (setting.limits.text + 1) cs tt)

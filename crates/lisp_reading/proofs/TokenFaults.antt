@@ -12,12 +12,12 @@ use Rattle.token_scan.specs.declared.refusal.ScanRefusal.{ScanRefusal}
 use Rattle.token_scan.specs.declared.refusal.ScanRefusal.TheVariants.{InvalidCharacter, InvalidTrait, TokenTooLong}
 use Rattle.token_scan.specs.declared.stage.Stage.{Stage}
 use Rattle.token_scan.specs.declared.stage.Stage.TheVariants.{Outside, Inside, EscapedOutside, EscapedInside, Refused}
-use Rattle.token_scan.specs.Tokens.{TypedByte, kind, is_character, Scanned, ScannedBytes, fault_of_scan, with_front, after_single_escape, outside, inside, typed, typed_text, in_bytes}
+use Rattle.token_scan.specs.Tokens.{TypedByte, kind, is_character, Scanned, ScannedBytes, fault_of_scan, with_front, after_single_escape, outside, inside, typed_byte, typed_text, in_bytes}
 use Rattle.token_scan.specs.Spelling.{is_plain_syntax, ends_tokens}
 use Rattle.token_scan.specs.ByteByByte.{from_stage}
 use Rattle.token_scan.proofs.Forwards.{Forwards, forwards}
 use Rattle.token_scan.proofs.Steps.{outside_ends, outside_plain, outside_escape, outside_bar, outside_invalid, inside_between, inside_escape, inside_bar, inside_invalid}
-use Rattle.lisp_reading.specs.Plans.{scanned}
+use Rattle.lisp_reading.specs.Plans.{token_at_front}
 
 -- what a longer text gives, of one that ends at this offset
 abbrev Extends : ℕ → Scanned → Scanned → Type 0
@@ -180,18 +180,18 @@ bytes_extend «end» longer (Err f) h = (h.0, λ lt. ap in_bytes (h.1 lt), λ le
 stage_longer : (stage : Stage) (table : Table) (limit at : ℕ) (text more : List ℕ)
     → IsLonger (at + length text) (in_bytes (from_stage stage limit at (typed_text table (text ++ more)))) (in_bytes (from_stage stage limit at (typed_text table text)))
 stage_longer stage table limit at text more =
-    let joined : typed_text table (text ++ more) ≡ typed_text table text ++ typed_text table more = map-append (typed table) text more in
-    let many : at + length (typed_text table text) ≡ at + length text = ap (λ (n : ℕ). at + n) (length-map text (typed table)) in
+    let joined : typed_text table (text ++ more) ≡ typed_text table text ++ typed_text table more = map-append (typed_byte table) text more in
+    let many : at + length (typed_text table text) ≡ at + length text = ap (λ (n : ℕ). at + n) (length-map text (typed_byte table)) in
     let of_typed = bytes_extend (at + length (typed_text table text)) (from_stage stage limit at (typed_text table text ++ typed_text table more)) (from_stage stage limit at (typed_text table text))
     (stage_extends (typed_text table more) (typed_text table text) stage limit at) in
     subst (λ (n : ℕ). IsLonger n (in_bytes (from_stage stage limit at (typed_text table (text ++ more)))) (in_bytes (from_stage stage limit at (typed_text table text)))) many
     (subst (λ (xs : List TypedByte). IsLonger (at + length (typed_text table text)) (in_bytes (from_stage stage limit at xs)) (in_bytes (from_stage stage limit at (typed_text table text)))) (sym joined) of_typed)
 
 pub token_longer : (escaped : Bool) (table : Table) (limit at : ℕ) (text more : List ℕ)
-    → IsLonger (at + length text) (scanned escaped table limit at (text ++ more)) (scanned escaped table limit at text)
+    → IsLonger (at + length text) (token_at_front escaped table limit at (text ++ more)) (token_at_front escaped table limit at text)
 token_longer false table limit at text more = stage_longer Outside table limit at text more
 token_longer true table limit at text more = stage_longer EscapedOutside table limit at text more
 
-pub token_from_here : (escaped : Bool) (table : Table) (limit at : ℕ) (text : List ℕ) → IsFrom at (scanned escaped table limit at text)
+pub token_from_here : (escaped : Bool) (table : Table) (limit at : ℕ) (text : List ℕ) → IsFrom at (token_at_front escaped table limit at text)
 token_from_here false table limit at text = from_bytes at (from_stage Outside limit at (typed_text table text)) (stage_forwards Outside limit at (typed_text table text))
 token_from_here true table limit at text = from_bytes at (from_stage EscapedOutside limit at (typed_text table text)) (stage_forwards EscapedOutside limit at (typed_text table text))

@@ -12,7 +12,7 @@ use Rattle.lisp_reading.specs.declared.way.Keep.{Keep}
 use Rattle.lisp_reading.specs.Plans.{Plan, gives, refuses, takes, then_plan, character, next_byte, loop_in, loop, Read, fault, within, run}
 use Rattle.lisp_reading.specs.declared.limits.Limits.{Limits}
 use Rattle.lisp_reading.specs.Setting.{Setting}
-use Rattle.lisp_reading.specs.Gathering.{text_turn, is_escape, kept, line_turn, block_next, block_goes, block_turn, number_turn, next_digit}
+use Rattle.lisp_reading.specs.Gathering.{text_turn, is_escape, kept_characters, line_turn, block_next, block_goes, block_turn, number_turn, next_digit}
 use Rattle.lisp_reading.specs.declared.found.Found.{Found}
 use Rattle.lisp_reading.specs.declared.found.Found.TheVariants.{Nothing as nothing, One as one, LoneDot as lone_dot, TheEnd as the_end}
 use Rattle.lisp_reading.specs.Reading.{Piece, item, dot, closed, is_whitespace, without_space, piece_of, or_closed, next_item_turn, next_item, Items, items_step, items_turn, token_found, attempt_by, attempt}
@@ -102,11 +102,11 @@ text_guarded table limits terminator = record {
 pub line_guarded : (table : Table) (limits : Limits) (keep : Keep) → Guarded table limits (line_turn keep)
 line_guarded table limits keep = record {
   rest = λ p q s at cs h same.
-      let on : (List ℕ → Plan (List ℕ)) → ℕ → Bool → Plan (List ℕ) = λ more c b. elim b [ true ↦ gives s | false ↦ more (kept keep s c) ] in
+      let on : (List ℕ → Plan (List ℕ)) → ℕ → Bool → Plan (List ℕ) = λ more c b. elim b [ true ↦ gives s | false ↦ more (kept_characters keep s c) ] in
       takes_same table limits (λ c. true) (character (λ c. on p c (c == 10))) (character (λ c. on q c (c == 10))) (gives s) (gives s) at cs refl
       (λ c ds lt. character_same table limits (λ c. on p c (c == 10)) (λ c. on q c (c == 10)) (at + 1) c ds
       (λ d. elim (d == 10) as (λ b. run table limits (on p d b) (at + 1) ds ≡ run table limits (on q d b) (at + 1) ds)
-      [ true ↦ refl | false ↦ same (kept keep s d) (at + 1) ds (omega arith) (omega arith) ]));
+      [ true ↦ refl | false ↦ same (kept_characters keep s d) (at + 1) ds (omega arith) (omega arith) ]));
 }
 
 goes_same : (table : Table) (limits : Limits) (p q : ℕ × ℕ → Plan (Unit {0})) (next : Option (ℕ × ℕ)) (at : ℕ) (cs : List ℕ)

@@ -24,10 +24,10 @@ use Rattle.lisp_reading.specs.declared.way.Keep.{Keep}
 use Rattle.lisp_reading.specs.declared.way.Way.{Way}
 use Rattle.lisp_reading.specs.declared.way.Way.TheVariants.{Nothing, Next, List as AList, Until, Text, Line, Block, Token, EscapedToken}
 use Rattle.lisp_reading.specs.InvokedCalls.{InvokedCall}
-use Rattle.lisp_reading.specs.Gathering.{text_turn, is_escape, kept, line_turn, block_next, block_goes, block_turn, number_turn, next_digit}
-use Rattle.lisp_reading.specs.Plans.{Plan, gives, refuses, takes, scans, then_plan, character, next_byte, loop_in, loop, Read, scanned, run}
+use Rattle.lisp_reading.specs.Gathering.{text_turn, is_escape, kept_characters, line_turn, block_next, block_goes, block_turn, number_turn, next_digit}
+use Rattle.lisp_reading.specs.Plans.{Plan, gives, refuses, takes, scans, then_plan, character, next_byte, loop_in, loop, Read, token_at_front, run}
 use Rattle.lisp_reading.specs.Setting.{Setting, macro_call, way_in, function_of}
-use Rattle.lisp_reading.specs.Reading.{text_to, line_after, block_after, number_after, Piece, item, dot, closed, is_whitespace, without_space, piece_of, or_closed, next_item_turn, next_item, Items, items_step, items_turn, items_after, undotted, after_tail, after_dot, list_end, one_piece, finished, plan_after_answer, completed_by, completed, opened, gathering_plan, gathered_by, called, sub_called, sub_there, dispatch_plan, macro_called, stands_alone, alone, token_found, attempt_by, inner, attempt, Outcome, form, outcome, reads_in, reads}
+use Rattle.lisp_reading.specs.Reading.{text_to, line_after, block_after, number_after, Piece, item, dot, closed, is_whitespace, without_space, piece_of, or_closed, next_item_turn, next_item, Items, items_step, items_turn, items_after, undotted_plan, after_tail, after_dot, list_end, one_piece, finished_plan, plan_after_answer, completed_by, completed_call, opened_plan, gathering_plan, gathered_by, call_plan, sub_called, sub_there, dispatch_plan, macro_called, stands_alone, alone, token_found, attempt_by, inner, attempt, Outcome, form, outcome, reads_in, reads}
 use Rattle.lisp_reading.specs.Answering.{may_be_answered}
 use Rattle.lisp_reading.proofs.LargerLimits.{GivesToo, byte_too, gives_along, outcome_too, scanned_too, token_too, within_text}
 use Rattle.lisp_reading.proofs.Steps.{and_then, run_then}
@@ -104,8 +104,8 @@ module _ (setting : Setting) (wider : Limits) where
         → Widens (scans escaped limit on) (scans escaped limit2 on2)
     unfolding run
     scans_widens escaped limit limit2 on on2 le all at cs =
-        let r = scanned escaped setting.table limit at cs in
-        let r2 = scanned escaped setting.table limit2 at cs in
+        let r = token_at_front escaped setting.table limit at cs in
+        let r2 = token_at_front escaped setting.table limit2 at cs in
         and_then_too on on2 (within_text setting.limits.text r) (within_text wider.text r2) all
         (token_too setting.limits.text wider.text larger r r2 (scanned_too limit limit2 le escaped setting.table at cs))
 
@@ -155,10 +155,10 @@ module _ (setting : Setting) (wider : Limits) where
 
     line_turn_widens : (keep : Keep) → WidensTurn (line_turn keep) (line_turn keep)
     line_turn_widens keep p q all s =
-        let on : (List ℕ → Plan (List ℕ)) → ℕ → Plan (List ℕ) = λ more c. elim (c == 10) [ true ↦ gives s | false ↦ more (kept keep s c) ] in
+        let on : (List ℕ → Plan (List ℕ)) → ℕ → Plan (List ℕ) = λ more c. elim (c == 10) [ true ↦ gives s | false ↦ more (kept_characters keep s c) ] in
         takes_widens (gives s) (gives s) (λ c. true) (character (on p)) (character (on q)) (gives_widens s)
         (λ c. character_widens (on p) (on q) c
-        (if_widens (c == 10) (gives s) (p (kept keep s c)) (gives s) (q (kept keep s c)) (gives_widens s) (all (kept keep s c))))
+        (if_widens (c == 10) (gives s) (p (kept_characters keep s c)) (gives s) (q (kept_characters keep s c)) (gives_widens s) (all (kept_characters keep s c))))
 
     line_widens : (keep : Keep) (cs : List ℕ) → Widens (line_after setting keep cs) (line_after wide keep cs)
     line_widens keep cs = loop_widens (line_turn keep) (line_turn keep) (line_turn_widens keep) cs
@@ -243,7 +243,7 @@ module _ (setting : Setting) (wider : Limits) where
           then_widens (next_item setting (Some 41) p) (next_item wide (Some 41) q) (after_dot setting p on (x ∷ xs)) (after_dot wide q on2 (x ∷ xs))
           (next_item_widens (Some 41) p q h) (λ piece. tail_widens p q (x ∷ xs) piece h)
 
-      undotted_widens : (items : Items) → Widens (undotted on items) (undotted on2 items)
+      undotted_widens : (items : Items) → Widens (undotted_plan on items) (undotted_plan on2 items)
       undotted_widens (xs, true) = done (many xs)
       undotted_widens (xs, false) = refuses_widens DOT_CONTEXT 0 (refuses DOT_CONTEXT 0)
 
@@ -266,23 +266,23 @@ module _ (setting : Setting) (wider : Limits) where
     answer_widens depth token spaced (answer_refused number) = refuses_widens MACRO_REFUSED 0 (refuses MACRO_REFUSED 0)
 
     by_function : (depth : ℕ) (call : InvokedCall) (function : Function) (token spaced : Bool) (material : Material) → Widens (completed_by setting depth call function token spaced material) (completed_by wide depth call function token spaced material)
-    by_function depth call (AStandard kind) token spaced material = same_widens (finished token (value_of kind setting.table.letters call.number material))
+    by_function depth call (AStandard kind) token spaced material = same_widens (finished_plan token (value_of kind setting.table.letters call.number material))
     by_function depth call (User name) token spaced material = answer_widens depth token spaced (setting.answer name (macro_call call material))
 
-    completed_widens : (depth : ℕ) (call : InvokedCall) (token spaced : Bool) (material : Material) → Widens (completed setting depth call token spaced material) (completed wide depth call token spaced material)
+    completed_widens : (depth : ℕ) (call : InvokedCall) (token spaced : Bool) (material : Material) → Widens (completed_call setting depth call token spaced material) (completed_call wide depth call token spaced material)
     completed_widens depth call token spaced material = by_function depth call call.function token spaced material
 
     -- ---- calls
 
     opened_widens : (may may2 : Option (Plan Found)) (on on2 : Plan Found → Plan Found) → WidensInner may may2
-        → ((p q : Plan Found) → Widens p q → Widens (on p) (on2 q)) → Widens (opened may on) (opened may2 on2)
-    opened_widens None may2 on on2 h all = refuses_widens TOO_DEEP 1 (opened may2 on2)
+        → ((p q : Plan Found) → Widens p q → Widens (on p) (on2 q)) → Widens (opened_plan may on) (opened_plan may2 on2)
+    opened_widens None may2 on on2 h all = refuses_widens TOO_DEEP 1 (opened_plan may2 on2)
     opened_widens (Some p) None on on2 h all = absurd h
     opened_widens (Some p) (Some q) on on2 h all = all p q h
 
     module _ (depth : ℕ) (may may2 : Option (Plan Found)) (inside : WidensInner may may2) where
       abbrev on_marks : Setting → InvokedCall → List Mark → Plan Found
-      on_marks by call marks = completed by depth call true false (marked marks)
+      on_marks by call marks = completed_call by depth call true false (marked marks)
 
       token_call_widens : (escaped : Bool) (call : InvokedCall) → Widens (scans escaped setting.limits.token (on_marks setting call)) (scans escaped wider.token (on_marks wide call))
       token_call_widens escaped call =
@@ -291,29 +291,29 @@ module _ (setting : Setting) (wider : Limits) where
       gathered_widens : (call : InvokedCall) (way : Way) → Widens (gathering_plan setting depth may call way) (gathering_plan wide depth may2 call way)
       gathered_widens call Nothing = completed_widens depth call false false no_material
       gathered_widens call Next =
-          let on : Setting → Bool → Object → Plan Found = λ by token x. completed by depth call token token (one_object x) in
+          let on : Setting → Bool → Object → Plan Found = λ by token x. completed_call by depth call token token (one_object x) in
           opened_widens may may2 (λ p. then_plan (next_item setting None p) (one_piece (on setting))) (λ q. then_plan (next_item wide None q) (one_piece (on wide))) inside
           (λ p q h. then_widens (next_item setting None p) (next_item wide None q) (one_piece (on setting)) (one_piece (on wide)) (next_item_widens None p q h)
           (λ piece. piece_done (on setting) (on wide) (λ token x. completed_widens depth call token token (one_object x)) piece))
       gathered_widens call AList =
-          let on : Setting → Material → Plan Found = λ by m. completed by depth call false false m in
+          let on : Setting → Material → Plan Found = λ by m. completed_call by depth call false false m in
           opened_widens may may2 (λ p. then_plan (items_after setting 41 p []) (list_end setting p (on setting))) (λ q. then_plan (items_after wide 41 q []) (list_end wide q (on wide))) inside
           (λ p q h. then_widens (items_after setting 41 p []) (items_after wide 41 q []) (list_end setting p (on setting)) (list_end wide q (on wide))
           (items_widen 41 p q [] h) (λ items. end_widens (on setting) (on wide) (λ m. completed_widens depth call false false m) p q items h))
       gathered_widens call (Until close) =
-          let on : Setting → Material → Plan Found = λ by m. completed by depth call false false m in
-          opened_widens may may2 (λ p. then_plan (items_after setting close p []) (undotted (on setting))) (λ q. then_plan (items_after wide close q []) (undotted (on wide))) inside
-          (λ p q h. then_widens (items_after setting close p []) (items_after wide close q []) (undotted (on setting)) (undotted (on wide)) (items_widen close p q [] h)
+          let on : Setting → Material → Plan Found = λ by m. completed_call by depth call false false m in
+          opened_widens may may2 (λ p. then_plan (items_after setting close p []) (undotted_plan (on setting))) (λ q. then_plan (items_after wide close q []) (undotted_plan (on wide))) inside
+          (λ p q h. then_widens (items_after setting close p []) (items_after wide close q []) (undotted_plan (on setting)) (undotted_plan (on wide)) (items_widen close p q [] h)
           (λ items. undotted_widens (on setting) (on wide) (λ m. completed_widens depth call false false m) items))
       gathered_widens call (Text close) =
-          then_widens (text_to setting close []) (text_to wide close []) (λ cs. completed setting depth call false false (letters cs))
-          (λ cs. completed wide depth call false false (letters cs)) (text_widens close []) (λ cs. completed_widens depth call false false (letters cs))
+          then_widens (text_to setting close []) (text_to wide close []) (λ cs. completed_call setting depth call false false (letters cs))
+          (λ cs. completed_call wide depth call false false (letters cs)) (text_widens close []) (λ cs. completed_widens depth call false false (letters cs))
       gathered_widens call (Line keep) =
-          then_widens (line_after setting keep []) (line_after wide keep []) (λ cs. completed setting depth call false false (letters cs))
-          (λ cs. completed wide depth call false false (letters cs)) (line_widens keep []) (λ cs. completed_widens depth call false false (letters cs))
+          then_widens (line_after setting keep []) (line_after wide keep []) (λ cs. completed_call setting depth call false false (letters cs))
+          (λ cs. completed_call wide depth call false false (letters cs)) (line_widens keep []) (λ cs. completed_widens depth call false false (letters cs))
       gathered_widens call Block =
-          then_widens (block_after setting (0, 0)) (block_after wide (0, 0)) (λ u. completed setting depth call false false no_material)
-          (λ u. completed wide depth call false false no_material) (block_widens (0, 0)) (λ u. completed_widens depth call false false no_material)
+          then_widens (block_after setting (0, 0)) (block_after wide (0, 0)) (λ u. completed_call setting depth call false false no_material)
+          (λ u. completed_call wide depth call false false no_material) (block_widens (0, 0)) (λ u. completed_widens depth call false false no_material)
       gathered_widens call Token = token_call_widens false call
       gathered_widens call EscapedToken = token_call_widens true call
 
@@ -321,7 +321,7 @@ module _ (setting : Setting) (wider : Limits) where
       way_widens call None = refuses_widens OUT_OF_PROFILE 1 (refuses OUT_OF_PROFILE 1)
       way_widens call (Some way) = gathered_widens call way
 
-      called_widens : (call : InvokedCall) → Widens (called setting depth may call) (called wide depth may2 call)
+      called_widens : (call : InvokedCall) → Widens (call_plan setting depth may call) (call_plan wide depth may2 call)
       called_widens call = way_widens call (way_in setting call)
 
       sub_widens : (c sub : ℕ) (number : Option ℕ) (name : Option (List ℕ))
@@ -340,8 +340,8 @@ module _ (setting : Setting) (wider : Limits) where
       macro_widens c None = refuses_widens OUT_OF_PROFILE 1 (refuses OUT_OF_PROFILE 1)
       macro_widens c (Some name) =
           let call : InvokedCall = record { function = function_of name; character = c; sub = None; number = None } in
-          if_widens (is_dispatch_name name) (dispatch_plan setting depth may c None) (called setting depth may call)
-          (dispatch_plan wide depth may2 c None) (called wide depth may2 call) (dispatched_widens c) (called_widens call)
+          if_widens (is_dispatch_name name) (dispatch_plan setting depth may c None) (call_plan setting depth may call)
+          (dispatch_plan wide depth may2 c None) (call_plan wide depth may2 call) (dispatched_widens c) (called_widens call)
 
       alone_widens : (c : ℕ) (s : Syntax) → Widens (alone setting depth may c s) (alone wide depth may2 c s)
       alone_widens c Whitespace = gives_widens (nothing false)

@@ -2,12 +2,12 @@
 use Rattle.std.specs.Prelude.{◌≡◌, ◌≤◌, length, Some}
 use Rattle.lisp_object.specs.Object.{Object, symbol, uninterned, AllAtoms, object_depth}
 use Rattle.package_table.specs.Table.{Name, Table as Packages}
-use Rattle.package_table.specs.Lookup.{found}
+use Rattle.package_table.specs.Lookup.{home_by_name}
 
 -- The home of an interned symbol finds no other symbol by its name, and the name of an uninterned one has at most 4,096
 -- characters.
 abbrev pub FitsPackages : Packages → Object → Type 0
-FitsPackages packages (symbol home name) = (h : Name) → found packages home name ≡ Some h → h ≡ home
+FitsPackages packages (symbol home name) = (h : Name) → home_by_name packages home name ≡ Some h → h ≡ home
 FitsPackages packages (uninterned name) = length name ≤ 4096
 FitsPackages packages _ = Unit {0}
 

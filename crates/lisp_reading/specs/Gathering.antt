@@ -31,14 +31,14 @@ text_turn table terminator more cs = next_byte (λ c.
 -- ---- characters up to a newline (10), which is taken and dropped, or up to the end of the input
 
 -- the characters that are gathered where this one comes
-abbrev pub kept : Keep → List ℕ → ℕ → List ℕ
-kept Kept cs c = cs ++ c ∷ []
-kept Dropped cs c = cs
+abbrev pub kept_characters : Keep → List ℕ → ℕ → List ℕ
+kept_characters Kept cs c = cs ++ c ∷ []
+kept_characters Dropped cs c = cs
 
 -- a character of a line (standard 2.4.4): a newline ends it, and so does the end of the input
 abbrev pub line_turn : Keep → (List ℕ → Plan (List ℕ)) → List ℕ → Plan (List ℕ)
 line_turn keep more cs =
-    takes (gives cs) (λ c. true) (character (λ c. elim (c == 10) [ true ↦ gives cs | false ↦ more (kept keep cs c) ]))
+    takes (gives cs) (λ c. true) (character (λ c. elim (c == 10) [ true ↦ gives cs | false ↦ more (kept_characters keep cs c) ]))
 
 -- ---- a block: up to a bar (124) and # (35) that close it, nested, pairs taken from the left
 

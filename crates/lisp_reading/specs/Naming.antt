@@ -9,7 +9,7 @@ use Rattle.token_scan.specs.declared.mark.Mark.{Mark}
 use Rattle.token_meaning.specs.declared.refusal.MeaningRefusal.{MeaningRefusal}
 use Rattle.token_meaning.specs.declared.token.TokenName.{TokenName}
 use Rattle.token_meaning.specs.declared.token.TokenName.TheVariants.{Unqualified, Keyword, External, Internal}
-use Rattle.token_meaning.specs.Folding.{folded}
+use Rattle.token_meaning.specs.Folding.{folded_marks}
 use Rattle.token_meaning.specs.Meanings.{Meaning, number, dot, name, meaning_of}
 use Rattle.token_meaning.specs.Results.{meaning_refusal_number}
 use Rattle.package_table.specs.declared.resolve.Resolved.{Resolved}
@@ -46,7 +46,7 @@ told_meaning packages current (Err refusal) = Err (meaning_refusal_number refusa
 
 -- the meaning of a token with these marks, or the number of its refusal
 abbrev pub token_meant : Setting → List Mark → Result Told ℕ
-token_meant setting marks = told_meaning setting.packages setting.current (meaning_of setting.base (folded setting.table.letters marks))
+token_meant setting marks = told_meaning setting.packages setting.current (meaning_of setting.base (folded_marks setting.table.letters marks))
 
 -- ---- what the calls answer
 

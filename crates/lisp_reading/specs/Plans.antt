@@ -75,18 +75,18 @@ stands_below limit EndOfFile at = nat_le at limit
 stands_below limit _ at = nat_lt at limit
 
 -- a token under the limit of the text
-abbrev pub limited : {A : Type 0} → ℕ → Result A TokenFault → (A → ℕ) → Result A Fault
-limited limit (Ok p) end_of = elim (nat_le (end_of p) limit) [ true ↦ Ok p | false ↦ Err (record { number = FORM_TOO_LONG; at = limit }) ]
-limited limit (Err e) end_of =
+abbrev pub limited_token : {A : Type 0} → ℕ → Result A TokenFault → (A → ℕ) → Result A Fault
+limited_token limit (Ok p) end_of = elim (nat_le (end_of p) limit) [ true ↦ Ok p | false ↦ Err (record { number = FORM_TOO_LONG; at = limit }) ]
+limited_token limit (Err e) end_of =
     elim (stands_below limit e.refusal e.at) [
       | true ↦ Err (record { number = scan_refusal_number e.refusal; at = e.at })
       | false ↦ Err (record { number = FORM_TOO_LONG; at = limit })
     ]
 
 -- a token; if it says so, one whose first character is taken as an escaped one
-abbrev pub scanned : Bool → Table → ℕ → ℕ → List ℕ → ScannedBytes
-scanned false table limit at text = token_in table limit at text
-scanned true table limit at text = escaped_token_in table limit at text
+abbrev pub token_at_front : Bool → Table → ℕ → ℕ → List ℕ → ScannedBytes
+token_at_front false table limit at text = token_in table limit at text
+token_at_front true table limit at text = escaped_token_in table limit at text
 
 -- Offsets count the bytes from the object's start.
 unfoldable pub run : {A : Type 0} → Table → Limits → Plan A → ℕ → List ℕ → Read A
@@ -99,7 +99,7 @@ run table limits (takes other test on) at (c ∷ cs) =
       | false ↦ run table limits other at (c ∷ cs)
     ]
 run table limits (scans escaped limit on) at text =
-    elim (limited limits.text (scanned escaped table limit at text) (λ p. p.1)) [
+    elim (limited_token limits.text (token_at_front escaped table limit at text) (λ p. p.1)) [
       | Ok p ↦ run table limits (on p.0) p.1 p.2
       | Err e ↦ Err e
     ]

@@ -112,9 +112,9 @@ abbrev pub items_after : Setting → ℕ → Plan Found → List Object → Plan
 items_after setting close attempt xs = loop setting.limits (items_turn setting close attempt) xs
 
 -- no dot may stand among them
-abbrev pub undotted : (Material → Plan Found) → Items → Plan Found
-undotted on (xs, true) = on (many xs)
-undotted on (xs, false) = refuses DOT_CONTEXT 0
+abbrev pub undotted_plan : (Material → Plan Found) → Items → Plan Found
+undotted_plan on (xs, true) = on (many xs)
+undotted_plan on (xs, false) = refuses DOT_CONTEXT 0
 
 -- ---- lists: 41 closes them
 
@@ -155,10 +155,10 @@ bytes_back NumericArgument = 1
 bytes_back _ = 0
 
 -- the value of a standard function; the test says whether a token ends the call
-abbrev pub finished : Bool → Value → Plan Found
-finished token (Ok (Some x)) = gives (one token x)
-finished token (Ok None) = gives (nothing false)
-finished token (Err refusal) = refuses (std_refusal_number refusal) (bytes_back refusal)
+abbrev pub finished_plan : Bool → Value → Plan Found
+finished_plan token (Ok (Some x)) = gives (one token x)
+finished_plan token (Ok None) = gives (nothing false)
+finished_plan token (Err refusal) = refuses (std_refusal_number refusal) (bytes_back refusal)
 
 -- The answer of a function of a user under a limit of nesting at this depth: whether a token ends the call, and whether a token
 -- ends an object in it. Where no value is given, only an object has its one whitespace character discarded with it.
@@ -175,43 +175,43 @@ plan_after_answer packages nesting depth token spaced (answer_refused number) = 
 -- what the function gives for what was gathered
 abbrev pub completed_by : Setting → ℕ → InvokedCall → Function → Bool → Bool → Material → Plan Found
 completed_by setting depth call (AStandard kind) token spaced material =
-    finished token (value_of kind setting.table.letters call.number material)
+    finished_plan token (value_of kind setting.table.letters call.number material)
 completed_by setting depth call (User name) token spaced material =
     plan_after_answer setting.packages setting.limits.nesting depth token spaced (setting.answer name (macro_call call material))
 
 -- what the function of the call gives for it
-abbrev pub completed : Setting → ℕ → InvokedCall → Bool → Bool → Material → Plan Found
-completed setting depth call token spaced material = completed_by setting depth call call.function token spaced material
+abbrev pub completed_call : Setting → ℕ → InvokedCall → Bool → Bool → Material → Plan Found
+completed_call setting depth call token spaced material = completed_by setting depth call call.function token spaced material
 
 -- ---- calls
 
 -- a call that reads objects, where one more may be open
-abbrev pub opened : Option (Plan Found) → (Plan Found → Plan Found) → Plan Found
-opened None on = refuses TOO_DEEP 1
-opened (Some attempt) on = on attempt
+abbrev pub opened_plan : Option (Plan Found) → (Plan Found → Plan Found) → Plan Found
+opened_plan None on = refuses TOO_DEEP 1
+opened_plan (Some attempt) on = on attempt
 
 -- what a call gathers by the way of its function, and then what the function gives for that
 abbrev pub gathering_plan : Setting → ℕ → Option (Plan Found) → InvokedCall → Way → Plan Found
-gathering_plan setting depth inner call Nothing = completed setting depth call false false no_material
+gathering_plan setting depth inner call Nothing = completed_call setting depth call false false no_material
 gathering_plan setting depth inner call Next =
-    opened inner (λ attempt. then_plan (next_item setting None attempt)
-    (one_piece (λ token x. completed setting depth call token token (one_object x))))
+    opened_plan inner (λ attempt. then_plan (next_item setting None attempt)
+    (one_piece (λ token x. completed_call setting depth call token token (one_object x))))
 gathering_plan setting depth inner call AList =
-    opened inner (λ attempt. then_plan (items_after setting 41 attempt [])
-    (list_end setting attempt (λ m. completed setting depth call false false m)))
+    opened_plan inner (λ attempt. then_plan (items_after setting 41 attempt [])
+    (list_end setting attempt (λ m. completed_call setting depth call false false m)))
 gathering_plan setting depth inner call (Until close) =
-    opened inner (λ attempt. then_plan (items_after setting close attempt [])
-    (undotted (λ m. completed setting depth call false false m)))
+    opened_plan inner (λ attempt. then_plan (items_after setting close attempt [])
+    (undotted_plan (λ m. completed_call setting depth call false false m)))
 gathering_plan setting depth inner call (Text close) =
-    then_plan (text_to setting close []) (λ cs. completed setting depth call false false (letters cs))
+    then_plan (text_to setting close []) (λ cs. completed_call setting depth call false false (letters cs))
 gathering_plan setting depth inner call (Line keep) =
-    then_plan (line_after setting keep []) (λ cs. completed setting depth call false false (letters cs))
+    then_plan (line_after setting keep []) (λ cs. completed_call setting depth call false false (letters cs))
 gathering_plan setting depth inner call Block =
-    then_plan (block_after setting (0, 0)) (λ u. completed setting depth call false false no_material)
+    then_plan (block_after setting (0, 0)) (λ u. completed_call setting depth call false false no_material)
 gathering_plan setting depth inner call Token =
-    scans false setting.limits.token (λ marks. completed setting depth call true false (marked marks))
+    scans false setting.limits.token (λ marks. completed_call setting depth call true false (marked marks))
 gathering_plan setting depth inner call EscapedToken =
-    scans true setting.limits.token (λ marks. completed setting depth call true false (marked marks))
+    scans true setting.limits.token (λ marks. completed_call setting depth call true false (marked marks))
 
 -- a name of no function is outside the profile
 abbrev pub gathered_by : Setting → ℕ → Option (Plan Found) → InvokedCall → Option Way → Plan Found
@@ -219,8 +219,8 @@ gathered_by setting depth inner call None = refuses OUT_OF_PROFILE 1
 gathered_by setting depth inner call (Some way) = gathering_plan setting depth inner call way
 
 -- a call of a function, by the way that is the function's
-abbrev pub called : Setting → ℕ → Option (Plan Found) → InvokedCall → Plan Found
-called setting depth inner call = gathered_by setting depth inner call (way_in setting call)
+abbrev pub call_plan : Setting → ℕ → Option (Plan Found) → InvokedCall → Plan Found
+call_plan setting depth inner call = gathered_by setting depth inner call (way_in setting call)
 
 -- ---- dispatch: a number and a sub-character, which is taken in upper case
 
@@ -228,7 +228,7 @@ called setting depth inner call = gathered_by setting depth inner call (way_in s
 abbrev pub sub_called : Setting → ℕ → Option (Plan Found) → ℕ → ℕ → Option ℕ → Option (List ℕ) → Plan Found
 sub_called setting depth inner c sub number None = refuses NO_DISPATCH 1
 sub_called setting depth inner c sub number (Some name) =
-    called setting depth inner (record { function = function_of name; character = c; sub = Some (upper_case sub); number = number })
+    call_plan setting depth inner (record { function = function_of name; character = c; sub = Some (upper_case sub); number = number })
 
 -- the sub-character, which is any character that is no digit
 abbrev pub sub_there : Setting → ℕ → Option (Plan Found) → ℕ → Option ℕ → Plan Found
@@ -245,7 +245,7 @@ macro_called setting depth inner c None = refuses OUT_OF_PROFILE 1
 macro_called setting depth inner c (Some name) =
     elim (is_dispatch_name name) [
       | true ↦ dispatch_plan setting depth inner c None
-      | false ↦ called setting depth inner (record { function = function_of name; character = c; sub = None; number = None })
+      | false ↦ call_plan setting depth inner (record { function = function_of name; character = c; sub = None; number = None })
     ]
 
 -- ---- objects

@@ -5,9 +5,9 @@ ghost use Rattle.lisp_object.specs.Ascii.{is_ascii};
 ghost use Rattle.package_table.specs.Table.{IsPackage};
 ghost use Rattle.package_table.specs.Resolving.{home_of, resolution_of};
 ghost use Rattle.token_scan.specs.Marks.{are_ascii};
-ghost use Rattle.token_meaning.specs.Folding.{folded};
+ghost use Rattle.token_meaning.specs.Folding.{folded_marks};
 ghost use Rattle.token_meaning.specs.Meanings.{meaning_of};
-ghost use Rattle.token_meaning.specs.Results.{is_ascii_name, view_meaning, IsProperNumber, IsAsciiName};
+ghost use Rattle.token_meaning.specs.Results.{is_ascii_name, view_meaning, IsProperNumber, HasAsciiName};
 ghost use Rattle.lisp_reading.specs.declared.told.TellError.TheVariants.{OutOfMemory};
 ghost use Rattle.lisp_reading.specs.Naming.{named, symbol_at, symbol_in, told_meaning, TellsMeaning, view_resolved, view_home};
 
@@ -63,7 +63,7 @@ pub fn tell(
     requires highest_base { base ≤ 36 }
     requires current { IsPackage packages.now.0 current.now }
     ensures tells { TellsMeaning result
-        (told_meaning packages.now.0 current.now (meaning_of base (folded case marks.items))) }
+        (told_meaning packages.now.0 current.now (meaning_of base (folded_marks case marks.items))) }
 {
     fold_case(case, marks.as_mut_slice());
     match meaning(alloc, marks.as_slice(), base) {
@@ -81,7 +81,7 @@ fn tell_meaning(
     meant: TokenMeaning,
 ) -> Result<Told, TellError>
     requires proper { IsProperNumber meant }
-    requires ascii { IsAsciiName meant }
+    requires ascii { HasAsciiName meant }
     requires current { IsPackage packages.now.0 current.now }
     ensures tells { TellsMeaning result (told_meaning packages.now.0 current.now (Ok (view_meaning meant))) }
 {

@@ -9,7 +9,7 @@ use Rattle.message_frames.specs.declared.frame.Keyword.{Keyword}
 use Rattle.message_frames.specs.declared.frame.Keyword.TheVariants as keyword
 use Rattle.message_frames.specs.declared.frame.Kind.{Kind}
 use Rattle.message_frames.specs.declared.frame.Kind.TheVariants.{Do, Ask}
-use Rattle.message_frames.specs.Frames.{IsFrame, IsKind, Sent, frame_bytes, sized}
+use Rattle.message_frames.specs.Frames.{IsFrame, IsKind, Sent, frame_bytes, sized_text}
 use Rattle.message_frames.specs.Reading.{IsMessage, keyword_bytes, message_bytes}
 use Rattle.message_frames.specs.Words.{Begins, BeginsNone, IsPart, Reads}
 
@@ -21,7 +21,7 @@ abbrev pub question_of : List ℕ → Sent
 question_of text = (Ask, text)
 
 pub message_parts : (message : ℕ × List ℕ) → frame_bytes (message_of message) ≡ codes "do " ++ message_bytes message
-message_parts message = append_assoc (codes "do ") (decimal message.0 ++ 32 ∷ []) (sized message.1)
+message_parts message = append_assoc (codes "do ") (decimal message.0 ++ 32 ∷ []) (sized_text message.1)
 
 -- ---- messages
 
@@ -61,13 +61,13 @@ module _ (limit : ℕ) (rest bytes : List ℕ) (first : Begins keyword_bytes (λ
 -- ---- questions
 
 module _ (limit : ℕ) (rest bytes : List ℕ) (first : Begins keyword_bytes (λ _. Unit {0}) keyword.Ask rest bytes) where
-  pub question_begins : (text after : List ℕ) → Begins sized (λ t. length t ≤ limit) text after rest → Begins frame_bytes (IsFrame limit) (question_of text) after bytes
+  pub question_begins : (text after : List ℕ) → Begins sized_text (λ t. length t ≤ limit) text after rest → Begins frame_bytes (IsFrame limit) (question_of text) after bytes
   question_begins text after second = record {
     wanted = record { kind = tt; text = second.wanted };
-    parts = first.parts ∙ ap (λ z. codes "ask " ++ z) second.parts ∙ sym (append_assoc (codes "ask ") (sized text) after);
+    parts = first.parts ∙ ap (λ z. codes "ask " ++ z) second.parts ∙ sym (append_assoc (codes "ask ") (sized_text text) after);
   }
 
-  pub question_is_part : IsPart sized (λ t. length t ≤ limit) rest → IsPart frame_bytes (IsFrame limit) bytes
+  pub question_is_part : IsPart sized_text (λ t. length t ≤ limit) rest → IsPart frame_bytes (IsFrame limit) bytes
   question_is_part part = record {
     x = question_of part.x;
     more = part.more;
@@ -76,7 +76,7 @@ module _ (limit : ℕ) (rest bytes : List ℕ) (first : Begins keyword_bytes (λ
     some = part.some;
   }
 
-  no_question : BeginsNone sized (λ t. length t ≤ limit) rest → (kind : Kind) (text more after : List ℕ) → IsKind kind → length text ≤ limit
+  no_question : BeginsNone sized_text (λ t. length t ≤ limit) rest → (kind : Kind) (text more after : List ℕ) → IsKind kind → length text ≤ limit
       → bytes ++ more ≡ frame_bytes (kind, text) ++ after → ⊥
   no_question none (Do number) text more after wanted within e =
       let left : get_or (bytes ++ more) 0 0 ≡ 97 = ap (λ z. get_or (z ++ more) 0 0) first.parts in
@@ -84,10 +84,10 @@ module _ (limit : ℕ) (rest bytes : List ℕ) (first : Begins keyword_bytes (λ
       omega (arith, left, right)
   no_question none Ask text more after wanted within e =
       let left : bytes ++ more ≡ codes "ask " ++ (rest ++ more) = ap (λ z. z ++ more) first.parts ∙ append_assoc (codes "ask ") rest more in
-      let right : frame_bytes (Ask, text) ++ after ≡ codes "ask " ++ (sized text ++ after) = append_assoc (codes "ask ") (sized text) after in
+      let right : frame_bytes (Ask, text) ++ after ≡ codes "ask " ++ (sized_text text ++ after) = append_assoc (codes "ask ") (sized_text text) after in
       none text more after within (append_cancel_left (codes "ask ") _ _ (sym left ∙ e ∙ right))
 
-  pub question_begins_none : BeginsNone sized (λ t. length t ≤ limit) rest → BeginsNone frame_bytes (IsFrame limit) bytes
+  pub question_begins_none : BeginsNone sized_text (λ t. length t ≤ limit) rest → BeginsNone frame_bytes (IsFrame limit) bytes
   question_begins_none none frame more after wanted e = no_question none frame.0 frame.1 more after wanted.kind wanted.text e
 
 -- ---- no first word
@@ -104,9 +104,9 @@ part_of_keyword limit bytes part = goes_on part.x part.more part.parts part.some
   }
   goes_on keyword.Ask more parts some = record {
     x = question_of [];
-    more = more ++ sized [];
+    more = more ++ sized_text [];
     wanted = record { kind = tt; text = omega arith };
-    parts = ap (λ z. z ++ sized []) parts ∙ append_assoc bytes more (sized []);
+    parts = ap (λ z. z ++ sized_text []) parts ∙ append_assoc bytes more (sized_text []);
     some = simp length-append (omega (arith, some));
   }
 
@@ -115,7 +115,7 @@ no_keyword limit bytes none frame more after wanted e = of_kind frame.0 frame.1 
   of_kind : (kind : Kind) (text : List ℕ) → bytes ++ more ≡ frame_bytes (kind, text) ++ after → ⊥
   of_kind (Do number) text is = none keyword.Do more (message_bytes (number, text) ++ after) tt
       (is ∙ ap (λ z. z ++ after) (message_parts (number, text)) ∙ append_assoc (codes "do ") (message_bytes (number, text)) after)
-  of_kind Ask text is = none keyword.Ask more (sized text ++ after) tt (is ∙ append_assoc (codes "ask ") (sized text) after)
+  of_kind Ask text is = none keyword.Ask more (sized_text text ++ after) tt (is ∙ append_assoc (codes "ask ") (sized_text text) after)
 
 -- ---- why there is no frame
 
@@ -129,6 +129,6 @@ message_fault limit Begun rest bytes first part = message_is_part limit rest byt
 message_fault limit Malformed rest bytes first none = message_begins_none limit rest bytes first none
 
 pub question_fault : (limit : ℕ) (fault : NotWhole) (rest bytes : List ℕ) → Begins keyword_bytes (λ _. Unit {0}) keyword.Ask rest bytes
-    → Reads sized (λ t. length t ≤ limit) rest (Err fault) → Reads frame_bytes (IsFrame limit) bytes (Err fault)
+    → Reads sized_text (λ t. length t ≤ limit) rest (Err fault) → Reads frame_bytes (IsFrame limit) bytes (Err fault)
 question_fault limit Begun rest bytes first part = question_is_part limit rest bytes first part
 question_fault limit Malformed rest bytes first none = question_begins_none limit rest bytes first none

@@ -6,7 +6,7 @@ use Rattle.std.specs.Fmt.{decimal}
 use Rattle.std.proofs.lemmas.List.{append_cancel_left, append-nil, drop_at, take_at}
 use Rattle.message_frames.specs.declared.frame.Kind.{Kind}
 use Rattle.message_frames.specs.declared.frame.Kind.TheVariants.{Do, Ask}
-use Rattle.message_frames.specs.Frames.{IsBegunFrame, IsFrame, IsKind, IsMalformed, Sent, answer_bytes, frame_bytes, sized}
+use Rattle.message_frames.specs.Frames.{IsBegunFrame, IsFrame, IsKind, IsMalformed, Sent, answer_bytes, frame_bytes, sized_text}
 use Rattle.message_frames.specs.Lists.{AnswersAreReadBack, SplitsOneWay}
 use Rattle.message_frames.specs.Numbers.{number_word}
 use Rattle.std.proofs.lemmas.Fmt.{decimal_nonempty}
@@ -18,10 +18,10 @@ abbrev Same : Sent → Sent → Type 0
 Same f g = f ≡ g
 
 -- a text after its length ends in one place
-texts_end : (limit : ℕ) → limit < 2 ^ 64 → (s t a b : List ℕ) → length s ≤ limit → length t ≤ limit → sized s ++ a ≡ sized t ++ b → (s ≡ t) × (a ≡ b)
+texts_end : (limit : ℕ) → limit < 2 ^ 64 → (s t a b : List ℕ) → length s ≤ limit → length t ≤ limit → sized_text s ++ a ≡ sized_text t ++ b → (s ≡ t) × (a ≡ b)
 texts_end limit small s t a b within least e =
-    let left : sized s ++ a ≡ number_word 10 (length s) ++ (s ++ 10 ∷ a) = simp append_assoc in
-    let right : sized t ++ b ≡ number_word 10 (length t) ++ (t ++ 10 ∷ b) = simp append_assoc in
+    let left : sized_text s ++ a ≡ number_word 10 (length s) ++ (s ++ 10 ∷ a) = simp append_assoc in
+    let right : sized_text t ++ b ≡ number_word 10 (length t) ++ (t ++ 10 ∷ b) = simp append_assoc in
     let numbers = numbers_end 10 limit (omega arith) small (length s) (length t) (s ++ 10 ∷ a) (t ++ 10 ∷ b) within least (sym left ∙ e ∙ right) in
     let fronts : s ≡ t = sym (take_at s (10 ∷ a) (length s) refl) ∙ ap (λ z. take (length s) z) numbers.1 ∙ take_at t (10 ∷ b) (length s) (sym numbers.0) in
     let backs : 10 ∷ a ≡ 10 ∷ b = sym (drop_at s (10 ∷ a) (length s) refl) ∙ ap (λ z. drop (length s) z) numbers.1 ∙ drop_at t (10 ∷ b) (length s) (sym numbers.0) in
@@ -35,27 +35,27 @@ same_sent : (k : Kind) (s t a b : List ℕ) → (s ≡ t) × (a ≡ b) → Same 
 same_sent k s t a b same = (ap (λ z. (k, z)) same.0, same.1)
 
 numbered : (limit : ℕ) → limit < 2 ^ 64 → (m n : ℕ) (s t a b : List ℕ) → m < 2 ^ 64 → n < 2 ^ 64 → length s ≤ limit → length t ≤ limit
-    → (number_word 32 m ++ sized s) ++ a ≡ (number_word 32 n ++ sized t) ++ b → Same (Do m, s) (Do n, t) × (a ≡ b)
+    → (number_word 32 m ++ sized_text s) ++ a ≡ (number_word 32 n ++ sized_text t) ++ b → Same (Do m, s) (Do n, t) × (a ≡ b)
 numbered limit small m n s t a b wide far within least e =
-    let left = append_assoc (number_word 32 m) (sized s) a in
-    let right = append_assoc (number_word 32 n) (sized t) b in
-    let numbers = numbers_end 32 (2 ^ 64 - 1) (omega arith) (omega arith) m n (sized s ++ a) (sized t ++ b) (omega arith) (omega arith) (sym left ∙ e ∙ right) in
+    let left = append_assoc (number_word 32 m) (sized_text s) a in
+    let right = append_assoc (number_word 32 n) (sized_text t) b in
+    let numbers = numbers_end 32 (2 ^ 64 - 1) (omega arith) (omega arith) m n (sized_text s ++ a) (sized_text t ++ b) (omega arith) (omega arith) (sym left ∙ e ∙ right) in
     let texts = texts_end limit small s t a b within least numbers.1 in
     (ap (λ z. (Do z, s)) numbers.0 ∙ ap (λ z. (Do n, z)) texts.0, texts.1)
 
 questions_end : (limit : ℕ) → limit < 2 ^ 64 → (s t a b : List ℕ) → length s ≤ limit → length t ≤ limit
-    → (codes "ask " ++ sized s) ++ a ≡ (codes "ask " ++ sized t) ++ b → Same (Ask, s) (Ask, t) × (a ≡ b)
+    → (codes "ask " ++ sized_text s) ++ a ≡ (codes "ask " ++ sized_text t) ++ b → Same (Ask, s) (Ask, t) × (a ≡ b)
 questions_end limit small s t a b within least e =
-    let rest = append_cancel_left (codes "ask ") (sized s ++ a) (sized t ++ b) (sym (append_assoc (codes "ask ") (sized s) a) ∙ e ∙ append_assoc (codes "ask ") (sized t) b) in
+    let rest = append_cancel_left (codes "ask ") (sized_text s ++ a) (sized_text t ++ b) (sym (append_assoc (codes "ask ") (sized_text s) a) ∙ e ∙ append_assoc (codes "ask ") (sized_text t) b) in
     same_sent Ask s t a b (texts_end limit small s t a b within least rest)
 
 frames_end_by : (limit : ℕ) → limit < 2 ^ 64 → (j k : Kind) (s t a b : List ℕ) → IsKind j → IsKind k → length s ≤ limit → length t ≤ limit
     → frame_bytes (j, s) ++ a ≡ frame_bytes (k, t) ++ b → Same (j, s) (k, t) × (a ≡ b)
 frames_end_by limit small (Do m) (Do n) s t a b wide far within least e =
-    let left : frame_bytes (Do m, s) ++ a ≡ codes "do " ++ ((number_word 32 m ++ sized s) ++ a) =
-    ap (λ z. z ++ a) (message_parts (m, s)) ∙ append_assoc (codes "do ") (number_word 32 m ++ sized s) a in
-    let right : frame_bytes (Do n, t) ++ b ≡ codes "do " ++ ((number_word 32 n ++ sized t) ++ b) =
-    ap (λ z. z ++ b) (message_parts (n, t)) ∙ append_assoc (codes "do ") (number_word 32 n ++ sized t) b in
+    let left : frame_bytes (Do m, s) ++ a ≡ codes "do " ++ ((number_word 32 m ++ sized_text s) ++ a) =
+    ap (λ z. z ++ a) (message_parts (m, s)) ∙ append_assoc (codes "do ") (number_word 32 m ++ sized_text s) a in
+    let right : frame_bytes (Do n, t) ++ b ≡ codes "do " ++ ((number_word 32 n ++ sized_text t) ++ b) =
+    ap (λ z. z ++ b) (message_parts (n, t)) ∙ append_assoc (codes "do ") (number_word 32 n ++ sized_text t) b in
     numbered limit small m n s t a b wide far within least (append_cancel_left (codes "do ") _ _ (sym left ∙ e ∙ right))
 frames_end_by limit small (Do m) Ask s t a b wide far within least e = let first : 100 ≡ 97 = ap (λ z. get_or z 0 0) e in absurd (omega (arith, first))
 frames_end_by limit small Ask (Do n) s t a b wide far within least e = let first : 97 ≡ 100 = ap (λ z. get_or z 0 0) e in absurd (omega (arith, first))
@@ -99,8 +99,8 @@ splits_one_way limit small bytes frames others rest after splits parts =
 -- a number begins with a digit
 no_question : (m : ℕ) (s t a b : List ℕ) → m < 2 ^ 64 → answer_bytes (Do m, s) ++ a ≡ answer_bytes (Ask, t) ++ b → ⊥
 no_question m s t a b wide e = first_is_digit (decimal m) (decimal_has_digits m wide) (decimal_nonempty m wide)
-    (sym (append_assoc (number_word 32 m) (sized s) a ∙ append_assoc (decimal m) (32 ∷ []) (sized s ++ a)) ∙ e) where
-      first_is_digit : (ds : List ℕ) → AreDigits ds → 0 < length ds → ds ++ (32 ∷ (sized s ++ a)) ≡ answer_bytes (Ask, t) ++ b → ⊥
+    (sym (append_assoc (number_word 32 m) (sized_text s) a ∙ append_assoc (decimal m) (32 ∷ []) (sized_text s ++ a)) ∙ e) where
+      first_is_digit : (ds : List ℕ) → AreDigits ds → 0 < length ds → ds ++ (32 ∷ (sized_text s ++ a)) ≡ answer_bytes (Ask, t) ++ b → ⊥
       first_is_digit [] all some is = omega (arith, some)
       first_is_digit (c ∷ cs) all some is = let first : c ≡ 97 = ap (λ z. get_or z 0 0) is in omega (arith, first, all.0.1)
 

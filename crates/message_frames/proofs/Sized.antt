@@ -6,7 +6,7 @@ use Rattle.std.proofs.lemmas.List.{length-replicate, drop_at, drop_more, take-ap
 use Rattle.std.proofs.lemmas.Fmt.{decimal_injective}
 use Rattle.std.specs.Borrow.{Bor}
 use Rattle.message_frames.specs.declared.words.NotWhole.{NotWhole}
-use Rattle.message_frames.specs.Frames.{sized}
+use Rattle.message_frames.specs.Frames.{sized_text}
 use Rattle.message_frames.specs.Numbers.{number_word}
 use Rattle.message_frames.specs.Reading.{IsMessage, found_text, message_bytes}
 use Rattle.message_frames.specs.Words.{Begins, BeginsNone, IsPart, Reads}
@@ -61,7 +61,7 @@ line_is_part bytes count short =
 -- ---- a text after its length
 
 pub sized_is_made : (limit : ℕ) → limit < 2 ^ 64
-    → IsMade (number_word 10) (λ n. n ≤ limit) line (λ n text. length text ≡ n) sized (λ text. length text ≤ limit)
+    → IsMade (number_word 10) (λ n. n ≤ limit) line (λ n text. length text ≡ n) sized_text (λ text. length text ≤ limit)
 sized_is_made limit small = record {
   first = length;
   second = λ text. text;
@@ -77,15 +77,15 @@ sized_is_made limit small = record {
 }
 
 pub sized_goes_on : (limit : ℕ) → limit < 2 ^ 64 → (n : ℕ) (rest bytes : List ℕ) → Begins (number_word 10) (λ m. m ≤ limit) n rest bytes
-    → (result : Result (Bor (List ℕ) × Bor (List ℕ)) NotWhole) → Reads line (λ text. length text ≡ n) rest (found_text result) → Reads sized (λ text. length text ≤ limit) bytes (found_text result)
+    → (result : Result (Bor (List ℕ) × Bor (List ℕ)) NotWhole) → Reads line (λ text. length text ≡ n) rest (found_text result) → Reads sized_text (λ text. length text ≤ limit) bytes (found_text result)
 unfolding sized_is_made
-sized_goes_on limit small n rest bytes first (Ok found) second = both_begin (number_word 10) _ line _ sized _ (sized_is_made limit small) n found.0.now rest found.1.now bytes first second
-sized_goes_on limit small n rest bytes first (Err fault) second = fault_in_tail (number_word 10) _ line _ sized _ (sized_is_made limit small) fault n rest bytes first second
+sized_goes_on limit small n rest bytes first (Ok found) second = both_begin (number_word 10) _ line _ sized_text _ (sized_is_made limit small) n found.0.now rest found.1.now bytes first second
+sized_goes_on limit small n rest bytes first (Err fault) second = fault_in_tail (number_word 10) _ line _ sized_text _ (sized_is_made limit small) fault n rest bytes first second
 
 -- ---- a message after its first word
 
 pub message_is_made : (limit : ℕ)
-    → IsMade (number_word 32) (λ n. n ≤ 2 ^ 64 - 1) sized (λ n text. length text ≤ limit) message_bytes (IsMessage limit)
+    → IsMade (number_word 32) (λ n. n ≤ 2 ^ 64 - 1) sized_text (λ n text. length text ≤ limit) message_bytes (IsMessage limit)
 message_is_made limit = record {
   first = λ message. message.0;
   second = λ message. message.1;

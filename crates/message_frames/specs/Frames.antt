@@ -8,8 +8,8 @@ use Rattle.message_frames.specs.declared.frame.MessageFrame.{MessageFrame}
 use Rattle.message_frames.specs.Words.{IsPart, BeginsNone}
 
 -- a text after its length: the length and the text, on lines of their own
-abbrev pub sized : List ℕ → List ℕ
-sized text = decimal (length text) ++ 10 ∷ (text ++ 10 ∷ [])
+abbrev pub sized_text : List ℕ → List ℕ
+sized_text text = decimal (length text) ++ 10 ∷ (text ++ 10 ∷ [])
 
 -- a frame, or an answer: its kind and its text
 abbrev pub Sent : Type 0
@@ -27,11 +27,11 @@ answer_head Ask = codes "ask "
 
 -- a frame as it is sent
 abbrev pub frame_bytes : Sent → List ℕ
-frame_bytes frame = frame_head frame.0 ++ sized frame.1
+frame_bytes frame = frame_head frame.0 ++ sized_text frame.1
 
 -- an answer as it is sent
 abbrev pub answer_bytes : Sent → List ℕ
-answer_bytes answer = answer_head answer.0 ++ sized answer.1
+answer_bytes answer = answer_head answer.0 ++ sized_text answer.1
 
 -- the line that tells a position
 abbrev pub position_bytes : ℕ → List ℕ
@@ -56,8 +56,8 @@ abbrev pub IsMalformed : ℕ → List ℕ → Type 0
 IsMalformed limit = BeginsNone frame_bytes (IsFrame limit)
 
 -- a frame in memory
-abbrev pub sent : MessageFrame → Sent
-sent frame = (frame.kind, frame.text.now)
+abbrev pub sent_frame : MessageFrame → Sent
+sent_frame frame = (frame.kind, frame.text.now)
 
 -- these bytes are these frames, one after the other, and then others
 pub record AreFrames (limit : ℕ) (frames : List Sent) (rest bytes : List ℕ) : Type 0 where

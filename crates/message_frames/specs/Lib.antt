@@ -4,4 +4,4 @@ pub mod Lists
 pub mod Numbers
 pub mod Reading
 pub mod Words
-pub mod Written
+pub mod WrittenFrames

@@ -6,11 +6,11 @@ use Rattle.message_frames.specs.declared.words.NotWhole.{NotWhole}
 use Rattle.message_frames.specs.declared.frame.MessageFrame.{MessageFrame}
 use Rattle.message_frames.specs.declared.frame.Keyword.{Keyword}
 use Rattle.message_frames.specs.declared.frame.Keyword.TheVariants as keyword
-use Rattle.message_frames.specs.Frames.{Sent, sent, sized}
+use Rattle.message_frames.specs.Frames.{Sent, sent_frame, sized_text}
 
 -- a frame that was found, and what stands after it
 abbrev pub found_frame : Result (MessageFrame × Bor (List ℕ)) NotWhole → Result (Sent × List ℕ) NotWhole
-found_frame (Ok found) = Ok (sent found.0, found.1.now)
+found_frame (Ok found) = Ok (sent_frame found.0, found.1.now)
 found_frame (Err fault) = Err fault
 
 -- a text that was found, and what stands after it
@@ -35,7 +35,7 @@ found_message (Err fault) = Err fault
 
 -- the number and the text of a message, after its first word
 abbrev pub message_bytes : ℕ × List ℕ → List ℕ
-message_bytes message = (decimal message.0 ++ 32 ∷ []) ++ sized message.1
+message_bytes message = (decimal message.0 ++ 32 ∷ []) ++ sized_text message.1
 
 -- the number and the text of a message are within their limits
 abbrev pub IsMessage : ℕ → ℕ × List ℕ → Type 0

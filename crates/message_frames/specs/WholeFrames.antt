@@ -5,7 +5,7 @@ use Rattle.message_frames.specs.declared.held.Next.TheVariants as next
 use Rattle.message_frames.specs.declared.held.Whole.{Whole}
 use Rattle.message_frames.specs.declared.words.NotWhole.{NotWhole}
 use Rattle.message_frames.specs.declared.words.NotWhole.TheVariants as not_whole
-use Rattle.message_frames.specs.Frames.{AreFrames, IsBegunFrame, IsMalformed, sent}
+use Rattle.message_frames.specs.Frames.{AreFrames, IsBegunFrame, IsMalformed, sent_frame}
 
 -- what is told where no whole frame is there
 abbrev pub next_after : NotWhole → Next
@@ -20,7 +20,7 @@ FrameFollows limit most count rest next.Unread = count ≡ most
 
 -- the bytes are these frames, at most so many, and what comes after them
 pub record AreWhole (limit most : ℕ) (bytes : List ℕ) (whole : Whole) : Type 0 where
-  pub frames : AreFrames limit (map sent whole.frames.items) (drop whole.bytes bytes) bytes
+  pub frames : AreFrames limit (map sent_frame whole.frames.items) (drop whole.bytes bytes) bytes
   pub within : whole.bytes ≤ length bytes
   pub at_most : length whole.frames.items ≤ most
   pub follows : FrameFollows limit most (length whole.frames.items) (drop whole.bytes bytes) whole.next

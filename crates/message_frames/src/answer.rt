@@ -1,8 +1,8 @@
 //! What is written: answers, and the position.
 ghost use Rattle.std.specs.Prelude.{◌≡◌, ◌++◌, OnOk};
-ghost use Rattle.message_frames.specs.Frames.{answer_bytes, answer_head, position_bytes, sized};
+ghost use Rattle.message_frames.specs.Frames.{answer_bytes, answer_head, position_bytes, sized_text};
 ghost use Rattle.message_frames.specs.Numbers.{number_word};
-ghost use Rattle.message_frames.specs.Written.{Appends};
+ghost use Rattle.message_frames.specs.WrittenFrames.{Appends};
 
 use crate::frame::Kind;
 use itoa::Buffer;

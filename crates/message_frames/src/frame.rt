@@ -1,6 +1,6 @@
 //! Frames, and how one is read.
 ghost use Rattle.std.specs.Prelude.{◌≡◌, ◌≤◌, ◌++◌, ◌∷◌, [], length};
-ghost use Rattle.message_frames.specs.Frames.{IsFrame, frame_bytes, sized};
+ghost use Rattle.message_frames.specs.Frames.{IsFrame, frame_bytes, sized_text};
 ghost use Rattle.message_frames.specs.Reading.{IsMessage, found_frame, found_keyword, found_message, found_text, keyword_bytes, message_bytes};
 ghost use Rattle.message_frames.specs.Words.{Reads};
 
@@ -88,7 +88,7 @@ fn read_message(bytes: &[u8], limit: usize) -> Result<((u64, &[u8]), &[u8]), Not
 
 // A text of at most so many bytes, after its length.
 fn read_sized(bytes: &[u8], limit: usize) -> Result<(&[u8], &[u8]), NotWhole>
-    ensures { Reads sized (λ text. length text ≤ limit) bytes.now (found_text result) }
+    ensures { Reads sized_text (λ text. length text ≤ limit) bytes.now (found_text result) }
 {
     match read_number(bytes, limit as u64, b'\n') {
         Ok((count, rest)) => read_line(rest, count as usize),

@@ -18,7 +18,7 @@ use Rattle.evaluator.proofs.Induction.{Operators, Steps, every_value}
 use Rattle.form_eval.specs.Acceptance.{accept, accepted_by as accepted_with, with_symbols}
 use Rattle.session_words.specs.declared.mode.Mode.{Mode}
 use Rattle.prevalence_store.specs.calls.ExecuteAll.{world_left_after}
-use Rattle.prevalence_store.specs.meaning.Acceptance.{Acceptance, acceptance_of, accepted_of, accepts, between, read_in, transacted}
+use Rattle.prevalence_store.specs.meaning.Acceptance.{Acceptance, acceptance_of, accepted_of, accepts, between, read_in, transaction_value}
 use Rattle.prevalence_store.specs.meaning.Forgetting.{forgetting, is_forgetting}
 use Rattle.user_macros.specs.Functions.{Functions}
 use Rattle.message_laws.specs.NearRounds.{IsTidy}
@@ -95,7 +95,7 @@ module _ (names : List Name) where
   accepted_tidy s x = after_symbols s (with_symbols s.packages (symbols x)) x
 
   -- FORGET-NAMES leaves the property lists as they are
-  transacted_tidy : (s : WorldState) (x : Object) → Keeps s (transacted names s x)
+  transacted_tidy : (s : WorldState) (x : Object) → Keeps s (transaction_value names s x)
   transacted_tidy s x = by_test (is_forgetting x)
     where
       by_test : (forgets : Bool) → Keeps s (if forgets then forgetting s else accept names s x)
@@ -110,8 +110,8 @@ module _ (functions : Functions) (s : WorldState) (tidy : IsTidy s.properties) w
   of_evaluation text (Ok d) keeps = keeps.kept tidy
   of_evaluation text (Err number) keeps = tidy
 
-  of_form : (own : List ℕ) (x : Object) (whole : Bool) → IsTidyAfter (if whole then acceptance_of own (transacted functions.names s x) else Err 26)
-  of_form own x true = of_evaluation own (transacted functions.names s x) (transacted_tidy functions.names s x)
+  of_form : (own : List ℕ) (x : Object) (whole : Bool) → IsTidyAfter (if whole then acceptance_of own (transaction_value functions.names s x) else Err 26)
+  of_form own x true = of_evaluation own (transaction_value functions.names s x) (transacted_tidy functions.names s x)
   of_form own x false = tidy
 
   of_reading : (text : List ℕ) (read : Reading) → IsTidyAfter (accepted_of functions s text read)

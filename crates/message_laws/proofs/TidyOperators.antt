@@ -19,8 +19,8 @@ use Rattle.plist_state.specs.State.{Readtables, WorldState, standard_name}
 use Rattle.plist_state.specs.Changes.{plist, property, without_property, after_in_readtable, with_case, with_macro, with_dispatching, with_dispatch, with_syntax, with_copy, in_state}
 use Rattle.lisp_operators.specs.Kinds.{a_symbol, a_name, a_text, an_integer, a_character, a_keyword, a_source, a_case, one_or_each, given_or, given_or_nil, is_true}
 use Rattle.lisp_operators.specs.Evaluation.{Evaluation, gives}
-use Rattle.lisp_operators.specs.Properties.{t, built, list, get, set, removed, remove, in_turn, symbol_plist, amount, is_in_range, increment, push}
-use Rattle.lisp_operators.specs.Packages.{in_package, made, make, enter, interned, intern, changed, unlocked, export, import, use_all, packages_named, use_package}
+use Rattle.lisp_operators.specs.Properties.{t, if_within_limits, list, get, set, removed_property, remove, in_turn, symbol_plist, amount, is_in_range, increment, push}
+use Rattle.lisp_operators.specs.Packages.{in_package, made_package, make, enter, interned_symbol, intern, changed, unlocked, export, import, use_all, packages_named, use_package}
 use Rattle.lisp_operators.specs.Readtables.{value_after, in_readtable, changeable, is_function, a_function, readtable_case, set_case, copy_readtable, enter_readtable, after_first, set_syntax, set_macro, get_macro, make_dispatch, set_dispatch, get_dispatch}
 use Rattle.lisp_operators.specs.ReadBase.{a_base, set_base}
 use Rattle.lisp_operators.proofs.Keeping as keeping
@@ -39,7 +39,7 @@ abbrev pub IsKeeping : (List Object → WorldState → Evaluation Object) → Ty
 IsKeeping function = (xs : List Object) (s : WorldState) → Keeps s (function xs s)
 
 -- ---- property lists
-built_keeps : (s : WorldState) (x : Object) (on : Evaluation Object) → Keeps s on → Keeps s (built x on)
+built_keeps : (s : WorldState) (x : Object) (on : Evaluation Object) → Keeps s on → Keeps s (if_within_limits x on)
 built_keeps s x on keeps = keeps_if Kept s (nat_lt 100 (object_depth x)) _ _ (record { kept = tt }) (keeps_if Kept s (nat_lt 1000000 (object_size x)) _ on (record { kept = tt }) keeps)
 
 pub list_keeps : IsKeeping list
@@ -54,7 +54,7 @@ pub set_keeps : IsKeeping set
 set_keeps (x ∷ i ∷ v ∷ []) s = keeps_kind Kept s (a_symbol x) _ (λ x'. keeps_kind Kept s (a_symbol i) _ (λ i'. record { kept = tidy_put s x' i' v }))
 set_keeps _ s = record { kept = tt }
 
-removed_keeps : (o : Option Object) (s later : WorldState) → Kept s later → Keeps s (removed o s later)
+removed_keeps : (o : Option Object) (s later : WorldState) → Kept s later → Keeps s (removed_property o s later)
 removed_keeps None s later kept = record { kept = λ tidy. tidy }
 removed_keeps (Some v) s later kept = record { kept = kept }
 
@@ -81,7 +81,7 @@ push_keeps _ s = record { kept = tt }
 in_package_keeps : {A : Type 0} (s : WorldState) (n : Name) (on : Name → Evaluation A) → ((p : Name) → Keeps s (on p)) → Keeps s (in_package s n on)
 in_package_keeps s n on each = keeps_option Kept s (package_named s.packages n) on (Err NO_SUCH_PACKAGE) each (record { kept = tt })
 
-made_keeps : (s : WorldState) (n : Name) (r : Result Table PackageError) → Keeps s (made s n r)
+made_keeps : (s : WorldState) (n : Name) (r : Result Table PackageError) → Keeps s (made_package s n r)
 made_keeps s n (Ok packages) = record { kept = λ tidy. tidy }
 made_keeps s n (Err e) = record { kept = tt }
 
@@ -92,7 +92,7 @@ make_keeps _ s = record { kept = tt }
 pub enter_keeps : (x : Object) (s : WorldState) → Keeps s (enter x s)
 enter_keeps x s = keeps_kind Kept s (a_name x) _ (λ n. in_package_keeps s n _ (λ p. record { kept = λ tidy. tidy }))
 
-interned_keeps : (s : WorldState) (n : Name) (is_new : Bool) (r : Result (Name × Table) PackageError) → Keeps s (interned s n is_new r)
+interned_keeps : (s : WorldState) (n : Name) (is_new : Bool) (r : Result (Name × Table) PackageError) → Keeps s (interned_symbol s n is_new r)
 interned_keeps s n is_new (Ok p) = record { kept = λ tidy. tidy }
 interned_keeps s n is_new (Err e) = record { kept = tt }
 

@@ -1,7 +1,7 @@
 // The answers to frames: from the store, and to the output.
 ghost use Rattle.std.specs.Prelude.{◌≡◌, ℕ, ◌<◌, ◌≤◌, length, map, take, IfErr, IfOk, OnOk, Some};
 ghost use Rattle.std.specs.List.{flat_map};
-ghost use Rattle.message_frames.specs.Frames.{answer_bytes, sent};
+ghost use Rattle.message_frames.specs.Frames.{answer_bytes, sent_frame};
 ghost use Rattle.message_session.specs.Answers.{AskAlike, answers_to, message_number};
 ghost use Rattle.message_session.specs.Standing.{AnswersMore, ComeNext, RestsAt, RestsOrEnds, RestsOrStops};
 ghost use Rattle.message_session.specs.Steps.{AnswersFront, AnswersFrames, RenewsForRoom, RenewsWhereDue, StopsAfter, TakesFrames, TakesWithRoom, ended_by};
@@ -120,14 +120,14 @@ pub(crate) fn answer_frames<D: Disk, R: MacroFunctions, O: AnswerRecipient<D, R>
     output: &mut O,
 ) -> Result<(), Ended>
     requires rests { RestsAt R.Meaning.functions D.state (O.account output.old) store.old course.old.last }
-    requires next { ComeNext (O.account output.old) (map sent frames.now) }
+    requires next { ComeNext (O.account output.old) (map sent_frame frames.now) }
     ensures answers { (w : WorldState) → store.old.world ≡ Some w
         → AnswersFrames R.Meaning.functions course.old.last w D.state store.new (O.contents output.old) (O.contents output.new)
-        course.new.last (map sent frames.now) result }
+        course.new.last (map sent_frame frames.now) result }
     ensures rests { RestsOrEnds R.Meaning.functions D.state
         (O.account output.new) store.new course.new.last result }
     ensures more { OnOk result
-        (AnswersMore (O.account output.old) (O.account output.new) (map sent frames.now)) }
+        (AnswersMore (O.account output.old) (O.account output.new) (map sent_frame frames.now)) }
     ensures input { O.input output.new ≡ O.input output.old }
     ensures macros { store.new.macros ≡ store.old.macros }
 {
@@ -152,15 +152,15 @@ fn answer_front<D: Disk, R: MacroFunctions, O: AnswerRecipient<D, R>>(
     output: &mut O,
 ) -> Result<usize, Ended>
     requires rests { RestsAt R.Meaning.functions D.state (O.account output.old) store.old course.old.last }
-    requires next { ComeNext (O.account output.old) (map sent frames.now) }
+    requires next { ComeNext (O.account output.old) (map sent_frame frames.now) }
     requires any { 0 < length frames.now }
     ensures answers { (w : WorldState) → store.old.world ≡ Some w
         → AnswersFront R.Meaning.functions course.old.last w D.state store.new (O.contents output.old) (O.contents output.new)
-        course.new.last (map sent frames.now) result }
+        course.new.last (map sent_frame frames.now) result }
     ensures rests { RestsOrEnds R.Meaning.functions D.state
         (O.account output.new) store.new course.new.last result }
     ensures more { IfOk result
-        (λ count. AnswersMore (O.account output.old) (O.account output.new) (take count (map sent frames.now))) }
+        (λ count. AnswersMore (O.account output.old) (O.account output.new) (take count (map sent_frame frames.now))) }
 
     // At least one of them was answered, and at most all.
     ensures most { IfOk result (λ count. count ≤ length frames.now) }
@@ -187,15 +187,15 @@ fn answer_in_turn<D: Disk, R: MacroFunctions, O: AnswerRecipient<D, R>>(
     output: &mut O,
 ) -> Result<usize, Ended>
     requires rests { RestsAt R.Meaning.functions D.state (O.account output.old) store.old course.old.last }
-    requires next { ComeNext (O.account output.old) (map sent frames.now) }
+    requires next { ComeNext (O.account output.old) (map sent_frame frames.now) }
     requires any { 0 < length frames.now }
     ensures answers { (w : WorldState) → store.old.world ≡ Some w
         → AnswersFront R.Meaning.functions course.old.last w D.state store.new (O.contents output.old) (O.contents output.new)
-        course.new.last (map sent frames.now) result }
+        course.new.last (map sent_frame frames.now) result }
     ensures rests { RestsOrEnds R.Meaning.functions D.state
         (O.account output.new) store.new course.new.last result }
     ensures more { IfOk result
-        (λ count. AnswersMore (O.account output.old) (O.account output.new) (take count (map sent frames.now))) }
+        (λ count. AnswersMore (O.account output.old) (O.account output.new) (take count (map sent_frame frames.now))) }
 
     // At least one of them was answered, and at most all.
     ensures most { IfOk result (λ count. count ≤ length frames.now) }
@@ -222,15 +222,15 @@ fn take_with_room<D: Disk, R: MacroFunctions, O: AnswerRecipient<D, R>>(
     output: &mut O,
 ) -> Result<usize, Stop>
     requires rests { RestsAt R.Meaning.functions D.state (O.account output.old) store.old course.old.last }
-    requires next { ComeNext (O.account output.old) (map sent frames.now) }
+    requires next { ComeNext (O.account output.old) (map sent_frame frames.now) }
     requires any { 0 < length frames.now }
     ensures takes { (w : WorldState) → store.old.world ≡ Some w
         → TakesWithRoom R.Meaning.functions course.old.last w D.state store.new (O.contents output.old) (O.contents output.new)
-        course.new.last (map sent frames.now) result }
+        course.new.last (map sent_frame frames.now) result }
     ensures rests { RestsOrStops R.Meaning.functions D.state
         (O.account output.new) store.new course.new.last result }
     ensures more { IfOk result
-        (λ count. AnswersMore (O.account output.old) (O.account output.new) (take count (map sent frames.now))) }
+        (λ count. AnswersMore (O.account output.old) (O.account output.new) (take count (map sent_frame frames.now))) }
 
     // At least one of them was answered, and at most all; or, where fewer may be tried, nothing was written.
     ensures most { IfOk result (λ count. count ≤ length frames.now) }
@@ -271,15 +271,15 @@ fn take_frames<D: Disk, R: MacroFunctions, O: AnswerRecipient<D, R>>(
     output: &mut O,
 ) -> Result<usize, Stop>
     requires rests { RestsAt R.Meaning.functions D.state (O.account output.old) store.old course.old.last }
-    requires next { ComeNext (O.account output.old) (map sent frames.now) }
+    requires next { ComeNext (O.account output.old) (map sent_frame frames.now) }
     requires any { 0 < length frames.now }
     ensures takes { (w : WorldState) → store.old.world ≡ Some w
         → TakesFrames R.Meaning.functions course.old.last w D.state store.new (O.contents output.old) (O.contents output.new)
-        course.new.last store.old (map sent frames.now) result }
+        course.new.last store.old (map sent_frame frames.now) result }
     ensures rests { RestsOrStops R.Meaning.functions D.state
         (O.account output.new) store.new course.new.last result }
     ensures more { IfOk result
-        (λ count. AnswersMore (O.account output.old) (O.account output.new) (take count (map sent frames.now))) }
+        (λ count. AnswersMore (O.account output.old) (O.account output.new) (take count (map sent_frame frames.now))) }
 
     // At least one of them was answered, and at most all; or, where fewer may be tried, nothing was written.
     ensures most { IfOk result (λ count. count ≤ length frames.now) }
@@ -344,7 +344,7 @@ fn requests_of<'a>(
     alloc: Global,
     frames: &[MessageFrame<'a>],
 ) -> Result<Vec<Request<'a>>, AllocError>
-    ensures pairs { IfOk result (λ requests. AskAlike requests.items (map sent frames.now)) }
+    ensures pairs { IfOk result (λ requests. AskAlike requests.items (map sent_frame frames.now)) }
     ensures many { IfOk result (λ requests. length requests.items ≡ length frames.now) }
 {
     let mut requests = Vec::with_capacity(alloc, frames.len())?;
@@ -373,7 +373,7 @@ fn bytes_of(
     answers: &[Answer],
 ) -> Result<Vec<u8>, AllocError>
     ensures { IfOk result (λ bytes. bytes.items
-        ≡ flat_map answer_bytes (answers_to (map sent frames.now) (map told_in answers.now))) }
+        ≡ flat_map answer_bytes (answers_to (map sent_frame frames.now) (map told_in answers.now))) }
 {
     let mut bytes = Vec::new(alloc);
     let mut frames = frames;

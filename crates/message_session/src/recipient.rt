@@ -1,7 +1,7 @@
 // Who gets the answers of a session.
 ghost use Rattle.std.specs.Prelude.{◌≡◌, ℕ, List, map, Option, None, Some, OnOk, OnErr};
 ghost use Rattle.std.specs.Option.{option_map};
-ghost use Rattle.message_frames.specs.Frames.{position_bytes, sent};
+ghost use Rattle.message_frames.specs.Frames.{position_bytes, sent_frame};
 ghost use Rattle.message_session.specs.Account.{MessageAccount, AnswersAreStored, IsToldIn, first_message_account, with_frames};
 ghost use Rattle.plist_state.specs.State.{WorldState};
 ghost use Rattle.sessions.specs.Streams.{Writes, WritesPart};
@@ -53,11 +53,11 @@ pub trait AnswerRecipient<D: Disk, R: MacroFunctions> {
         frames: &[MessageFrame<'_>],
     ) -> Result<(), OutputFault>
         requires stored { (kept : MessageAccount D) → account self.old ≡ Some kept
-            → AnswersAreStored R.Meaning.functions D.state kept store.now (map sent frames.now) bytes.now }
+            → AnswersAreStored R.Meaning.functions D.state kept store.now (map sent_frame frames.now) bytes.now }
         ensures whole { OnOk result (Writes (contents self.old) (contents self.new) bytes.now) }
         ensures part { OnErr result (WritesPart (contents self.old) (contents self.new) bytes.now) }
         ensures kept { (later : MessageAccount D) → account self.new ≡ Some later
-            → option_map (with_frames R.Meaning.functions (map sent frames.now) store.now) (account self.old) ≡ Some later }
+            → option_map (with_frames R.Meaning.functions (map sent_frame frames.now) store.now) (account self.old) ≡ Some later }
         ensures input { input self.new ≡ input self.old };
 }
 

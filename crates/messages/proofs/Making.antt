@@ -12,9 +12,9 @@ use Rattle.form_eval.proofs.KnownSymbols.{known_symbols}
 use Rattle.gate_log.specs.Layout.{IsLogRecord, LogRecord}
 use Rattle.lisp_object.specs.Datum.{object_of}
 use Rattle.lisp_object.specs.Object.{Object, integer}
-use Rattle.lisp_operators.specs.Evaluated.{done}
+use Rattle.lisp_operators.specs.EvaluationAnswers.{done}
 use Rattle.lisp_operators.specs.Evaluation.{Done, Evaluation, also, writes}
-use Rattle.lisp_operators.specs.Properties.{removed, t}
+use Rattle.lisp_operators.specs.Properties.{removed_property, t}
 use Rattle.lisp_operators.specs.declared.evaluated.Evaluated.{Evaluated}
 use Rattle.evaluator.specs.Value.{value, value_over}
 use Rattle.package_table.specs.Symbols.{are_there, symbols}
@@ -29,7 +29,7 @@ use Rattle.messages.specs.declared.request.Request.{Request}
 use Rattle.messages.specs.declared.round.Round.{Round as Held}
 use Rattle.prevalence_store.specs.declared.outcome.Outcome.{Outcome}
 use Rattle.session_words.specs.declared.mode.Mode.TheVariants.{Current, Rescue}
-use Rattle.prevalence_store.specs.meaning.Acceptance.{Acceptance, accepts, after, logged, records_of, transacted}
+use Rattle.prevalence_store.specs.meaning.Acceptance.{Acceptance, accepts, after, accepted_record, records_of, transaction_value}
 use Rattle.prevalence_store.specs.calls.ExecuteAll.{logged_entries, world_left_after, told_by, told_of}
 use Rattle.messages.specs.Answers.{Round, answer_in, answer_to_question, after_question, by_number, without_its_position, given_in, one_request, with_answer, with_asked, with_given, with_message, with_old, with_own, wrote_by}
 use Rattle.messages.specs.Position.{own_form, own_left, own_text, position_property, with_position, without_position}
@@ -56,7 +56,7 @@ failed_on X result cause is = subst (λ r. OnOk r X) (sym is) tt
 
 -- by what the property is
 abbrev cleared_to : WorldState → Option Object → Evaluation Object
-cleared_to s o = also false (removed o s (without_position s))
+cleared_to s o = also false (removed_property o s (without_position s))
 
 clearing_value : (names : List Name) (s : WorldState) → value names s (own_form Clearing) ≡ cleared_to s (position_property s)
 unfolding value_over
@@ -90,7 +90,7 @@ another_form : (own : Own) → is_forgetting (own_form own) ≡ false
 another_form Clearing = refl
 another_form (Position n) = refl
 
-own_accepted : (names : List Name) (s : WorldState) (own : Own) → are_there s.packages (own_form own) ≡ true → IsNeeded own s → (x : Object) × (transacted names s (own_form own) ≡ writes x (own_left own s))
+own_accepted : (names : List Name) (s : WorldState) (own : Own) → are_there s.packages (own_form own) ≡ true → IsNeeded own s → (x : Object) × (transaction_value names s (own_form own) ≡ writes x (own_left own s))
 own_accepted names s own there needed =
     let valued = own_value names s own needed in
     let known = known_symbols s.packages (symbols (own_form own)) there in
@@ -100,7 +100,7 @@ no_error : (x : Object) (s : WorldState) (number : ℕ) → writes x s ≡ Err n
 no_error x s number is = absurd (cc)
 
 -- a form of the store's own whose symbols are there does what it is for
-pub own_effect : (names : List Name) (s : WorldState) (own : Own) (d : Done Object) → are_there s.packages (own_form own) ≡ true → IsNeeded own s → transacted names s (own_form own) ≡ Ok d
+pub own_effect : (names : List Name) (s : WorldState) (own : Own) (d : Done Object) → are_there s.packages (own_form own) ≡ true → IsNeeded own s → transaction_value names s (own_form own) ≡ Ok d
     → (d.state ≡ own_left own s) × (d.wrote ≡ true)
 own_effect names s own d there needed is =
     let here = own_accepted names s own there needed in
@@ -123,24 +123,24 @@ module _ (functions : Functions) where
         let made = entries_made (logged_entries Current (accepts functions round.left Current text)) _ one.again one.fit in
         record { again = made.0; fit = made.1 }
 
-    pub own_made : (own : Own) → after functions round.left (logged Rescue (own_text own) ∷ []) ≡ Some (own_left own round.left)
-        → AllByRecursion IsLogRecord (logged Rescue (own_text own) ∷ []) → MayBeLogged functions w (with_own own round)
+    pub own_made : (own : Own) → after functions round.left (accepted_record Rescue (own_text own) ∷ []) ≡ Some (own_left own round.left)
+        → AllByRecursion IsLogRecord (accepted_record Rescue (own_text own) ∷ []) → MayBeLogged functions w (with_own own round)
     own_made own again fit =
-        let made = entries_made (logged Rescue (own_text own) ∷ []) (own_left own round.left) again fit in
+        let made = entries_made (accepted_record Rescue (own_text own) ∷ []) (own_left own round.left) again fit in
         record { again = made.0; fit = made.1 }
 
   -- ---- a form of the store's own that was added
 
   pub own_added : (own : Own) (world new : WorldState) (read : ReadForm) (text : List ℕ) (e : Evaluated) → IsNeeded own world → IsOwnForm functions own world read text
-      → transacted functions.names world (object_of read.datum) ≡ Ok (done e new)
+      → transaction_value functions.names world (object_of read.datum) ≡ Ok (done e new)
       → (new ≡ own_left own world) × (e.wrote ≡ true)
-      × (after functions world (logged Rescue (own_text own) ∷ []) ≡ Some (own_left own world)) × AllByRecursion IsLogRecord (logged Rescue (own_text own) ∷ [])
+      × (after functions world (accepted_record Rescue (own_text own) ∷ []) ≡ Some (own_left own world)) × AllByRecursion IsLogRecord (accepted_record Rescue (own_text own) ∷ [])
   own_added own world new read text e needed is given =
-      let accepted : transacted functions.names world (own_form own) ≡ Ok (done e new) = ap (transacted functions.names world) (sym is.object) ∙ given in
+      let accepted : transaction_value functions.names world (own_form own) ≡ Ok (done e new) = ap (transaction_value functions.names world) (sym is.object) ∙ given in
       let effect = own_effect functions.names world own (done e new) is.all_there needed accepted in
       let recorded = one_record functions Rescue world new text (own_form own) e is.reads accepted in
-      let records : records_of e.wrote Rescue text ≡ logged Rescue (own_text own) ∷ [] =
-      ap (λ (b : Bool). records_of b Rescue text) effect.1 ∙ ap (λ t. logged Rescue t ∷ []) is.own_is in (
+      let records : records_of e.wrote Rescue text ≡ accepted_record Rescue (own_text own) ∷ [] =
+      ap (λ (b : Bool). records_of b Rescue text) effect.1 ∙ ap (λ t. accepted_record Rescue t ∷ []) is.own_is in (
         effect.0,
         effect.1,
         sym (ap (after functions world) records) ∙ recorded.0 ∙ ap Some effect.0,
@@ -149,18 +149,18 @@ module _ (functions : Functions) where
 
   -- it is not refused
   pub own_not_refused : (own : Own) (world : WorldState) (read : ReadForm) (text : List ℕ) (number : ℕ) → IsNeeded own world → IsOwnForm functions own world read text
-      → IsNotAdded (transacted functions.names world (object_of read.datum)) (unadded.Refused number) → ⊥
+      → IsNotAdded (transaction_value functions.names world (object_of read.datum)) (unadded.Refused number) → ⊥
   own_not_refused own world read text number needed is given =
       let here = own_accepted functions.names world own is.all_there needed in
-      no_error here.0 (own_left own world) number (sym here.1 ∙ ap (transacted functions.names world) (sym is.object) ∙ given)
+      no_error here.0 (own_left own world) number (sym here.1 ∙ ap (transaction_value functions.names world) (sym is.object) ∙ given)
 
   pub own_round : (own : Own) (held : Held) (batch : Batch) (world new : WorldState) (read : ReadForm) (text : List ℕ) (e : Evaluated) → IsNeeded own world → IsOwnForm functions own world read text
-      → transacted functions.names world (object_of read.datum) ≡ Ok (done e new) → entries_in batch ≡ entries_in held.batch ++ records_of e.wrote Rescue text
+      → transaction_value functions.names world (object_of read.datum) ≡ Ok (done e new) → entries_in batch ≡ entries_in held.batch ++ records_of e.wrote Rescue text
       → round_in (record held { batch = batch }) new ≡ with_own own (round_in held world)
   own_round own held batch world new read text e needed is accepted taken =
       let added = own_added own world new read text e needed is accepted in
-      let records : records_of e.wrote Rescue text ≡ logged Rescue (own_text own) ∷ [] =
-      ap (λ (b : Bool). records_of b Rescue text) added.1 ∙ ap (λ t. logged Rescue t ∷ []) is.own_is in
+      let records : records_of e.wrote Rescue text ≡ accepted_record Rescue (own_text own) ∷ [] =
+      ap (λ (b : Bool). records_of b Rescue text) added.1 ∙ ap (λ t. accepted_record Rescue t ∷ []) is.own_is in
       let entries = taken ∙ ap (λ es. entries_in held.batch ++ es) records in
       λ i. record { told = map told_in held.answers.items; last = held.last; left = added.0 i; entries = entries i; wrote = held.wrote }
 

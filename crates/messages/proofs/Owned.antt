@@ -24,7 +24,7 @@ use Rattle.prevalence_store.specs.declared.failure.Unlogged.TheVariants as unlog
 use Rattle.messages.specs.declared.own.Own.{Own}
 use Rattle.messages.specs.declared.own.Own.TheVariants.{Clearing, Position}
 use Rattle.messages.specs.declared.request.Request.{Request}
-use Rattle.prevalence_store.specs.meaning.Acceptance.{read_in, transacted}
+use Rattle.prevalence_store.specs.meaning.Acceptance.{read_in, transaction_value}
 use Rattle.messages.specs.Answers.{Round, each_request}
 use Rattle.messages.specs.Calls.{IsNotCleared, IsNotClosed, IsNotOld, IsOwnRead, IsOwnRefused, RefusesOwn, RefusesRequest}
 use Rattle.messages.specs.Position.{own_form, own_text, position_property}
@@ -105,11 +105,11 @@ module _ (functions : Functions) where
   form_taken world own result is = subst (λ r. IfErr r (λ cause. IfRefused cause (IsOwnRefused functions world own))) (sym is) tt
 
   module _ (world : WorldState) (own : Own) (read : ReadForm) (text : List ℕ) (needed : IsNeeded own world) (whole : IsOwnForm functions own world read text) where
-    left_by : (cause : Unadded) → IsNotAdded (transacted functions.names world (object_of read.datum)) cause → IfRefused cause (IsOwnRefused functions world own)
+    left_by : (cause : Unadded) → IsNotAdded (transaction_value functions.names world (object_of read.datum)) cause → IfRefused cause (IsOwnRefused functions world own)
     left_by OutOfMemory given = tt
     left_by (Refused number) given = absurd (own_not_refused functions own world read text number needed whole given)
 
-    pub form_left : (result : Result Unit Unadded) (cause : Unadded) → result ≡ Err cause → IsNotAdded (transacted functions.names world (object_of read.datum)) cause
+    pub form_left : (result : Result Unit Unadded) (cause : Unadded) → result ≡ Err cause → IsNotAdded (transaction_value functions.names world (object_of read.datum)) cause
         → IfErr result (λ cause. IfRefused cause (IsOwnRefused functions world own))
     form_left result cause is given = subst (λ r. IfErr r (λ cause. IfRefused cause (IsOwnRefused functions world own))) (sym is) (left_by cause given)
 

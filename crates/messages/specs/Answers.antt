@@ -15,8 +15,8 @@ use Rattle.messages.specs.declared.request.TheConstants.{OLD_NUMBER, QUESTION_WR
 use Rattle.messages.specs.declared.own.Own.{Own}
 use Rattle.messages.specs.declared.own.Own.TheVariants.{Clearing, Position}
 use Rattle.session_words.specs.declared.mode.Mode.TheVariants.{Current, Rescue}
-use Rattle.prevalence_store.specs.meaning.Acceptance.{Acceptance, accepts, logged, read_in}
-use Rattle.prevalence_store.specs.meaning.Forgetting.{questioned}
+use Rattle.prevalence_store.specs.meaning.Acceptance.{Acceptance, accepts, accepted_record, read_in}
+use Rattle.prevalence_store.specs.meaning.Forgetting.{question_in_force}
 use Rattle.prevalence_store.specs.calls.ExecuteAll.{logged_entries, world_left_after, told_of}
 use Rattle.messages.specs.Position.{own_left, own_text, position, position_property}
 use Rattle.user_macros.specs.Functions.{Functions}
@@ -48,7 +48,7 @@ answer_to_asked (Err number) = refusal_answer number
 -- by what was read: a text without a form is refused, and one with more after it
 abbrev pub answer_by_reading : Functions → WorldState → List ℕ → Reading → List ℕ
 answer_by_reading functions world text (form object start end next) =
-    if next == length text then answer_to_asked (questioned functions.names world object) else refusal_answer TEXT_LEFT_OVER
+    if next == length text then answer_to_asked (question_in_force functions.names world object) else refusal_answer TEXT_LEFT_OVER
 answer_by_reading functions world text empty = refusal_answer END_OF_FILE
 answer_by_reading functions world text (refused number at) = refusal_answer number
 
@@ -77,7 +77,7 @@ with_answer text wrote round = record round { told = round.told ++ (text, wrote)
 
 -- a form of the store's own more, and its record
 abbrev pub with_own : Own → Round → Round
-with_own own round = record round { left = own_left own round.left; entries = round.entries ++ logged Rescue (own_text own) ∷ [] }
+with_own own round = record round { left = own_left own round.left; entries = round.entries ++ accepted_record Rescue (own_text own) ∷ [] }
 
 -- without the position
 abbrev pub without_its_position : Round → Round

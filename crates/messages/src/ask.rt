@@ -2,9 +2,9 @@
 ghost use Rattle.std.specs.Prelude.{◌≡◌, Ok, IfOk};
 ghost use Rattle.form_eval.specs.Laws.{MayEvaluate};
 ghost use Rattle.lisp_object.specs.Datum.{object_of};
-ghost use Rattle.lisp_operators.specs.Evaluated.{IsArgument, done};
+ghost use Rattle.lisp_operators.specs.EvaluationAnswers.{IsArgument, done};
 ghost use Rattle.messages.specs.Answers.{answer_to_asked, answer_to_question};
-ghost use Rattle.prevalence_store.specs.meaning.Forgetting.{questioned};
+ghost use Rattle.prevalence_store.specs.meaning.Forgetting.{question_in_force};
 
 use crate::request::QUESTION_WRITES;
 use crate::texts::{text_of_number, text_of_refusal, text_of_value};
@@ -42,7 +42,7 @@ fn answer_form<R: MacroFunctions>(
 ) -> Result<Vec<u8>, AllocError>
     requires form { MayEvaluate world.old.0.packages form.now }
     ensures answer { IfOk result (λ answer. answer.items
-        ≡ answer_to_asked (questioned R.Meaning.functions.names world.old.0 (object_of form.now.datum))) }
+        ≡ answer_to_asked (question_in_force R.Meaning.functions.names world.old.0 (object_of form.now.datum))) }
     ensures same { world.new ≡ world.old }
 {
     let mark = world.mark_count();

@@ -9,9 +9,9 @@ use Rattle.std.proofs.lemmas.Bool.{false≢true}
 use Rattle.std.proofs.lemmas.Bool.Decides.{Decides-eqb}
 use Rattle.std.proofs.lemmas.List.{length_push, get_or_append_left, get_or_push, get_or_past, get_or-take}
 use Rattle.package_sets.specs.declared.chains.Chains.{Chains}
-use Rattle.package_sets.specs.Kept.{pair_at}
+use Rattle.package_sets.specs.KeptSets.{pair_at}
 use Rattle.package_sets.specs.Consistent.{AreWithin}
-use Rattle.package_sets.specs.Chained.{external_name, second_of, last_below, AreChained}
+use Rattle.package_sets.specs.SymbolChains.{external_name, second_of, last_below, AreChained}
 use Rattle.package_sets.proofs.Places.{all_at}
 
 -- a number is below another, or it is not

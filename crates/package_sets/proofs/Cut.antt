@@ -8,7 +8,7 @@ use Rattle.std.specs.Prelude.{bytes_eq}
 use Rattle.std.specs.List.{list_any}
 use Rattle.std.proofs.lemmas.List.{length_push, take_all, take-take, take-append-le}
 use Rattle.package_sets.specs.declared.sizes.Sizes.{Sizes}
-use Rattle.package_sets.specs.Kept.{Kept, Name, cut, sizes_of, pair_at, AreUpTo}
+use Rattle.package_sets.specs.KeptSets.{Kept, Name, cut, sizes_of, pair_at, AreUpTo}
 use Rattle.package_sets.specs.Changes.{with_name, number_among, with_package, with_symbol, with_import, with_external_number, with_use}
 
 pub cut_itself : (k : Kept) → length k.imported ≡ length k.imports → cut (sizes_of k) k ≡ k

@@ -7,7 +7,7 @@ use Rattle.std.specs.Cmp.Lexicographic.{nat_list_eq_equiv}
 use Rattle.std.proofs.lemmas.List.{length_push, get_or_append_left, get_or_push, take_all}
 use Rattle.std.proofs.Math.Seq.{take-append_seam}
 use Rattle.std.proofs.lemmas.Map.Keys.{IsDistinct-push}
-use Rattle.package_sets.specs.Kept.{Kept, Name, nothing, pair_at, pair_eq}
+use Rattle.package_sets.specs.KeptSets.{Kept, Name, nothing, pair_at, pair_eq}
 use Rattle.package_sets.specs.Consistent.{AreDistinctNames, AreDistinctPairs, AreWithin, IsGood, IsImportedByName}
 use Rattle.package_sets.specs.Changes.{with_name, number_among, symbol_named, with_package, with_symbol, with_import, with_external_number, with_use}
 use Rattle.package_sets.proofs.Places.{none_any, any_none, any_some, any_is_within, none_is_length, all_at, all_push, all_weaker}

@@ -4,7 +4,7 @@ use Rattle.std.specs.Prelude.{bytes_eq}
 use Rattle.std.specs.Cmp.Lexicographic.{bytes_decides}
 use Rattle.std.proofs.lemmas.Bool.{false≢true}
 use Rattle.std.proofs.lemmas.Map.Keys.{apart_from_distinct}
-use Rattle.package_sets.specs.Kept.{Name, name_at}
+use Rattle.package_sets.specs.KeptSets.{Name, name_at}
 use Rattle.package_sets.specs.Consistent.{AreDistinctNames}
 use Rattle.package_sets.proofs.Places.{position_is}
 

@@ -7,9 +7,9 @@ use Rattle.std.specs.List.{list_any}
 use Rattle.std.proofs.lemmas.Bool.{false≢true}
 use Rattle.std.proofs.lemmas.Bool.Decides.{Decides-eqb, Decides-and}
 use Rattle.std.proofs.lemmas.Map.Keys.{apart_from_distinct}
-use Rattle.package_sets.specs.Kept.{pair_at, pair_eq, positions_from, positions_of}
+use Rattle.package_sets.specs.KeptSets.{pair_at, pair_eq, positions_from, positions_of}
 use Rattle.package_sets.specs.Consistent.{AreDistinctPairs}
-use Rattle.package_sets.specs.Chained.{second_of, last_below}
+use Rattle.package_sets.specs.SymbolChains.{second_of, last_below}
 use Rattle.package_sets.proofs.Chaining.{below_or, last_is}
 use Rattle.package_sets.proofs.Places.{any_none, position_is}
 

@@ -4,7 +4,7 @@ use Rattle.std.specs.Global.{Vec}
 use Rattle.std.proofs.Math.Seq.{take-append_seam}
 use Rattle.std.proofs.lemmas.List.{length-map, length_push, map-set, get_or-map, get_or-set_same, get_or-set_other, get_or_past}
 use Rattle.std.proofs.lemmas.Bool.Decides.{Decides-eqb}
-use Rattle.package_sets.specs.Kept.{positions_from, positions_of}
+use Rattle.package_sets.specs.KeptSets.{positions_from, positions_of}
 use Rattle.package_sets.specs.Groups.{group_at, IsGrouped, IsInGroup}
 
 pub take_last : {X : Type 0} (xs : List X) (x : X) → take (length (xs ++ x ∷ []) - 1) (xs ++ x ∷ []) ≡ xs

@@ -3,9 +3,9 @@
 --     sought_hit, sought_end      where it ends
 use Rattle.std.proofs.Common.{◌≡◌, ◌<◌, ◌≤◌, inl, inr, ℕ, suc, true, false, is_some, length, position, sym, ap, ◌∙◌, arith}
 use Rattle.std.proofs.lemmas.Bool.{false≢true}
-use Rattle.package_sets.specs.Kept.{Kept, pair_at, pair_eq}
-use Rattle.package_sets.specs.Chained.{external_name, last_below}
-use Rattle.package_sets.specs.Inherited.{IsInherited}
+use Rattle.package_sets.specs.KeptSets.{Kept, pair_at, pair_eq}
+use Rattle.package_sets.specs.SymbolChains.{external_name, last_below}
+use Rattle.package_sets.specs.InheritedNames.{IsInherited}
 use Rattle.package_sets.proofs.Chaining.{below_or, last_is}
 
 -- what is sought is below `last`, which has the name

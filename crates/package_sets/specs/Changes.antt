@@ -1,7 +1,7 @@
 -- What each call adds to what is kept.
 use Rattle.std.specs.Prelude.{ℕ, ◌++◌, List, [], ◌∷◌, position, bytes_eq, if◌then◌else◌, Option, option_and_then}
 use Rattle.std.specs.List.{list_any, position_or_len}
-use Rattle.package_sets.specs.Kept.{Kept, Name, pair_at, pair_eq}
+use Rattle.package_sets.specs.KeptSets.{Kept, Name, pair_at, pair_eq}
 
 -- the names with n, which is added if it is not there
 abbrev pub with_name : List Name → Name → List Name

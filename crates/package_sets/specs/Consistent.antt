@@ -1,7 +1,7 @@
 -- What holds of all that is kept.
 use Rattle.std.specs.Prelude.{◌≡◌, ℕ, ◌<◌, ◌≤◌, List, length, get_or, bytes_eq}
 use Rattle.std.specs.List.{IsDistinct, AllByRecursion}
-use Rattle.package_sets.specs.Kept.{Kept, Name, pair_at, pair_eq}
+use Rattle.package_sets.specs.KeptSets.{Kept, Name, pair_at, pair_eq}
 
 -- no name stands twice
 abbrev pub AreDistinctNames : List Name → Type 0

@@ -3,7 +3,7 @@ use Rattle.std.specs.Prelude.{◌++◌, ◌∷◌, nat_eq, if◌then◌else◌, 
 use Rattle.std.specs.Global.{Vec}
 use Rattle.package_sets.specs.declared.pair.Pair.{Pair}
 use Rattle.package_sets.specs.declared.pairs.Pairs.TheInside.{Inside}
-use Rattle.package_sets.specs.Kept.{positions_of}
+use Rattle.package_sets.specs.KeptSets.{positions_of}
 
 -- a pair of the program, as one of the logic
 abbrev pub pair_of : Pair → ℕ × ℕ

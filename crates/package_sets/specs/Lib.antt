@@ -1,7 +1,7 @@
-pub mod Chained
+pub mod SymbolChains
 pub mod Changes
 pub mod Consistent
 pub mod Groups
-pub mod Inherited
-pub mod Kept
+pub mod InheritedNames
+pub mod KeptSets
 pub mod Views

@@ -1,9 +1,9 @@
 -- What contracts see of the sets.
 use Rattle.package_sets.specs.declared.sets.PackageSets.TheInside.{Inside}
 use Rattle.std.specs.Prelude.{length}
-use Rattle.package_sets.specs.Kept.{Kept}
+use Rattle.package_sets.specs.KeptSets.{Kept}
 use Rattle.package_sets.specs.Consistent.{IsGood}
-use Rattle.package_sets.specs.Chained.{external_name, AreChained}
+use Rattle.package_sets.specs.SymbolChains.{external_name, AreChained}
 
 -- what the sets of the program keep, as the logic has it
 abbrev pub kept_of : Inside → Kept

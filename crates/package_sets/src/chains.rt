@@ -2,7 +2,7 @@
 ghost use Rattle.std.specs.Prelude.{◌≡◌, ◌<◌, ◌++◌, ◌∷◌, [], ℕ, nat_eq, length, take, get_or, if◌then◌else◌, IfOk, OnOk};
 ghost use Rattle.std.specs.List.{AllByRecursion};
 ghost use Rattle.std.specs.Vec.{vec_len, vec_capacity};
-ghost use Rattle.package_sets.specs.Chained.{external_name, second_of, AreChained};
+ghost use Rattle.package_sets.specs.SymbolChains.{external_name, second_of, AreChained};
 
 use crate::{Pairs, Symbols};
 use std::alloc::{AllocError, Global};

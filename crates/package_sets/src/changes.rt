@@ -1,6 +1,6 @@
 //! What is added. After a call that fails nothing has changed.
 ghost use Rattle.std.specs.Prelude.{◌≡◌, ◌<◌, length, position, bytes_eq, None, IfOk, OnOk, OnErr};
-ghost use Rattle.package_sets.specs.Kept.{pair_at, pair_eq};
+ghost use Rattle.package_sets.specs.KeptSets.{pair_at, pair_eq};
 ghost use Rattle.package_sets.specs.Changes.{symbol_named, with_external_number, with_import, with_package, with_symbol, with_use};
 
 use crate::PackageSets;

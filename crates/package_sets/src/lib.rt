@@ -1,7 +1,7 @@
 //! What is kept of the packages, by numbers. Each thing is in a list that only grows, and its position there is its
 //! number.
 //!
-//! Contracts see `PackageSets` as a `Kept` (specs/Kept.antt): the names of symbols, the packages, the symbols, and
+//! Contracts see `PackageSets` as a `Kept` (specs/KeptSets.antt): the names of symbols, the packages, the symbols, and
 //! what is imported, external and used, each a list. `IsGood` (specs/Consistent.antt) holds of it always: nothing is in a
 //! list twice, and each number is that of something that is there. specs/Changes.antt says what each call adds. After
 //! a call that fails nothing has changed. To go back to an earlier state is to cut each list to the length that it had
@@ -16,7 +16,7 @@
 //!
 //! # Laws for the crates above
 //!
-//! Their definitions are all in specs/Kept.antt, specs/Consistent.antt, specs/Changes.antt and specs/Inherited.antt.
+//! Their definitions are all in specs/KeptSets.antt, specs/Consistent.antt, specs/Changes.antt and specs/InheritedNames.antt.
 //!
 //! - proofs/Cut.antt: going back (`cut_itself`, `cut_cut`, and `cut_package` and its like), and that lengths are at most
 //!   those of now (`up_to_itself`, `up_to_package` and its like).

@@ -1,8 +1,8 @@
 //! What is kept, by names and by numbers. None of these calls takes memory.
 ghost use Rattle.std.specs.Prelude.{◌≡◌, ◌<◌, length, get_or, position, bytes_eq, is_some};
-ghost use Rattle.package_sets.specs.Kept.{import_of, name_at, pair_at, pair_eq, positions_of};
+ghost use Rattle.package_sets.specs.KeptSets.{import_of, name_at, pair_at, pair_eq, positions_of};
 ghost use Rattle.package_sets.specs.Groups.{pair_of};
-ghost use Rattle.package_sets.specs.Inherited.{TellsInherited};
+ghost use Rattle.package_sets.specs.InheritedNames.{TellsInherited};
 
 use crate::{PackageSets, Pair};
 

@@ -1,6 +1,6 @@
 //! Each name once, numbered by its position.
 ghost use Rattle.std.specs.Prelude.{◌≡◌, ◌<◌, ◌++◌, ◌∷◌, [], length, take, position, bytes_eq, None, IfOk, IfSome, OnOk, OnErr};
-ghost use Rattle.package_sets.specs.Kept.{name_at};
+ghost use Rattle.package_sets.specs.KeptSets.{name_at};
 ghost use Rattle.package_sets.specs.Consistent.{AreDistinctNames};
 ghost use Rattle.package_sets.specs.Changes.{number_among, with_name};
 
@@ -23,7 +23,7 @@ pub struct Names {
 impl Model for Names {
     ghost use Rattle.std.specs.Prelude.{◌<◌, ◌^◌, List, map, length};
     ghost use Rattle.std.specs.Coded.{coded_list};
-    ghost use Rattle.package_sets.specs.Kept.{Name, name_code};
+    ghost use Rattle.package_sets.specs.KeptSets.{Name, name_code};
 
     ghost Value = { List Name };
 

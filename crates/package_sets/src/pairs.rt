@@ -1,6 +1,6 @@
 //! Each pair once, numbered by its position, and the positions of the pairs of each first number.
 ghost use Rattle.std.specs.Prelude.{◌≡◌, ◌-◌, ◌<◌, ◌++◌, ◌∷◌, [], length, take, position, None, IfOk, OnOk, OnErr};
-ghost use Rattle.package_sets.specs.Kept.{pair_at, pair_eq, positions_of};
+ghost use Rattle.package_sets.specs.KeptSets.{pair_at, pair_eq, positions_of};
 ghost use Rattle.package_sets.specs.Consistent.{AreDistinctPairs};
 ghost use Rattle.package_sets.specs.Groups.{pair_of, HaveSameGroups, IsInGroup};
 
@@ -20,7 +20,7 @@ pub struct Pairs {
 
 impl Model for Pairs {
     ghost use Rattle.std.specs.Prelude.{ℕ, List};
-    ghost use Rattle.package_sets.specs.Kept.{pairs_code};
+    ghost use Rattle.package_sets.specs.KeptSets.{pairs_code};
 
     ghost Value = { List (ℕ × ℕ) };
 

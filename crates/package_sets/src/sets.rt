@@ -1,8 +1,8 @@
 //! What is kept of the packages.
 ghost use Rattle.std.specs.Prelude.{◌≡◌, length, IfOk};
-ghost use Rattle.package_sets.specs.Kept.{cut, nothing, sizes_of};
+ghost use Rattle.package_sets.specs.KeptSets.{cut, nothing, sizes_of};
 ghost use Rattle.package_sets.specs.Consistent.{IsGood};
-ghost use Rattle.package_sets.specs.Chained.{external_name, AreChained};
+ghost use Rattle.package_sets.specs.SymbolChains.{external_name, AreChained};
 
 use crate::chains::Chains;
 use crate::{Names, Pairs, Seed, Sizes, Symbols};
@@ -42,7 +42,7 @@ impl Drop for PackageSets {
 }
 
 impl Model for PackageSets {
-    ghost use Rattle.package_sets.specs.Kept.{Kept, kept_code};
+    ghost use Rattle.package_sets.specs.KeptSets.{Kept, kept_code};
 
     ghost Value = { Kept };
 

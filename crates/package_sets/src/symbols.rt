@@ -1,6 +1,6 @@
 //! Symbols: pairs of a home and a name, each once, which are looked for among those of the name first.
 ghost use Rattle.std.specs.Prelude.{◌≡◌, ◌<◌, ◌++◌, ◌∷◌, [], length, take, position, None, IfOk, OnOk, OnErr};
-ghost use Rattle.package_sets.specs.Kept.{pair_at, pair_eq, positions_of};
+ghost use Rattle.package_sets.specs.KeptSets.{pair_at, pair_eq, positions_of};
 ghost use Rattle.package_sets.specs.Consistent.{AreDistinctPairs};
 ghost use Rattle.package_sets.specs.Groups.{pair_of};
 
@@ -32,13 +32,13 @@ impl Drop for Symbols {
 
 impl Model for Symbols {
     ghost use Rattle.std.specs.Prelude.{ℕ, List, length};
-    ghost use Rattle.package_sets.specs.Kept.{pairs_code};
+    ghost use Rattle.package_sets.specs.KeptSets.{pairs_code};
 
     ghost Value = { List (ℕ × ℕ) };
 
     ghost coded = { pairs_code };
 
-    ghost use Rattle.package_sets.specs.Chained.{second_of, AreChained};
+    ghost use Rattle.package_sets.specs.SymbolChains.{second_of, AreChained};
 
     ghost view = { λ a. a.pairs };
 

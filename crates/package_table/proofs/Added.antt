@@ -7,7 +7,7 @@ use Rattle.std.proofs.lemmas.List.{get_or_append_left, get_or_push}
 use Rattle.std.specs.Option.{option_or, option_map_or}
 use Rattle.std.specs.List.{IsDistinct}
 use Rattle.std.specs.FinMap as finite
-use Rattle.package_sets.specs.Kept.{Kept, import_of, name_at, pair_at, pair_eq}
+use Rattle.package_sets.specs.KeptSets.{Kept, import_of, name_at, pair_at, pair_eq}
 use Rattle.package_sets.specs.Consistent.{IsGood}
 use Rattle.package_sets.specs.Changes.{with_external_number, with_import, with_package, with_use}
 use Rattle.package_table.specs.Table.{Name, Present, Package, empty_package}

@@ -10,7 +10,7 @@ use Rattle.std.proofs.lemmas.List.{get_or_append_left, length_push}
 use Rattle.std.specs.Option.{option_or}
 use Rattle.std.specs.List.{list_any, IsDistinct}
 use Rattle.package_sets.specs.declared.sizes.Sizes.{Sizes}
-use Rattle.package_sets.specs.Kept.{Kept, cut, import_of, name_at, pair_at, pair_eq, sizes_of, AreUpTo}
+use Rattle.package_sets.specs.KeptSets.{Kept, cut, import_of, name_at, pair_at, pair_eq, sizes_of, AreUpTo}
 use Rattle.package_sets.specs.Consistent.{IsGood}
 use Rattle.package_sets.specs.Changes.{with_external_number, with_import, with_name, with_package, with_symbol, with_use, symbol_named, number_among as name_number}
 use Rattle.package_table.specs.Table.{Name, common_lisp, keyword, is_locked}

@@ -4,7 +4,7 @@
 use Rattle.std.proofs.Common.{◌≡◌, ◌≢◌, ◌⊎◌, Bool, true, false, cond, Option, None, Some, is_some, bytes_eq, refl, sym, ap, subst, ◌∙◌, inl, inr}
 use Rattle.std.specs.Option.{option_map, option_map_or}
 use Rattle.package_table.specs.Table.{Name, Present, Table, keyword, IsPackage, IsExternal, Uses, Finds, FindsNone, AreSoundPackages, with_entry}
-use Rattle.package_table.specs.Lookup.{found}
+use Rattle.package_table.specs.Lookup.{home_by_name}
 use Rattle.package_table.specs.Growth.{Grows, IsSameBut}
 use Rattle.package_table.proofs.Names.{none_some}
 use Rattle.package_table.proofs.Frames.{equal_names, entry_new, entry_other, package_with_entry}
@@ -16,9 +16,9 @@ use Rattle.package_table.proofs.Growing.{Kept, grows_same, grows_with_entry, dif
 pub record Interned (t u : Table) (p n h : Name) (changes : Bool) : Type 0 where
   pub kept : Kept t u changes
   pub others : IsSameBut t u p n
-  pub finds : found u p n ≡ Some h
+  pub finds : home_by_name u p n ≡ Some h
 
-pub interned_found : (t : Table) (p n h : Name) → AreSoundPackages t → found t p n ≡ Some h → Interned t t p n h false
+pub interned_found : (t : Table) (p n h : Name) → AreSoundPackages t → home_by_name t p n ≡ Some h → Interned t t p n h false
 interned_found t p n h sound is = record {
   kept = record { sound = sound; grows = grows_same t; told = refl };
   others = record { packages = λ _. refl; finds = λ _ _ _. refl; externals = λ _ _ _. refl };
@@ -66,7 +66,7 @@ module _ (t : Table) (p n : Name) (sound : AreSoundPackages t) (there : IsPackag
   others sound_then = record {
     packages = package_with_entry t p n e;
     finds = λ q m differ.
-        elim (found t q m) as (λ o. found t q m ≡ o → found u q m ≡ o) [
+        elim (home_by_name t q m) as (λ o. home_by_name t q m ≡ o → home_by_name u q m ≡ o) [
           | None ↦ λ is. finds_none u m q (λ h finds. found_none t m q is h (found_before q m h differ finds))
           | Some h ↦ λ is. found_is u m sound_then.joined q h (finds_grown t u grows q m h (found_finds t m q h is))
         ] refl;

@@ -10,7 +10,7 @@ use Rattle.std.specs.Ordering.{is_eq, eq_by_cmp}
 use Rattle.std.specs.FinMap as finite
 use Rattle.std.specs.FinMap.Entries.{find, is_sorted, below_all}
 use Rattle.package_table.specs.Table.{Name, name_cmp, Present, Package, Table, Uses, Finds, IsExternal, IsPresent, AreSoundPackages}
-use Rattle.package_table.specs.Lookup.{found}
+use Rattle.package_table.specs.Lookup.{home_by_name}
 use Rattle.package_table.specs.Changes.{finds_other, user_finds_other, finds_other_than_shown}
 use Rattle.package_table.proofs.Names.{tied_same, same_tied}
 use Rattle.package_table.proofs.Frames.{unequal_names}
@@ -59,7 +59,7 @@ any_with test m q x there passes =
 
 other_found : (t : Table) (p h n : Name) → finds_other t p h n ≡ true → (g : Name) × Finds t p n g × (g ≢ h)
 other_found t p h n other =
-    elim (found t p n) as (λ o. found t p n ≡ o → option_map_or (λ g. not (bytes_eq g h)) o false ≡ true → (g : Name) × Finds t p n g × (g ≢ h)) [
+    elim (home_by_name t p n) as (λ o. home_by_name t p n ≡ o → option_map_or (λ g. not (bytes_eq g h)) o false ≡ true → (g : Name) × Finds t p n g × (g ≢ h)) [
       | None ↦ λ _ no. absurd (false≢true no)
       | Some g ↦ λ is differs. (g, found_finds t n p g is, unequal_names g h (not-true (bytes_eq g h) differs))
     ] refl other

@@ -11,7 +11,7 @@ use Rattle.std.specs.Option.{option_or, option_map_or}
 use Rattle.std.specs.List.{IsDistinct, AllByRecursion, list_any}
 use Rattle.std.specs.Ordering.{eq_by_cmp}
 use Rattle.std.specs.FinMap as finite
-use Rattle.package_sets.specs.Kept.{Kept, name_at, pair_eq}
+use Rattle.package_sets.specs.KeptSets.{Kept, name_at, pair_eq}
 use Rattle.package_sets.specs.Consistent.{IsGood}
 use Rattle.package_sets.specs.Changes.{symbol_named, with_symbol}
 use Rattle.package_sets.proofs.Places.{all_at}

@@ -8,7 +8,7 @@ use Rattle.std.proofs.Common.{◌≡◌, ◌<◌, ◌≤◌, ◌↔◌, ℕ, tru
 use Rattle.std.proofs.lemmas.Bool.{false≢true}
 use Rattle.std.specs.Option.{option_or, option_map_or}
 use Rattle.std.specs.FinMap as finite
-use Rattle.package_sets.specs.Kept.{Kept, import_of, name_at, pair_at, pair_eq}
+use Rattle.package_sets.specs.KeptSets.{Kept, import_of, name_at, pair_at, pair_eq}
 use Rattle.package_sets.specs.Consistent.{IsGood}
 use Rattle.package_table.specs.Table.{Name, Present, Package, entry_at, IsPackage, IsPresent}
 use Rattle.package_table.specs.Lookup.{external_home, is_present, is_symbol, is_used}

@@ -6,14 +6,14 @@
 use Rattle.std.proofs.Common.{◌≡◌, ◌<◌, Bool, List, [], ◌∷◌, length, Result, Ok, Err, IfOk, IfErr, All, refl, sym, ap, subst, ◌∙◌}
 use Rattle.std.specs.List.{AllByRecursion}
 use Rattle.package_sets.specs.declared.sizes.Sizes.{Sizes}
-use Rattle.package_sets.specs.Kept.{Kept}
+use Rattle.package_sets.specs.KeptSets.{Kept}
 use Rattle.package_sets.specs.Consistent.{IsGood}
 use Rattle.package_table.specs.declared.error.PackageError.{PackageError}
 use Rattle.package_table.specs.declared.packages.Packages.TheInside.{Inside}
 use Rattle.package_table.specs.Table.{Name, Table, AreSoundPackages, symbol_count}
 use Rattle.package_table.specs.Changes.{after_intern, AnswersPackages, TellsChange, Yields}
 use Rattle.package_table.specs.Growth.{Grows, IsSameBut, TellsOfChange}
-use Rattle.package_table.specs.Numbers.{Tables, numbered}
+use Rattle.package_table.specs.Numbers.{Tables, table_now}
 use Rattle.package_table.specs.Numbering.{KeepsNumbers}
 use Rattle.package_table.specs.Meaning.{numbered_of}
 use Rattle.package_table.specs.Adds.{Adds, AddsNoSymbol}
@@ -55,7 +55,7 @@ same_tables k u (Err e) unchanged = ap (λ (k : Kept). (numbered_of k).0) unchan
 pub record Left (ts : Tables) (a b : Inside) : Type 0 where
   pub kept : HasKeptTable b
   pub grows : Grows ts.0 (numbered_of b.sets).0
-  pub numbers : KeepsNumbers (numbered ts) (numbered_of b.sets)
+  pub numbers : KeepsNumbers (table_now ts) (numbered_of b.sets)
   pub marked : tables_at a.marks.items b.sets ≡ ts.1.marked
 
 -- what is left of packages that are sound and counted
@@ -68,7 +68,7 @@ left_by a ts u seen before adds sound grows counted = record {
     rising = before.rising;
   };
   grows = subst (λ (ts : Tables). Grows ts.0 (numbered_of u).0) seen grows;
-  numbers = subst (λ (ts : Tables). KeepsNumbers (numbered ts) (numbered_of u)) seen (keeps_of a.sets u before.state.good adds.good adds);
+  numbers = subst (λ (ts : Tables). KeepsNumbers (table_now ts) (numbered_of u)) seen (keeps_of a.sets u before.state.good adds.good adds);
   marked = same_marked a.sets u adds a.marks.items before.marked ∙ ap (λ (ts : Tables). ts.1.marked) seen;
 }
 

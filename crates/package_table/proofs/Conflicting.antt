@@ -9,7 +9,7 @@ use Rattle.std.specs.Option.{option_map_or}
 use Rattle.std.specs.List.{list_any}
 use Rattle.std.specs.FinMap as finite
 use Rattle.std.specs.Cmp.{both_ways}
-use Rattle.package_sets.specs.Kept.{Kept, name_at, pair_at, pair_eq}
+use Rattle.package_sets.specs.KeptSets.{Kept, name_at, pair_at, pair_eq}
 use Rattle.package_sets.specs.Consistent.{IsGood}
 use Rattle.package_table.specs.Table.{Name, Present, Package, Uses, Finds, IsPackage, IsPresent, IsExternal, IsJoined, AreSoundPackages}
 use Rattle.package_table.specs.Changes.{finds_other, user_finds_other, finds_other_than_shown}

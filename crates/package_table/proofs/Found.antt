@@ -14,7 +14,7 @@ use Rattle.std.specs.FinMap as finite
 use Rattle.std.specs.FinMap.{contains_key-keys}
 use Rattle.std.proofs.lemmas.Bool.{false≢true, or_right}
 use Rattle.package_table.specs.Table.{Name, name_cmp, Present, Package, Table, entry_at, IsPresent, IsExternal, Uses, Finds, FindsNone, IsJoined}
-use Rattle.package_table.specs.Lookup.{external_home, first_external, found, is_external, is_used}
+use Rattle.package_table.specs.Lookup.{external_home, first_external, home_by_name, is_external, is_used}
 use Rattle.package_table.proofs.Names.{tied_same, same_tied, same_some, none_some}
 
 -- an external symbol, as the function has it
@@ -124,7 +124,7 @@ module _ (t : Table) (n : Name) where
             inr (first.0, ap (λ b. Some b) (contains_key-keys k.uses first.0 ∙ first.1), first.2)
       ] e
 
-  pub found_finds : (p h : Name) → found t p n ≡ Some h → Finds t p n h
+  pub found_finds : (p h : Name) → home_by_name t p n ≡ Some h → Finds t p n h
   found_finds p h e =
       elim (look_gives (finite.get t p) h e) [
         | inl here ↦ inl here
@@ -132,24 +132,24 @@ module _ (t : Table) (n : Name) where
       ]
 
   -- a present symbol comes before the inherited ones
-  pub present_found : (p h : Name) → IsPresent t p n h → found t p n ≡ Some h
+  pub present_found : (p h : Name) → IsPresent t p n h → home_by_name t p n ≡ Some h
   present_found p h here = present_look (finite.get t p) h here
 
-  some_found : (p h : Name) → Finds t p n h → (g : Name) × (found t p n ≡ Some g)
+  some_found : (p h : Name) → Finds t p n h → (g : Name) × (home_by_name t p n ≡ Some g)
   some_found p h (inl here) = (h, present_look (finite.get t p) h here)
   some_found p h (inr used) = inherited_look (finite.get t p) used.0 h used.1 (external_home_is (entry_at t used.0 n) h used.2 used.3)
 
-  pub found_is : IsJoined t → (p h : Name) → Finds t p n h → found t p n ≡ Some h
+  pub found_is : IsJoined t → (p h : Name) → Finds t p n h → home_by_name t p n ≡ Some h
   found_is joined p h finds =
       let some = some_found p h finds in
       some.1 ∙ ap (λ g. Some g) (joined.one p n some.0 h (found_finds p some.0 some.1) finds)
 
-  pub found_none : (p : Name) → found t p n ≡ None → FindsNone t p n
+  pub found_none : (p : Name) → home_by_name t p n ≡ None → FindsNone t p n
   found_none p none h finds = let some = some_found p h finds in none_some some.0 (sym none ∙ some.1)
 
-  pub finds_none : (p : Name) → FindsNone t p n → found t p n ≡ None
+  pub finds_none : (p : Name) → FindsNone t p n → home_by_name t p n ≡ None
   finds_none p none =
-      elim (found t p n) as (λ o. found t p n ≡ o → o ≡ None) [
+      elim (home_by_name t p n) as (λ o. home_by_name t p n ≡ o → o ≡ None) [
         | None ↦ λ _. refl
         | Some h ↦ λ is. absurd (none h (found_finds p h is))
       ] refl

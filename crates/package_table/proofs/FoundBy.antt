@@ -11,11 +11,11 @@ use Rattle.std.specs.List.{IsDistinct, AllByRecursion, list_any}
 use Rattle.std.specs.Cmp.{IsEquivalence}
 use Rattle.std.specs.Cmp.Lexicographic.{nat_list_eq_equiv}
 use Rattle.std.specs.FinMap as finite
-use Rattle.package_sets.specs.Kept.{Kept, name_at, pair_at, pair_eq, positions_from, positions_of}
+use Rattle.package_sets.specs.KeptSets.{Kept, name_at, pair_at, pair_eq, positions_from, positions_of}
 use Rattle.package_sets.specs.Consistent.{IsGood}
 use Rattle.package_sets.proofs.Places.{all_at, none_any}
 use Rattle.package_table.specs.Table.{Name, Present, Package, Table, entry_at, IsPresent, IsExternal, Uses, Finds, FindsNone, IsJoined}
-use Rattle.package_table.specs.Lookup.{found, external_home}
+use Rattle.package_table.specs.Lookup.{home_by_name, external_home}
 use Rattle.package_table.specs.Meaning.{number_in, is_shown_in, present_in, package_of_number, home_in, shown_number, first_shown, found_number, numbered_of}
 use Rattle.package_table.proofs.Names.{same_some, none_some}
 use Rattle.package_table.proofs.Found.{found_is, finds_none}
@@ -270,14 +270,14 @@ module _ (k : Kept) (good : IsGood k) where
         some_any : (q x : ℕ) → position (pair_eq (p, q)) k.uses ≡ Some x → list_any (pair_eq (p, q)) k.uses ≡ true
         some_any q x is = let at = position-Some (pair_eq (p, q)) k.uses x (0, 0) is in any_at (pair_eq (p, q)) k.uses x (0, 0) at.0 at.1
 
-    pub found_by : IsJoined (numbered_of k).0 → option_map (home_in k) (found_number k p j) ≡ found (numbered_of k).0 P N
+    pub found_by : IsJoined (numbered_of k).0 → option_map (home_in k) (found_number k p j) ≡ home_by_name (numbered_of k).0 P N
     found_by joined =
-        elim (found_number k p j) as (λ o. found_number k p j ≡ o → option_map (home_in k) o ≡ found (numbered_of k).0 P N) [
+        elim (found_number k p j) as (λ o. found_number k p j ≡ o → option_map (home_in k) o ≡ home_by_name (numbered_of k).0 P N) [
           | Some i ↦ λ is. sym (found_is (numbered_of k).0 N joined P (home_in k i) (finds_number i is))
           | None ↦ λ none. sym (finds_none (numbered_of k).0 N P (finds_nothing none))
         ] refl
 
-  pub found_no_name : (P N : Name) → position (bytes_eq N) k.names ≡ None → found (numbered_of k).0 P N ≡ None
+  pub found_no_name : (P N : Name) → position (bytes_eq N) k.names ≡ None → home_by_name (numbered_of k).0 P N ≡ None
   found_no_name P N none = finds_none (numbered_of k).0 N P (nothing none)
     where
       nothing : position (bytes_eq N) k.names ≡ None → FindsNone (numbered_of k).0 P N

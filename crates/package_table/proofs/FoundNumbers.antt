@@ -1,7 +1,7 @@
 -- The number of the symbol that a package finds by a name.
 use Rattle.std.proofs.Common.{◌≡◌, ℕ, position, Option, None, Some, IfSome, option_map, bytes_eq, sym, ap, subst, ◌∙◌}
 use Rattle.package_sets.specs.Consistent.{IsGood}
-use Rattle.package_sets.specs.Kept.{Kept, name_at}
+use Rattle.package_sets.specs.KeptSets.{Kept, name_at}
 use Rattle.package_table.specs.Meaning.{found_number, home_in, numbered_of, symbol_name}
 use Rattle.package_table.specs.Numbers.{number_of, IsFoundNumber}
 use Rattle.package_table.specs.Table.{Name, IsJoined}

@@ -5,9 +5,9 @@ use Rattle.std.proofs.Common.{◌≡◌, ◌<◌, ℕ, zero, suc, Bool, true, fa
 use Rattle.std.proofs.lemmas.Bool.{false≢true, and_from}
 use Rattle.std.proofs.lemmas.List.Quantifiers.{position-Some}
 use Rattle.std.specs.List.{list_any}
-use Rattle.package_sets.specs.Kept.{Kept, name_at, pair_at, pair_eq, positions_of}
+use Rattle.package_sets.specs.KeptSets.{Kept, name_at, pair_at, pair_eq, positions_of}
 use Rattle.package_sets.specs.Consistent.{IsGood}
-use Rattle.package_sets.specs.Inherited.{IsInherited}
+use Rattle.package_sets.specs.InheritedNames.{IsInherited}
 use Rattle.package_sets.proofs.Growing.{pair_equiv}
 use Rattle.package_table.specs.Table.{Name, Finds, IsJoined}
 use Rattle.package_table.specs.Meaning.{number_in, is_shown_in, home_in, shown_number, first_shown, numbered_of}

@@ -17,7 +17,7 @@ use Rattle.package_table.specs.declared.error.PackageError.TheVariants.{EmptyNam
 use Rattle.package_table.specs.Limits.{most_packages, most_symbols, longest_package_name, longest_symbol_name}
 use Rattle.package_table.specs.declared.standardized.TheConstants.{CL, CL_USER}
 use Rattle.package_table.specs.Table.{Name, name_cmp, Present, Package, Table, entry_at, full_name, is_locked, package_named, common_lisp, common_lisp_user, keyword, IsPackage, IsPresent, IsExternal, Uses, Finds, AreSoundPackages, IsPackageName, symbol_count, with_entry, with_used, with_new_package}
-use Rattle.package_table.specs.Lookup.{found, is_external, is_used}
+use Rattle.package_table.specs.Lookup.{home_by_name, is_external, is_used}
 use Rattle.package_table.specs.Changes.{after_make, after_intern, after_export, after_import, after_use, intern_changes, export_changes, import_changes, use_changes, with_external, finds_this, finds_other, user_finds_other, finds_other_than_shown, AnswersPackages}
 use Rattle.package_table.proofs.Names.{tied_same, same_some, none_some}
 use Rattle.package_table.proofs.Frames.{equal_names, unequal_names}
@@ -56,14 +56,14 @@ kept_after P t u view (Err e) said gives unchanged kept before = subst P (sym un
 -- what p finds by the name n, if anything, is the symbol of home h
 only_this : (t : Table) (p h n : Name) → AreSoundPackages t → finds_other t p h n ≡ false → (g : Name) → Finds t p n g → g ≡ h
 only_this t p h n sound alike g finds =
-    let is : found t p n ≡ Some g = found_is t n sound.joined p g finds in
+    let is : home_by_name t p n ≡ Some g = found_is t n sound.joined p g finds in
     let same : not (bytes_eq g h) ≡ false = sym (ap (λ o. option_map_or (λ g. not (bytes_eq g h)) o false) is) ∙ alike in
     equal_names g h (not-false (bytes_eq g h) same)
 
 -- the symbol of home h is found
 this_found : (t : Table) (p h n : Name) → finds_this t p h n ≡ true → Finds t p n h
 this_found t p h n this =
-    elim (found t p n) as (λ o. found t p n ≡ o → option_map_or (λ g. bytes_eq g h) o false ≡ true → Finds t p n h) [
+    elim (home_by_name t p n) as (λ o. home_by_name t p n ≡ o → option_map_or (λ g. bytes_eq g h) o false ≡ true → Finds t p n h) [
       | None ↦ λ _ no. absurd (false≢true no)
       | Some g ↦ λ is same. found_finds t n p h (is ∙ ap Some (equal_names g h same))
     ] refl this
@@ -146,14 +146,14 @@ kept_make t n u sound ascii is =
     subst (λ (u : Table). Kept t u true × (symbol_count u ≡ symbol_count t)) made
     (record { sound = sound_made t n sound name.1 good few; grows = grows_with_new t n name.1; told = differs_new t n name.1 }, symbols_with_new t n name.1)
 
-pub counted_new : (t : Table) (p n : Name) → finite.contains_key t p ≡ true → found t p n ≡ None → symbol_count (with_entry t p n (record { home = p; external = bytes_eq p keyword })) ≡ symbol_count t + 1
+pub counted_new : (t : Table) (p n : Name) → finite.contains_key t p ≡ true → home_by_name t p n ≡ None → symbol_count (with_entry t p n (record { home = p; external = bytes_eq p keyword })) ≡ symbol_count t + 1
 counted_new t p n there none = symbols_new t p n (record { home = p; external = bytes_eq p keyword }) there (no_entry t p n (found_none t n p none)) refl
 
 -- a symbol that is external already
 again_external : (t : Table) (p h n : Name) → finds_this t p h n ≡ true → is_external t p n ≡ true → with_external t p h n ≡ t
 again_external t p h n this shown =
     let here = external_entry t p n shown in
-    let is : found t p n ≡ Some here.0 = present_found t n p here.0 (ap (option_map (λ (e : Present). e.home)) here.1) in
+    let is : home_by_name t p n ≡ Some here.0 = present_found t n p here.0 (ap (option_map (λ (e : Present). e.home)) here.1) in
     let same : here.0 ≡ h = equal_names here.0 h (sym (ap (λ (o : Option Name). option_map_or (λ g. bytes_eq g h) o false) is) ∙ this) in
     entry_again t p n (record { home = h; external = true }) (here.1 ∙ (λ i. Some (record { home = same i; external = true })))
 
@@ -176,7 +176,7 @@ module _ (t : Table) (p n : Name) (sound : AreSoundPackages t) where
   pub kept_intern : (h : Name) (u : Table) → All (λ b. b < 128) n → after_intern t p n ≡ Ok (h, u) → Interned t u p n h (intern_changes t p n)
   kept_intern h u ascii is =
       let there = passes (not (finite.contains_key t p)) NoSuchPackage _ (h, u) is in
-      elim (found t p n) as (λ o. found t p n ≡ o → option_map_or {U = Result (Name × Table) PackageError} (λ g. Ok (g, t)) o (cond (bytes_eq p common_lisp) (Err PackageIsLocked) (cond (nat_lt longest_symbol_name (length n) || nat_le most_symbols (symbol_count t)) (Err Limit) (Ok (p, with_entry t p n (record { home = p; external = bytes_eq p keyword }))))) ≡ Ok (h, u) → Interned t u p n h (is_none o)) [
+      elim (home_by_name t p n) as (λ o. home_by_name t p n ≡ o → option_map_or {U = Result (Name × Table) PackageError} (λ g. Ok (g, t)) o (cond (bytes_eq p common_lisp) (Err PackageIsLocked) (cond (nat_lt longest_symbol_name (length n) || nat_le most_symbols (symbol_count t)) (Err Limit) (Ok (p, with_entry t p n (record { home = p; external = bytes_eq p keyword }))))) ≡ Ok (h, u) → Interned t u p n h (is_none o)) [
         | Some g ↦ λ here same.
             let answer = same_ok (g, t) (h, u) same in
             subst (λ (x : Name × Table). Interned t x.1 p n x.0 false) answer (interned_found t p n g sound here)
@@ -290,6 +290,6 @@ stays_but t u p n home r sound ascii gives unchanged =
     (record { sound = sound; grows = grows_same t; others = record { packages = λ _. refl; finds = λ _ _ _. refl; externals = λ _ _ _. refl } })
 
 pub found_after : {A : Type 0} (t u : Table) (p n : Name) (home : A → Name) (r : Result A PackageError) → AreSoundPackages t → All (λ b. b < 128) n
-    → AnswersPackages (λ x. (home x, u)) r (after_intern t p n) → IfOk r (λ x. found u p n ≡ Some (home x))
+    → AnswersPackages (λ x. (home x, u)) r (after_intern t p n) → IfOk r (λ x. home_by_name u p n ≡ Some (home x))
 found_after t u p n home (Ok x) sound ascii gives = (kept_intern t p n sound (home x) u ascii gives).finds
 found_after t u p n home (Err e) sound ascii gives = tt

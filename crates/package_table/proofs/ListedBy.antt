@@ -9,11 +9,11 @@ use Rattle.std.specs.List.{IsDistinct, AllByRecursion, list_any}
 use Rattle.std.specs.FinMap as finite
 use Rattle.std.specs.FinMap.Entries.{find, is_sorted}
 use Rattle.std.specs.Cmp.{both_ways}
-use Rattle.package_sets.specs.Kept.{Kept, import_of, name_at, pair_at, pair_eq, positions_from, positions_of}
+use Rattle.package_sets.specs.KeptSets.{Kept, import_of, name_at, pair_at, pair_eq, positions_from, positions_of}
 use Rattle.package_sets.specs.Consistent.{IsGood}
 use Rattle.package_sets.proofs.Places.{any_some, any_none, all_at}
 use Rattle.package_table.specs.Table.{Name, name_cmp, Present, Package, Table, common_lisp, common_lisp_names, common_lisp_package, keyword, is_locked, entry_at, IsPresent, AreSoundPackages}
-use Rattle.package_table.specs.Readers.{present, own_names, external_names, imports, used_names}
+use Rattle.package_table.specs.Readers.{present_symbols, own_names, external_names, imports, used_names}
 use Rattle.package_table.specs.Meaning.{number_in, is_shown_in, present_in, package_of_number, home_in, symbol_name, shown_positions, shown_symbol, numbered_of}
 use Rattle.package_table.specs.Adds.{IsPlaced}
 use Rattle.package_table.proofs.Names.{same_some, none_some, same_tied}
@@ -184,7 +184,7 @@ module _ (k : Kept) (good : IsGood k) (placed : IsPlaced k) (sound : AreSoundPac
                   any_of (λ x. bytes_eq n (symbol_name k (g x))) xs x.0 x.1 (ap (bytes_eq n) (sym name) ∙ equal_itself n)
             ] refl (sym (ap (λ o. option_map_or test o false) (symbols_at n j is)) ∙ some)
 
-    pub listed : (result : List Name) → IsPermutation (map (λ x. symbol_name k (g x)) xs) result → IsSorted name_cmp result → result ≡ map (λ s. s.0) (filter (λ s. test s.1) (present (numbered_of k).0 Q))
+    pub listed : (result : List Name) → IsPermutation (map (λ x. symbol_name k (g x)) xs) result → IsSorted name_cmp result → result ≡ map (λ s. s.0) (filter (λ s. test s.1) (present_symbols (numbered_of k).0 Q))
     listed result moved sorted =
         sorted_is (map (λ x. symbol_name k (g x)) xs) result (map (λ s. s.0) (filter (λ s. test s.1) (finite.entries (package_of_number k q).symbols)))
         (distinct_mapped P (λ x. symbol_name k (g x)) injective xs distinct all) moved sorted (kept_rise (λ s. test s.1) (package_of_number k q).symbols)
@@ -301,7 +301,7 @@ module _ (k : Kept) (good : IsGood k) (placed : IsPlaced k) (sound : AreSoundPac
       ] refl is
 
   pub imported_listed : (result : List Name) → IsPermutation (map (λ x. symbol_name k (get_or k.imported x 0)) (positions_of q k.imports)) result → IsSorted name_cmp result
-      → result ≡ map (λ s. s.0) (filter (λ s. not (bytes_eq s.1.home Q)) (present (numbered_of k).0 Q))
+      → result ≡ map (λ s. s.0) (filter (λ s. not (bytes_eq s.1.home Q)) (present_symbols (numbered_of k).0 Q))
   imported_listed = listed (λ e. not (bytes_eq e.home Q)) (λ x. get_or k.imported x 0) (positions_of q k.imports) (positions_apart q 0 k.imports) (IsOf k.imports) (all_of k.imports)
       import_inside import_covers
       (λ x y at to same.
@@ -372,7 +372,7 @@ pairs_read test get (e ∷ es) sorted finds =
       | false ↦ rest
     ]
 
-pub imported_pairs : (t : Table) (p : Name) → imports t p ≡ map {B = Name × Name} (λ n. (n, option_map_or (λ e. e.home) (entry_at t p n) [])) (map (λ s. s.0) (filter (λ s. not (bytes_eq s.1.home p)) (present t p)))
+pub imported_pairs : (t : Table) (p : Name) → imports t p ≡ map {B = Name × Name} (λ n. (n, option_map_or (λ e. e.home) (entry_at t p n) [])) (map (λ s. s.0) (filter (λ s. not (bytes_eq s.1.home p)) (present_symbols t p)))
 imported_pairs t p =
     elim (finite.get t p) as (λ o. map {B = Name × Name} (λ (s : Name × Present). (s.0, s.1.home)) (filter (λ s. not (bytes_eq s.1.home p)) (option_map_or (λ (h : Package). finite.entries h.symbols) o []))
     ≡ map {B = Name × Name} (λ n. (n, option_map_or (λ (e : Present). e.home) (option_and_then (λ (h : Package). finite.get h.symbols n) o) [])) (map (λ (s : Name × Present). s.0) (filter (λ s. not (bytes_eq s.1.home p)) (option_map_or (λ (h : Package). finite.entries h.symbols) o [])))) [

@@ -6,7 +6,7 @@ use Rattle.std.proofs.Common.{◌≡◌, ◌<◌, ◌≤◌, ℕ, zero, suc, Lis
 use Rattle.std.specs.List.{AllByRecursion, slice_get}
 use Rattle.std.proofs.lemmas.List.{length-take-le}
 use Rattle.package_sets.specs.declared.sizes.Sizes.{Sizes}
-use Rattle.package_sets.specs.Kept.{Kept, cut, sizes_of, AreUpTo}
+use Rattle.package_sets.specs.KeptSets.{Kept, cut, sizes_of, AreUpTo}
 use Rattle.package_sets.proofs.Places.{all_at}
 use Rattle.package_table.specs.Numbering.{IsNumbered, IsNumberedSound}
 use Rattle.package_table.specs.Meaning.{numbered_of}

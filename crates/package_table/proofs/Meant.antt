@@ -10,7 +10,7 @@ use Rattle.std.proofs.lemmas.List.Quantifiers.{position-Some}
 use Rattle.std.specs.Option.{option_or, option_map_or}
 use Rattle.std.specs.List.{IsDistinct}
 use Rattle.std.specs.FinMap as finite
-use Rattle.package_sets.specs.Kept.{Kept, import_of, pair_at, pair_eq}
+use Rattle.package_sets.specs.KeptSets.{Kept, import_of, pair_at, pair_eq}
 use Rattle.package_sets.specs.Consistent.{IsGood, AreWithin}
 use Rattle.package_table.specs.Table.{Name, name_cmp, Present, Package, entry_at, with_entry}
 use Rattle.package_table.specs.Numbers.{Numbered, number_at, with_numbers, with_numbered}

@@ -7,11 +7,11 @@ use Rattle.std.proofs.lemmas.Bool.{false≢true, or_right}
 use Rattle.std.specs.Option.{option_or, option_map_or}
 use Rattle.std.specs.Ordering.{eq_by_cmp}
 use Rattle.std.specs.FinMap as finite
-use Rattle.package_sets.specs.Kept.{Kept, import_of, name_at, pair_at, pair_eq, positions_of}
+use Rattle.package_sets.specs.KeptSets.{Kept, import_of, name_at, pair_at, pair_eq, positions_of}
 use Rattle.package_sets.specs.Consistent.{IsGood}
 use Rattle.package_sets.specs.Changes.{symbol_named, with_external_number, with_import, with_symbol}
 use Rattle.package_table.specs.Table.{Name, name_cmp, Present, Package, Table, entry_at, with_entry, common_lisp, keyword, is_locked, IsJoined, IsPresent}
-use Rattle.package_table.specs.Lookup.{found, is_external}
+use Rattle.package_table.specs.Lookup.{home_by_name, is_external}
 use Rattle.package_table.specs.Changes.{finds_this}
 use Rattle.package_table.specs.Numbers.{Numbered, with_numbered}
 use Rattle.package_table.specs.Meaning.{number_in, is_shown_in, present_in, home_in, found_number, first_shown, numbered_of}
@@ -51,7 +51,7 @@ entry_twice t p n e f =
     ] refl
 
 -- where nothing is found, there is no entry
-pub nothing_there : (k : Kept) (P N : Name) → found (numbered_of k).0 P N ≡ None → entry_at (numbered_of k).0 P N ≡ None
+pub nothing_there : (k : Kept) (P N : Name) → home_by_name (numbered_of k).0 P N ≡ None → entry_at (numbered_of k).0 P N ≡ None
 nothing_there k P N none = no_entry (numbered_of k).0 P N (found_none (numbered_of k).0 N P none)
 
 -- the number of a symbol that is present at home

@@ -1,7 +1,7 @@
 -- What every call keeps that adds to the kept lists.
 use Rattle.std.specs.Prelude.{◌≡◌, ℕ, [], length, position, bytes_eq, Some, None}
 use Rattle.package_sets.specs.declared.sizes.Sizes.{Sizes}
-use Rattle.package_sets.specs.Kept.{Kept, cut, pair_at, pair_eq, sizes_of, AreUpTo}
+use Rattle.package_sets.specs.KeptSets.{Kept, cut, pair_at, pair_eq, sizes_of, AreUpTo}
 use Rattle.package_sets.specs.Consistent.{IsGood}
 use Rattle.package_table.specs.Table.{Name, common_lisp, keyword}
 use Rattle.package_table.specs.Meaning.{number_in}

@@ -1,5 +1,5 @@
 -- What the calls that write make of the packages, or the first reason for which they refuse. Which symbol a package finds by
--- a name, `found` of Lookup.antt says.
+-- a name, `home_by_name` of Lookup.antt says.
 use Rattle.std.specs.Prelude.{◌≡◌, Bool, true, false, not, ◌&&◌, ◌||◌, ◌==◌, nat_lt, nat_le, length, is_none, is_some, bytes_eq, if◌then◌else◌, IsTrue, Result, Ok, Err, IsOk, IfOk, MatchResult}
 use Rattle.std.specs.List.{list_any}
 use Rattle.std.specs.Option.{option_map_or}
@@ -8,8 +8,8 @@ use Rattle.package_table.specs.declared.error.PackageError.{PackageError}
 use Rattle.package_table.specs.declared.error.PackageError.TheVariants.{EmptyName, NoSuchPackage, PackageExists, PackageIsLocked, NameConflict, NotAccessible, Limit, OutOfMemory}
 use Rattle.package_table.specs.Limits.{most_packages, most_symbols, longest_package_name, longest_symbol_name}
 use Rattle.package_table.specs.Table.{Name, Table, common_lisp, keyword, is_locked, package_named, symbol_count, with_entry, with_used, with_new_package}
-use Rattle.package_table.specs.Lookup.{found, is_present, is_external, is_used}
-use Rattle.package_table.specs.Readers.{present}
+use Rattle.package_table.specs.Lookup.{home_by_name, is_present, is_external, is_used}
+use Rattle.package_table.specs.Readers.{present_symbols}
 
 -- There are as many packages as there may be, or as many symbols: one more is refused.
 abbrev pub is_full_of_packages : Table → Bool
@@ -35,18 +35,18 @@ with_new_symbol t p n = with_entry t p n (record { home = p; external = bytes_eq
 abbrev pub after_intern : Table → Name → Name → Result (Name × Table) PackageError
 after_intern t p n =
     if not (finite.contains_key t p) then Err NoSuchPackage
-    else option_map_or (λ h. Ok (h, t)) (found t p n)
+    else option_map_or (λ h. Ok (h, t)) (home_by_name t p n)
     (if bytes_eq p common_lisp then Err PackageIsLocked
     else (if nat_lt longest_symbol_name (length n) || is_full_of_symbols t then Err Limit
     else Ok (p, with_new_symbol t p n)))
 
 -- p finds the symbol of home h by the name n
 abbrev pub finds_this : Table → Name → Name → Name → Bool
-finds_this t p h n = option_map_or (λ g. bytes_eq g h) (found t p n) false
+finds_this t p h n = option_map_or (λ g. bytes_eq g h) (home_by_name t p n) false
 
 -- p finds another symbol than that of home h by the name n
 abbrev pub finds_other : Table → Name → Name → Name → Bool
-finds_other t p h n = option_map_or (λ g. not (bytes_eq g h)) (found t p n) false
+finds_other t p h n = option_map_or (λ g. not (bytes_eq g h)) (home_by_name t p n) false
 
 -- a package that uses p finds another symbol than that of home h by the name n
 abbrev pub user_finds_other : Table → Name → Name → Name → Bool
@@ -79,7 +79,7 @@ after_import t p h n =
 
 -- p finds another symbol by the name of one that is external in q
 abbrev pub finds_other_than_shown : Table → Name → Name → Bool
-finds_other_than_shown t p q = list_any (λ s. s.1.external && finds_other t p s.1.home s.0) (present t q)
+finds_other_than_shown t p q = list_any (λ s. s.1.external && finds_other t p s.1.home s.0) (present_symbols t q)
 
 -- USE-PACKAGE (standard 11.2). A package that is used already, and p itself, are passed over.
 abbrev pub after_use : Table → Name → Name → Result Table PackageError
@@ -92,7 +92,7 @@ after_use t p q =
 
 -- whether a call that is not refused changes the packages
 abbrev pub intern_changes : Table → Name → Name → Bool
-intern_changes t p n = is_none (found t p n)
+intern_changes t p n = is_none (home_by_name t p n)
 
 -- whether EXPORT changes something: the symbol is not external yet
 abbrev pub export_changes : Table → Name → Name → Bool

@@ -2,7 +2,7 @@
 use Rattle.std.specs.Prelude.{◌≡◌, ◌≢◌, ◌⊎◌, Bool, true, false}
 use Rattle.std.specs.FinMap as finite
 use Rattle.package_table.specs.Table.{Name, Table, IsPackage, IsPresent, IsExternal, Uses}
-use Rattle.package_table.specs.Lookup.{found, external_home}
+use Rattle.package_table.specs.Lookup.{home_by_name, external_home}
 
 -- no package, no home of a present symbol, no external name and no use is lost
 pub record Grows (t u : Table) : Type 0 where
@@ -14,7 +14,7 @@ pub record Grows (t u : Table) : Type 0 where
 -- the packages are the same, and every name but n in p finds what it found
 pub record IsSameBut (t u : Table) (p n : Name) : Type 0 where
   pub packages : (q : Name) → finite.contains_key u q ≡ finite.contains_key t q
-  pub finds : (q m : Name) → (q ≢ p) ⊎ (m ≢ n) → found u q m ≡ found t q m
+  pub finds : (q m : Name) → (q ≢ p) ⊎ (m ≢ n) → home_by_name u q m ≡ home_by_name t q m
   pub externals : (q m : Name) → (q ≢ p) ⊎ (m ≢ n) → external_home u q m ≡ external_home t q m
 
 -- whether the table changed

@@ -15,8 +15,8 @@ first_external t n [] = None
 first_external t n (q ∷ qs) = option_map_or (λ h. Some h) (external_home t q n) (first_external t n qs)
 
 -- the home of the symbol that p finds by the name n
-abbrev pub found : Table → Name → Name → Option Name
-found t p n =
+abbrev pub home_by_name : Table → Name → Name → Option Name
+home_by_name t p n =
     option_map_or (λ k. option_map_or (λ e. Some e.home) (finite.get k.symbols n) (first_external t n (finite.keys k.uses)))
     (finite.get t p) None
 

@@ -3,7 +3,7 @@ use Rattle.std.specs.Prelude.{◌+◌, ℕ, Bool, false, not, ◌||◌, nat_lt, 
 use Rattle.std.specs.Option.{option_or, option_map_or}
 use Rattle.std.specs.List.{cons_option}
 use Rattle.std.specs.FinMap as finite
-use Rattle.package_sets.specs.Kept.{Kept, import_of, name_at, pair_at, pair_eq, positions_of}
+use Rattle.package_sets.specs.KeptSets.{Kept, import_of, name_at, pair_at, pair_eq, positions_of}
 use Rattle.package_table.specs.Table.{Name, name_cmp, Present, Package, Table}
 use Rattle.package_table.specs.Numbers.{Numbers, Numbered}
 

@@ -6,7 +6,7 @@ use Rattle.std.specs.Borrow.{Bor}
 use Rattle.std.specs.Coded.{Coded, code_by, coded×, coded_list, coded_ℕ}
 use Rattle.std.specs.FinMap as finite
 use Rattle.package_table.specs.Table.{Name, name_cmp, name_code, Present, Table, table_code, with_entry, with_used, with_new_package}
-use Rattle.package_table.specs.Lookup.{found, is_symbol}
+use Rattle.package_table.specs.Lookup.{home_by_name, is_symbol}
 
 -- for each package, the number of the symbol that is present by each name
 abbrev pub Numbers : Type 0
@@ -42,12 +42,12 @@ abbrev pub tables_code : Coded Tables
 tables_code = coded× table_code beside_code
 
 -- the table now, and the numbers of its symbols
-abbrev pub numbered : Tables → Numbered
-numbered ts = (ts.0, ts.1.numbers)
+abbrev pub table_now : Tables → Numbered
+table_now ts = (ts.0, ts.1.numbers)
 
 -- the packages with one mark more, the last, at which they are as now
 abbrev pub with_mark : Tables → Tables
-with_mark ts = (ts.0, record ts.1 { marked = ts.1.marked ++ numbered ts ∷ [] })
+with_mark ts = (ts.0, record ts.1 { marked = ts.1.marked ++ table_now ts ∷ [] })
 
 -- the packages with no marks
 abbrev pub without_marks : Tables → Tables
@@ -80,7 +80,7 @@ number_of s h n = if is_symbol s.0 h n then number_at s.1 h n else None
 -- the number of the symbol that p finds by the name n, and where that is at home
 pub record IsFoundNumber (s : Numbered) (p n : Name) (i : ℕ) : Type 0 where
   pub home : Name
-  pub finds : found s.0 p n ≡ Some home
+  pub finds : home_by_name s.0 p n ≡ Some home
   pub number : number_of s home n ≡ Some i
 
 -- the home and the name of a symbol that is given by borrow

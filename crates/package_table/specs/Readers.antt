@@ -20,8 +20,8 @@ abbrev pub used_names : Table → Name → List Name
 used_names t p = option_map_or (λ k. finite.keys k.uses) (finite.get t p) []
 
 -- the names that are present in p, and what is there
-abbrev pub present : Table → Name → List (Name × Present)
-present t p = option_map_or (λ k. finite.entries k.symbols) (finite.get t p) []
+abbrev pub present_symbols : Table → Name → List (Name × Present)
+present_symbols t p = option_map_or (λ k. finite.entries k.symbols) (finite.get t p) []
 
 -- the names of those at home in p
 abbrev pub own_among : Name → List (Name × Present) → List Name
@@ -37,15 +37,15 @@ imported_among p es = map (λ s. (s.0, s.1.home)) (filter (λ s. not (bytes_eq s
 
 -- the names at home in p, those external in p, and those present in p with another home
 abbrev pub own_names : Table → Name → List Name
-own_names t p = own_among p (present t p)
+own_names t p = own_among p (present_symbols t p)
 
 -- the names that are external in a package
 abbrev pub external_names : Table → Name → List Name
-external_names t p = external_among (present t p)
+external_names t p = external_among (present_symbols t p)
 
 -- the symbols of other packages that are present in a package
 abbrev pub imports : Table → Name → List (Name × Name)
-imports t p = imported_among p (present t p)
+imports t p = imported_among p (present_symbols t p)
 
 -- the home of the symbol that is present in p by the name n
 abbrev pub home_at : Table → Name → Name → Name

@@ -6,7 +6,7 @@ use Rattle.package_table.specs.declared.error.PackageError.TheVariants.{NoPackag
 use Rattle.package_table.specs.declared.resolve.Resolved.{Resolved}
 use Rattle.package_table.specs.declared.resolve.Resolved.TheVariants.{Found, New}
 use Rattle.package_table.specs.Table.{Name, Table, common_lisp, package_named}
-use Rattle.package_table.specs.Lookup.{found, external_home}
+use Rattle.package_table.specs.Lookup.{home_by_name, external_home}
 
 -- a symbol that is there, by its home; or a new one, by the package that would be its home
 pub data Resolution : Type 0 where
@@ -30,7 +30,7 @@ AnswersLookUp view said is = MatchResult said (λ x. is ≡ Ok (view x)) (λ e. 
 -- a name in p: it may be new, but not in COMMON-LISP
 abbrev pub resolution : Table → Name → Name → Result Resolution PackageError
 resolution t p n =
-    option_map_or (λ h. Ok (found_at h)) (found t p n) (if bytes_eq p common_lisp then Err LockedPackage else Ok (new_in p))
+    option_map_or (λ h. Ok (found_at h)) (home_by_name t p n) (if bytes_eq p common_lisp then Err LockedPackage else Ok (new_in p))
 
 -- a name after one package marker: an external symbol, by its home
 abbrev pub external_resolution : Table → Name → Name → Result Name PackageError

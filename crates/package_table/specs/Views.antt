@@ -2,7 +2,7 @@
 use Rattle.std.specs.Prelude.{◌≡◌, List, [], ◌∷◌, map, length}
 use Rattle.std.specs.List.{AllByRecursion}
 use Rattle.package_sets.specs.declared.sizes.Sizes.{Sizes}
-use Rattle.package_sets.specs.Kept.{Kept, cut, sizes_of, AreUpTo}
+use Rattle.package_sets.specs.KeptSets.{Kept, cut, sizes_of, AreUpTo}
 use Rattle.package_sets.specs.Consistent.{IsGood}
 use Rattle.package_table.specs.declared.packages.Packages.TheInside.{Inside}
 use Rattle.package_table.specs.Table.{AreSoundPackages, symbol_count}

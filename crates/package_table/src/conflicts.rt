@@ -1,7 +1,7 @@
 //! Whether a package finds another symbol than a given one by its name.
 ghost use Rattle.std.specs.Prelude.{◌≡◌, ◌<◌, ◌&&◌, false, nat_lt, length};
 ghost use Rattle.std.specs.FinMap as finite;
-ghost use Rattle.package_sets.specs.Kept.{name_at};
+ghost use Rattle.package_sets.specs.KeptSets.{name_at};
 ghost use Rattle.package_table.specs.Table.{IsJoined, IsPackage, AreSoundPackages};
 ghost use Rattle.package_table.specs.Changes.{finds_this, finds_other, user_finds_other, finds_other_than_shown};
 ghost use Rattle.package_table.specs.Meaning.{finds_another, numbered_of, package_of_number, shown_positions, shown_symbol};

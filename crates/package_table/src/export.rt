@@ -3,7 +3,7 @@ ghost use Rattle.std.specs.Prelude.{◌≡◌, IfErr, IfOk};
 ghost use Rattle.package_table.specs.Table.{AreSoundPackages};
 ghost use Rattle.package_table.specs.Changes.{after_export, export_changes, with_external, AnswersPackages, RunsOutOnlyIf, TellsChange, Yields};
 ghost use Rattle.package_table.specs.Growth.{Grows, TellsOfChange};
-ghost use Rattle.package_table.specs.Numbers.{numbered};
+ghost use Rattle.package_table.specs.Numbers.{table_now};
 ghost use Rattle.package_table.specs.Numbering.{KeepsNumbers};
 ghost use Rattle.package_table.specs.Meaning.{numbered_of};
 ghost use Rattle.package_table.specs.Adds.{AddsNoSymbol, IsPlaced};
@@ -85,7 +85,7 @@ impl Packages {
         ensures memory { IfErr result
             (RunsOutOnlyIf (export_changes self.old.0 owner.now name.now)) }
         ensures unchanged { IfErr result (λ _. self.new ≡ self.old) }
-        ensures numbers { KeepsNumbers (numbered self.old) (numbered self.new) }
+        ensures numbers { KeepsNumbers (table_now self.old) (table_now self.new) }
         ensures marked { self.new.1.marked ≡ self.old.1.marked }
     {
         export_symbol(&mut self.sets, owner, home, name)

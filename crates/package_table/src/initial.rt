@@ -2,7 +2,7 @@
 ghost use Rattle.std.specs.Prelude.{◌≡◌, ◌<◌, ◌+◌, [], ◌∷◌, length, bytes_eq, Some, IfOk};
 ghost use Rattle.std.specs.List.{IsDistinct};
 ghost use Rattle.std.specs.FinMap as finite;
-ghost use Rattle.package_sets.specs.Kept.{name_at};
+ghost use Rattle.package_sets.specs.KeptSets.{name_at};
 ghost use Rattle.package_table.specs.Table.{common_lisp, common_lisp_user, empty_package, initial, keyword, package_of_names};
 ghost use Rattle.package_table.specs.Readers.{names_of};
 ghost use Rattle.package_table.specs.Meaning.{numbered_of};

@@ -1,11 +1,11 @@
 //! `intern`: the symbol of a name in a package, new if there is none.
 ghost use Rattle.std.specs.Prelude.{◌≡◌, ◌<◌, All, Some, IfErr, IfOk, length};
-ghost use Rattle.package_sets.specs.Kept.{name_at};
+ghost use Rattle.package_sets.specs.KeptSets.{name_at};
 ghost use Rattle.package_table.specs.Table.{IsJoined, IsPackage, symbol_count};
-ghost use Rattle.package_table.specs.Lookup.{found};
+ghost use Rattle.package_table.specs.Lookup.{home_by_name};
 ghost use Rattle.package_table.specs.Changes.{after_intern, intern_changes, AnswersPackages};
 ghost use Rattle.package_table.specs.Growth.{Grows, IsSameBut, TellsOfChange};
-ghost use Rattle.package_table.specs.Numbers.{numbered};
+ghost use Rattle.package_table.specs.Numbers.{table_now};
 ghost use Rattle.package_table.specs.Numbering.{KeepsNumbers};
 ghost use Rattle.package_table.specs.Meaning.{numbered_of};
 ghost use Rattle.package_table.specs.Adds.{Adds, IsPlaced};
@@ -106,13 +106,13 @@ impl Packages {
             (λ interned. interned.is_new ≡ intern_changes self.old.0 owner.now name.now) }
         ensures exactly { IfOk result (λ interned. TellsOfChange interned.is_new self.old.0 self.new.0) }
         ensures finds { IfOk result
-            (λ interned. found self.new.0 owner.now name.now ≡ Some interned.home) }
+            (λ interned. home_by_name self.new.0 owner.now name.now ≡ Some interned.home) }
 
         // No other name finds another symbol, nothing goes, and each symbol keeps its number; after an error nothing has changed.
         ensures others { IsSameBut self.old.0 self.new.0 owner.now name.now }
         ensures grows { Grows self.old.0 self.new.0 }
         ensures unchanged { IfErr result (λ _. self.new ≡ self.old) }
-        ensures numbers { KeepsNumbers (numbered self.old) (numbered self.new) }
+        ensures numbers { KeepsNumbers (table_now self.old) (table_now self.new) }
         ensures marked { self.new.1.marked ≡ self.old.1.marked }
     {
         intern_symbol(self.alloc, &mut self.sets, owner, name)

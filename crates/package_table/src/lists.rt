@@ -1,7 +1,7 @@
 //! Lists of names, each sorted by its bytes when it is asked for.
 ghost use Rattle.std.specs.Prelude.{◌≡◌, ◌<◌, map, length, get_or, position, bytes_eq, Some, IfOk, IfErr, MatchResult};
 ghost use Rattle.std.specs.List.{AllByRecursion};
-ghost use Rattle.package_sets.specs.Kept.{name_at, pair_at, positions_of};
+ghost use Rattle.package_sets.specs.KeptSets.{name_at, pair_at, positions_of};
 ghost use Rattle.package_table.specs.Table.{IsPackage, AreSoundPackages};
 ghost use Rattle.package_table.specs.Readers.{home_at, names_of, package_names, used_names, own_names, external_names, imports, ListRefused};
 ghost use Rattle.package_table.specs.Meaning.{numbered_of, shown_positions, shown_symbol, symbol_name};

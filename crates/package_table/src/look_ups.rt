@@ -1,9 +1,9 @@
 //! Look-ups, by numbers and by names. They take no memory.
 ghost use Rattle.std.specs.Prelude.{◌≡◌, ◌<◌, ◌↔◌, ◌&&◌, IfSome, nat_lt, length, position, if◌then◌else◌, is_some, option_map, Some, None};
 ghost use Rattle.std.specs.FinMap as finite;
-ghost use Rattle.package_sets.specs.Kept.{name_at, pair_at, pair_eq, positions_of};
+ghost use Rattle.package_sets.specs.KeptSets.{name_at, pair_at, pair_eq, positions_of};
 ghost use Rattle.package_table.specs.Table.{IsJoined, Name};
-ghost use Rattle.package_table.specs.Lookup.{external_home, found, is_present, is_symbol, is_used};
+ghost use Rattle.package_table.specs.Lookup.{external_home, home_by_name, is_present, is_symbol, is_used};
 ghost use Rattle.package_table.specs.Changes.{is_full_of_packages};
 ghost use Rattle.package_table.specs.Numbers.{names_of_symbol, number_of, IsFoundNumber};
 ghost use Rattle.package_table.specs.Meaning.{first_shown, found_number, home_in, is_shown_in, number_in, numbered_of, shown_number, symbol_name};
@@ -263,7 +263,7 @@ pub(crate) fn found_home<'a>(sets: &'a PackageSets, owner: u32, name: &[u8]) -> 
     requires package { owner < length sets.now.packages }
     requires joined { IsJoined (numbered_of sets.now).0 }
     ensures { option_map (λ h. h.now) result
-        ≡ found (numbered_of sets.now).0 (name_at sets.now.packages owner) name.now }
+        ≡ home_by_name (numbered_of sets.now).0 (name_at sets.now.packages owner) name.now }
 {
     sets.goodness();
     let Some(name) = sets.find_name(name) else {
@@ -294,7 +294,7 @@ pub(crate) fn found_by_names(sets: &PackageSets, owner: &[u8], name: &[u8]) -> O
 /// The home of the symbol that a package finds by this name.
 pub(crate) fn home_of<'a>(sets: &'a PackageSets, owner: &[u8], name: &[u8]) -> Option<&'a [u8]>
     requires { IsJoined (numbered_of sets.now).0 }
-    ensures { option_map (λ h. h.now) result ≡ found (numbered_of sets.now).0 owner.now name.now }
+    ensures { option_map (λ h. h.now) result ≡ home_by_name (numbered_of sets.now).0 owner.now name.now }
 {
     match package_number(sets, owner) {
         Some(number) => found_home(sets, number, name),

@@ -3,7 +3,7 @@ ghost use Rattle.std.specs.Prelude.{◌≡◌, ◌<◌, All, IfErr, IfOk};
 ghost use Rattle.package_table.specs.Table.{AreSoundPackages, with_new_package};
 ghost use Rattle.package_table.specs.Changes.{after_make, AnswersPackages};
 ghost use Rattle.package_table.specs.Growth.{Grows};
-ghost use Rattle.package_table.specs.Numbers.{numbered};
+ghost use Rattle.package_table.specs.Numbers.{table_now};
 ghost use Rattle.package_table.specs.Numbering.{KeepsNumbers};
 ghost use Rattle.package_table.specs.Meaning.{numbered_of};
 ghost use Rattle.package_table.specs.Adds.{AddsNoSymbol, IsPlaced};
@@ -56,7 +56,7 @@ impl Packages {
         ensures gives { AnswersPackages (λ _. self.new.0) result (after_make self.old.0 name.now) }
         ensures grows { Grows self.old.0 self.new.0 }
         ensures unchanged { IfErr result (λ _. self.new ≡ self.old) }
-        ensures numbers { KeepsNumbers (numbered self.old) (numbered self.new) }
+        ensures numbers { KeepsNumbers (table_now self.old) (table_now self.new) }
         ensures marked { self.new.1.marked ≡ self.old.1.marked }
     {
         make_package(&mut self.sets, name)

@@ -1,7 +1,7 @@
 //! Going back to the packages as they were: `mark`, `back_to`, `settle`.
 ghost use Rattle.std.specs.Prelude.{◌≡◌, ◌<◌, length, take, Some, IfOk, IfErr};
 ghost use Rattle.std.specs.List.{slice_get};
-ghost use Rattle.package_table.specs.Numbers.{numbered, with_mark, without_marks};
+ghost use Rattle.package_table.specs.Numbers.{table_now, with_mark, without_marks};
 
 use crate::Packages;
 use std::alloc::AllocError;
@@ -36,7 +36,7 @@ impl Packages {
     pub fn back_to(&mut self, mark: usize)
         requires { mark < length self.old.1.marked }
         ensures past { self.new.1.marked ≡ take mark self.old.1.marked }
-        ensures now { slice_get self.old.1.marked mark ≡ Some (numbered self.new) }
+        ensures now { slice_get self.old.1.marked mark ≡ Some (table_now self.new) }
     {
         let sizes = self.marks[mark];
         self.marks.truncate(mark);

@@ -1,6 +1,6 @@
 //! One package of several, which is sought once.
 ghost use Rattle.std.specs.Prelude.{◌≡◌, ◌<◌, length};
-ghost use Rattle.package_sets.specs.Kept.{name_at};
+ghost use Rattle.package_sets.specs.KeptSets.{name_at};
 ghost use Rattle.package_table.specs.Table.{IsJoined};
 ghost use Rattle.package_table.specs.Meaning.{numbered_of};
 ghost use Rattle.package_table.specs.Resolving.{resolution, resolution_of, AnswersLookUp};
@@ -22,7 +22,7 @@ pub struct OnePackage<'a> {
 impl<'a> Model for OnePackage<'a> {
     ghost use Rattle.std.specs.Prelude.{◌<◌, length};
     ghost use Rattle.std.specs.Coded.{coded×};
-    ghost use Rattle.package_sets.specs.Kept.{name_at};
+    ghost use Rattle.package_sets.specs.KeptSets.{name_at};
     ghost use Rattle.package_table.specs.Table.{Name, Table, name_code, table_code, IsJoined};
     ghost use Rattle.package_table.specs.Meaning.{numbered_of};
 

@@ -1,11 +1,11 @@
 //! Single changes. Each adds to what is kept, so that what was kept before is still to be had by a cut.
 ghost use Rattle.std.specs.Prelude.{◌≡◌, ◌<◌, ◌+◌, false, true, length, bytes_eq, Some, None, IfOk, OnOk, OnErr};
 ghost use Rattle.std.specs.FinMap as finite;
-ghost use Rattle.package_sets.specs.Kept.{name_at, pair_at, pair_eq};
+ghost use Rattle.package_sets.specs.KeptSets.{name_at, pair_at, pair_eq};
 ghost use Rattle.package_sets.specs.Consistent.{IsGood};
 ghost use Rattle.package_sets.specs.Changes.{with_external_number, with_import};
 ghost use Rattle.package_table.specs.Table.{common_lisp, entry_at, is_locked, keyword, with_entry, with_new_package, with_used, IsJoined, IsPackage, IsPresent};
-ghost use Rattle.package_table.specs.Lookup.{found, is_external, is_used};
+ghost use Rattle.package_table.specs.Lookup.{home_by_name, is_external, is_used};
 ghost use Rattle.package_table.specs.Changes.{finds_this};
 ghost use Rattle.package_table.specs.Meaning.{number_in, numbered_of};
 ghost use Rattle.package_table.specs.Adds.{Adds, AddsNoSymbol, IsPlaced};
@@ -34,7 +34,7 @@ pub(crate) fn put_package(sets: &mut PackageSets, name: &[u8]) -> Result<(), All
 pub(crate) fn put_new(sets: &mut PackageSets, owner: u32, name: &[u8]) -> Result<(), AllocError>
     requires package { owner < length sets.old.packages }
     requires fresh { let p = name_at sets.old.packages owner in
-        found (numbered_of sets.old).0 p name.now ≡ None }
+        home_by_name (numbered_of sets.old).0 p name.now ≡ None }
     requires unlocked { bytes_eq (name_at sets.old.packages owner) common_lisp ≡ false }
     requires placed { IsPlaced sets.old }
     ensures ok { let p = name_at sets.old.packages owner in OnOk result

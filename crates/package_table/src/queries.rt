@@ -2,7 +2,7 @@
 ghost use Rattle.std.specs.Prelude.{◌≡◌, ◌↔◌, IfSome, IsTrue, Some, is_some, nat_lt, option_map};
 ghost use Rattle.std.specs.FinMap as finite;
 ghost use Rattle.package_table.specs.Table.{Name, IsExternal, IsPresent, Uses, symbol_count};
-ghost use Rattle.package_table.specs.Numbers.{names_of_symbol, number_of, numbered, IsFoundNumber};
+ghost use Rattle.package_table.specs.Numbers.{names_of_symbol, number_of, table_now, IsFoundNumber};
 ghost use Rattle.package_table.specs.Changes.{is_full_of_packages, is_full_of_symbols};
 ghost use Rattle.package_table.specs.Lookup.{is_external, is_present, is_symbol, is_used};
 
@@ -32,14 +32,14 @@ impl Packages {
     /// The number of the symbol of this home and name, if there is one. Each symbol has one number, which is below
     /// how many there are, and two symbols have two (`numbering`).
     pub fn number_of(&self, home: &[u8], name: &[u8]) -> Option<u32>
-        ensures { result ≡ number_of (numbered self.now) home.now name.now }
+        ensures { result ≡ number_of (table_now self.now) home.now name.now }
     {
         number_of(&self.sets, home, name)
     }
 
     /// The number of the symbol that a package finds by this name, if it finds one.
     pub fn found(&self, owner: &[u8], name: &[u8]) -> Option<u32>
-        ensures { IfSome result (IsFoundNumber (numbered self.now) owner.now name.now) }
+        ensures { IfSome result (IsFoundNumber (table_now self.now) owner.now name.now) }
     {
         found_by_names(&self.sets, owner, name)
     }
@@ -48,7 +48,7 @@ impl Packages {
     /// is one for each number below how many symbols there are.
     pub fn symbol_of(&self, number: u32) -> Option<(&[u8], &[u8])>
         ensures symbol { (h n : Name) → (option_map names_of_symbol result ≡ Some (h, n))
-            ↔ (number_of (numbered self.now) h n ≡ Some number) }
+            ↔ (number_of (table_now self.now) h n ≡ Some number) }
         ensures there { is_some result ≡ nat_lt number (symbol_count self.now.0) }
     {
         symbol_of(&self.sets, number)

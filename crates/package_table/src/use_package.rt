@@ -3,7 +3,7 @@ ghost use Rattle.std.specs.Prelude.{◌≡◌, if◌then◌else◌, IfErr, IfOk}
 ghost use Rattle.package_table.specs.Table.{with_used, AreSoundPackages};
 ghost use Rattle.package_table.specs.Changes.{after_use, use_changes, AnswersPackages, RunsOutOnlyIf, TellsChange, Yields};
 ghost use Rattle.package_table.specs.Growth.{Grows, TellsOfChange};
-ghost use Rattle.package_table.specs.Numbers.{numbered};
+ghost use Rattle.package_table.specs.Numbers.{table_now};
 ghost use Rattle.package_table.specs.Numbering.{KeepsNumbers};
 ghost use Rattle.package_table.specs.Meaning.{numbered_of};
 ghost use Rattle.package_table.specs.Adds.{AddsNoSymbol, IsPlaced};
@@ -72,7 +72,7 @@ impl Packages {
         ensures grows { Grows self.old.0 self.new.0 }
         ensures memory { IfErr result (RunsOutOnlyIf (use_changes self.old.0 owner.now used.now)) }
         ensures unchanged { IfErr result (λ _. self.new ≡ self.old) }
-        ensures numbers { KeepsNumbers (numbered self.old) (numbered self.new) }
+        ensures numbers { KeepsNumbers (table_now self.old) (table_now self.new) }
         ensures marked { self.new.1.marked ≡ self.old.1.marked }
     {
         use_other(&mut self.sets, owner, used)

@@ -15,7 +15,7 @@ use Rattle.lisp_reading.specs.declared.way.Function.TheVariants.{Standard as ASt
 use Rattle.lisp_reading.specs.InvokedCalls.{InvokedCall}
 use Rattle.lisp_reading.specs.Plans.{Plan, gives, scans, then_plan}
 use Rattle.lisp_reading.specs.Setting.{Setting}
-use Rattle.lisp_reading.specs.Reading.{Piece, item, Items, list_end, one_piece, completed, next_item, macro_called, stands_alone, alone, token_found, inner, attempt, piece_of, next_item_turn}
+use Rattle.lisp_reading.specs.Reading.{Piece, item, Items, list_end, one_piece, completed_call, next_item, macro_called, stands_alone, alone, token_found, inner, attempt, piece_of, next_item_turn}
 use Rattle.lisp_reading.proofs.Turns.{loop_is, next_item_guarded, attempt_ends}
 use Rattle.plain_reader.specs.Coming.{ReadsOnAs}
 use Rattle.plain_reader.specs.Plain.{items_from}
@@ -54,7 +54,7 @@ module _ (setting : Setting) where
       → ReadsOnAs setting (attempt setting (suc room)) (40 ∷ cs) (gives (one false (list_of xs))) rest
   unfolding then_plan inner
   list_taken room cs rest xs sound is comes =
-      let end : Items → Plan Found = λ items. list_end setting (attempt setting room) (λ m. completed setting (setting.limits.nesting - suc room) list_call false false m) items in
+      let end : Items → Plan Found = λ items. list_end setting (attempt setting room) (λ m. completed_call setting (setting.limits.nesting - suc room) list_call false false m) items in
       onward setting (attempt setting (suc room)) (then_plan (items_from setting room []) end) (gives (one false (list_of xs))) (40 ∷ cs) cs rest
       (calls (suc room) 40 cs std_list sound is)
       (behind setting (items_from setting room []) (gives (xs, true)) end cs rest comes)
@@ -82,7 +82,7 @@ module _ (setting : Setting) where
   unfolding then_plan inner
   quote_taken room cs rest token x sound is comes =
       let next = next_item setting None (attempt setting room) in
-      let end : Piece → Plan Found = one_piece (λ token x. completed setting (setting.limits.nesting - suc room) quote_call token token (one_object x)) in
+      let end : Piece → Plan Found = one_piece (λ token x. completed_call setting (setting.limits.nesting - suc room) quote_call token token (one_object x)) in
       onward setting (attempt setting (suc room)) (then_plan next end) (gives (one token (headed (codes "QUOTE") x))) (39 ∷ cs) cs rest
       (calls (suc room) 39 cs std_quote sound is)
       (behind setting next (gives (item token x)) end cs rest (quoted_next room cs rest token x comes))

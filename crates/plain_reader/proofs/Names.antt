@@ -18,7 +18,7 @@ use Rattle.token_scan.specs.declared.mark.Mark.TheVariants.{Plain}
 use Rattle.token_scan.specs.Marks.{characters}
 use Rattle.token_meaning.specs.declared.refusal.MeaningRefusal.TheVariants.{NumberRange}
 use Rattle.token_meaning.specs.declared.token.TokenName.TheVariants.{Unqualified}
-use Rattle.token_meaning.specs.Folding.{folded}
+use Rattle.token_meaning.specs.Folding.{folded_marks}
 use Rattle.token_meaning.specs.Numerals.{is_digit_in, is_empty, is_numeral, are_digits, numeral_value}
 use Rattle.token_meaning.specs.Numbers.{integer_of, number_in_base}
 use Rattle.token_meaning.specs.Grammar.{absent}
@@ -85,7 +85,7 @@ pub plain_characters : (cs : List ℕ) → characters (marks_of_bytes cs) ≡ cs
 plain_characters [] = refl
 plain_characters (c ∷ cs) = ap (λ (ds : List ℕ). c ∷ ds) (plain_characters cs)
 
-pub upcased : (cs : List ℕ) → folded Upcase (marks_of_bytes cs) ≡ marks_of_bytes (map upper_case cs)
+pub upcased : (cs : List ℕ) → folded_marks Upcase (marks_of_bytes cs) ≡ marks_of_bytes (map upper_case cs)
 upcased [] = refl
 upcased (c ∷ cs) = ap (λ (ms : List Mark). Plain (upper_case c) ∷ ms) (upcased cs)
 
@@ -122,7 +122,7 @@ by_first c cs h =
     let none : number_in_base 10 (c ∷ characters (marks_of_bytes cs)) ≡ None = no_number (c ∷ characters (marks_of_bytes cs)) fails in
     rw (plain_all cs, no_point, none) refl
 
-pub word_means : (cs : List ℕ) → is_word cs ≡ true → meaning_of 10 (folded Upcase (marks_of_bytes cs)) ≡ Ok (name (Unqualified (map upper_case cs)))
+pub word_means : (cs : List ℕ) → is_word cs ≡ true → meaning_of 10 (folded_marks Upcase (marks_of_bytes cs)) ≡ Ok (name (Unqualified (map upper_case cs)))
 word_means [] e = absurd cc
 word_means (c ∷ cs) e =
     let both : (nat_lt 57 c ≡ true) × (not (list_any (λ c. c == 58) (c ∷ cs)) ≡ true) = and_parts (nat_lt 57 c) (not (list_any (λ c. c == 58) (c ∷ cs))) e in
@@ -149,7 +149,7 @@ pub word_token : (with : PlainContext) (bytes own : List ℕ) (r : Resolution) (
 word_token with bytes own r x standard word e found is =
     let base : with.base ≡ 10 = with.numbers standard in
     let case : with.readtable.now.letters ≡ Upcase = with.case standard in
-    (λ i. told_meaning with.packages.now.0 with.current.now (meaning_of (base i) (folded (case i) (marks_of_bytes bytes))))
+    (λ i. told_meaning with.packages.now.0 with.current.now (meaning_of (base i) (folded_marks (case i) (marks_of_bytes bytes))))
     ∙ ap (told_meaning with.packages.now.0 with.current.now) (word_means bytes word)
     ∙ ap (λ (own : List ℕ). symbol_in own (resolution with.packages.now.0 with.current.now own)) (sym e)
     ∙ ap (symbol_in own) found
@@ -238,7 +238,7 @@ decimal_token with bytes n x standard is small e =
     let case : with.readtable.now.letters ≡ Upcase = with.case standard in
     let digits : are_digits 10 bytes ≡ true = (and_parts (not (is_empty bytes)) (are_digits 10 bytes) is.0).1 in
     let low : numeral_value 10 bytes < 2 ^ 127 = let worth = is.1 in omega arith in
-    (λ i. told_meaning with.packages.now.0 with.current.now (meaning_of (base i) (folded (case i) (marks_of_bytes bytes))))
+    (λ i. told_meaning with.packages.now.0 with.current.now (meaning_of (base i) (folded_marks (case i) (marks_of_bytes bytes))))
     ∙ ap (λ ms. told_meaning with.packages.now.0 with.current.now (meaning_of 10 ms)) (upcased bytes ∙ ap marks_of_bytes (same_digits bytes digits))
     ∙ ap (told_meaning with.packages.now.0 with.current.now) (numeral_means bytes is.0 low)
     ∙ ap (λ (n : ℕ). Ok (told_object (integer (pos n)))) (sym is.1)

@@ -17,14 +17,14 @@ use Rattle.token_scan.specs.declared.mark.Mark.{Mark}
 use Rattle.token_scan.specs.declared.mark.Mark.TheVariants.{Plain}
 use Rattle.token_scan.specs.Marks.{are_ascii}
 use Rattle.token_scan.specs.Spelling.{is_plain_syntax, ends_tokens}
-use Rattle.token_scan.specs.Tokens.{TypedByte, kind, typed, typed_text, outside, plain, with_front, in_bytes, token_in, ScannedBytes}
+use Rattle.token_scan.specs.Tokens.{TypedByte, kind, typed_byte, typed_text, outside, plain, with_front, in_bytes, token_in, ScannedBytes}
 use Rattle.token_scan.proofs.Steps.{outside_ends, outside_plain, room, plain_taken}
 use Rattle.lisp_reading.specs.declared.found.Found.TheVariants.{One as one}
 use Rattle.lisp_reading.specs.declared.told.Told.{Told}
 use Rattle.lisp_reading.specs.declared.told.Told.TheVariants.{Object as told_object}
 use Rattle.lisp_object.specs.declared.refusal.TheConstants.{FORM_TOO_LONG}
 use Rattle.lisp_reading.specs.Naming.{token_meant}
-use Rattle.lisp_reading.specs.Plans.{Plan, Read, gives, scans, limited, scanned, run}
+use Rattle.lisp_reading.specs.Plans.{Plan, Read, gives, scans, limited_token, token_at_front, run}
 use Rattle.lisp_reading.specs.Setting.{Setting}
 use Rattle.lisp_reading.specs.Reading.{stands_alone, alone, told_found, token_found, inner, attempt}
 use Rattle.plain_reader.specs.Coming.{ReadsOnAs}
@@ -40,24 +40,24 @@ own_kind true s e = e
 own_kind false s e = absurd cc
 
 module _ (table : Table) where
-  part_kind : (c : ℕ) → is_part table c ≡ true → kind (typed table c) ≡ Constituent
-  part_kind c e = constituent (kind (typed table c)) (and_parts (is_constituent (kind (typed table c))) (not (has_invalid_trait c)) e).0
+  part_kind : (c : ℕ) → is_part table c ≡ true → kind (typed_byte table c) ≡ Constituent
+  part_kind c e = constituent (kind (typed_byte table c)) (and_parts (is_constituent (kind (typed_byte table c))) (not (has_invalid_trait c)) e).0
 
   part_trait : (c : ℕ) → is_part table c ≡ true → has_invalid_trait c ≡ false
-  part_trait c e = not-true (has_invalid_trait c) (and_parts (is_constituent (kind (typed table c))) (not (has_invalid_trait c)) e).1
+  part_trait c e = not-true (has_invalid_trait c) (and_parts (is_constituent (kind (typed_byte table c))) (not (has_invalid_trait c)) e).1
 
   part_syntax : (c : ℕ) → is_part table c ≡ true → (entry_at table c).syntax ≡ Constituent
   part_syntax c e = own_kind (nat_lt c 128) (entry_at table c).syntax (part_kind c e)
 
   run_gives : (bs : List ℕ) (d : ℕ) (ds : List ℕ) (left at : ℕ) → list_all (is_part table) bs ≡ true → length bs ≤ left
-      → ends_tokens (kind (typed table d)) ≡ true
+      → ends_tokens (kind (typed_byte table d)) ≡ true
       → outside left at (typed_text table (bs ++ d ∷ ds)) ≡ Ok (marks_of_bytes bs, at + length bs, typed_text table (d ∷ ds))
-  run_gives [] d ds left at parts fits ends = outside_ends (typed table d) (typed_text table ds) left at ends
+  run_gives [] d ds left at parts fits ends = outside_ends (typed_byte table d) (typed_text table ds) left at ends
       ∙ (let e : at ≡ at + length {A = ℕ} [] = omega arith in ap (λ (n : ℕ). Ok ([], n, typed_text table (d ∷ ds))) e)
   run_gives (b ∷ bs) d ds left at parts fits ends =
       let both : (is_part table b ≡ true) × (list_all (is_part table) bs ≡ true) = and_parts (is_part table b) (list_all (is_part table) bs) parts in
-      let plainly : IsTrue (is_plain_syntax (kind (typed table b))) = subst (λ s. IsTrue (is_plain_syntax s)) (sym (part_kind b both.0)) refl in
-      outside_plain (typed table b) (typed_text table (bs ++ d ∷ ds)) left at plainly
+      let plainly : IsTrue (is_plain_syntax (kind (typed_byte table b))) = subst (λ s. IsTrue (is_plain_syntax s)) (sym (part_kind b both.0)) refl in
+      outside_plain (typed_byte table b) (typed_text table (bs ++ d ∷ ds)) left at plainly
       ∙ room left at (λ left. plain b at (outside left (at + 1) (typed_text table (bs ++ d ∷ ds)))) (omega arith)
       ∙ plain_taken b left at (outside (left - 1) (at + 1) (typed_text table (bs ++ d ∷ ds))) (part_trait b both.0)
       ∙ ap (with_front (Plain b ∷ [])) (run_gives bs d ds (left - 1) (at + 1) both.1 (omega arith) ends)
@@ -68,7 +68,7 @@ module _ (table : Table) where
   bytes_back (c ∷ cs) = ap (λ (xs : List ℕ). c ∷ xs) (bytes_back cs)
 
   token_gives : (bs : List ℕ) (d : ℕ) (ds : List ℕ) (limit at : ℕ) → list_all (is_part table) bs ≡ true → length bs ≤ limit
-      → ends_tokens (kind (typed table d)) ≡ true → token_in table limit at (bs ++ d ∷ ds) ≡ Ok (marks_of_bytes bs, at + length bs, d ∷ ds)
+      → ends_tokens (kind (typed_byte table d)) ≡ true → token_in table limit at (bs ++ d ∷ ds) ≡ Ok (marks_of_bytes bs, at + length bs, d ∷ ds)
   token_gives bs d ds limit at parts fits ends =
       ap in_bytes (run_gives bs d ds limit at parts fits ends)
       ∙ ap (λ (xs : List ℕ). Ok (marks_of_bytes bs, at + length bs, d ∷ xs)) (bytes_back ds)
@@ -76,16 +76,16 @@ module _ (table : Table) where
 -- what follows a token that was scanned, up to the limit
 follows : {A : Type 0} (setting : Setting) (on : List Mark → Plan A) (r : ScannedBytes) (marks : List Mark) (at : ℕ) (cs : List ℕ) (b : Bool) → r ≡ Ok (marks, at, cs)
     → nat_le at setting.limits.text ≡ b → b ≡ true
-    → elim (limited setting.limits.text r (λ p. p.1)) [ Ok p ↦ run setting.table setting.limits (on p.0) p.1 p.2 | Err e ↦ Err e ]
+    → elim (limited_token setting.limits.text r (λ p. p.1)) [ Ok p ↦ run setting.table setting.limits (on p.0) p.1 p.2 | Err e ↦ Err e ]
     ≡ run setting.table setting.limits (on marks) at cs
 follows {A = A} setting on r marks at cs b e is holds =
     let step : Read (List Mark) → Read A = λ r. elim r [ Ok p ↦ run setting.table setting.limits (on p.0) p.1 p.2 | Err e ↦ Err e ] in
     let cut : Bool → Read (List Mark) = λ b. elim b [ true ↦ Ok (marks, at, cs) | false ↦ Err (record { number = FORM_TOO_LONG; at = setting.limits.text }) ] in
-    ap (λ (r : ScannedBytes). step (limited setting.limits.text r (λ p. p.1))) e ∙ ap (λ (b : Bool). step (cut b)) (is ∙ holds)
+    ap (λ (r : ScannedBytes). step (limited_token setting.limits.text r (λ p. p.1))) e ∙ ap (λ (b : Bool). step (cut b)) (is ∙ holds)
 
 module _ (setting : Setting) where
   scanned_token : {A : Type 0} (on : List Mark → Plan A) (bs : List ℕ) (d : ℕ) (ds : List ℕ) → list_all (is_part setting.table) bs ≡ true
-      → length bs ≤ setting.limits.token → ends_tokens (kind (typed setting.table d)) ≡ true
+      → length bs ≤ setting.limits.token → ends_tokens (kind (typed_byte setting.table d)) ≡ true
       → ReadsOnAs setting (scans false setting.limits.token on) (bs ++ d ∷ ds) (on (marks_of_bytes bs)) (d ∷ ds)
   unfolding run
   scanned_token on bs d ds parts fits ends =
@@ -95,7 +95,7 @@ module _ (setting : Setting) where
         goes = λ at more le.
             let text : (bs ++ d ∷ ds) ++ more ≡ bs ++ (d ∷ (ds ++ more)) = append_assoc bs (d ∷ ds) more in
             let low : at + length bs ≤ setting.limits.text = omega arith in
-            follows setting on (scanned false setting.table setting.limits.token at ((bs ++ d ∷ ds) ++ more)) (marks_of_bytes bs) (at + length bs) (d ∷ (ds ++ more))
+            follows setting on (token_at_front false setting.table setting.limits.token at ((bs ++ d ∷ ds) ++ more)) (marks_of_bytes bs) (at + length bs) (d ∷ (ds ++ more))
             (nat_le (at + length bs) setting.limits.text)
             (ap (token_in setting.table setting.limits.token at) text ∙ token_gives setting.table bs d (ds ++ more) setting.limits.token at parts fits ends) refl
             (le-leb (at + length bs) setting.limits.text low)
@@ -104,7 +104,7 @@ module _ (setting : Setting) where
       }
 
   whole_token : (room : ℕ) (bs : List ℕ) (d : ℕ) (ds : List ℕ) (x : Object) → list_all (is_part setting.table) bs ≡ true → 0 < length bs
-      → length bs ≤ setting.limits.token → ends_tokens (kind (typed setting.table d)) ≡ true → token_meant setting (marks_of_bytes bs) ≡ Ok (told_object x)
+      → length bs ≤ setting.limits.token → ends_tokens (kind (typed_byte setting.table d)) ≡ true → token_meant setting (marks_of_bytes bs) ≡ Ok (told_object x)
       → ReadsOnAs setting (attempt setting room) (bs ++ d ∷ ds) (gives (one true x)) (d ∷ ds)
   whole_token room [] d ds x parts some fits ends means = absurd (omega arith)
   whole_token room (b ∷ bs) d ds x parts some fits ends means =
@@ -144,15 +144,15 @@ module _ (table : Table) where
       and_from (is_ascii b) (list_all is_ascii bs) (own_character (nat_lt b 128) (entry_at table b).syntax (part_kind table b both.0)) (parts_ascii bs both.1)
 
   pub parts_more : (text : List ℕ) (i : ℕ) → i < length text → list_all (is_part table) (take i text) ≡ true
-      → kind (typed table (get_or text i 0)) ≡ Constituent → has_invalid_trait (get_or text i 0) ≡ false
+      → kind (typed_byte table (get_or text i 0)) ≡ Constituent → has_invalid_trait (get_or text i 0) ≡ false
       → list_all (is_part table) (take (i + 1) text) ≡ true
   parts_more text i lt before is trait =
       list_all_more (is_part table) text i 0 lt
       ∙ and_from (list_all (is_part table) (take i text)) (is_part table (get_or text i 0)) before
-      (and_from (is_constituent (kind (typed table (get_or text i 0)))) (not (has_invalid_trait (get_or text i 0))) (ap is_constituent is) (ap not trait))
+      (and_from (is_constituent (kind (typed_byte table (get_or text i 0)))) (not (has_invalid_trait (get_or text i 0))) (ap is_constituent is) (ap not trait))
 
   pub run_here : (text : List ℕ) (i : ℕ) → i < length text → list_all (is_part table) (take i text) ≡ true
-      → ends_tokens (kind (typed table (get_or text i 0))) ≡ true → IsTokenRun table text i
+      → ends_tokens (kind (typed_byte table (get_or text i 0))) ≡ true → IsTokenRun table text i
   run_here text i lt before ends = record { parts = before; ends = at_drop_more (ends_before table) text i 0 lt ∙ ends }
 
 pub marks_ascii : (bs : List ℕ) → list_all is_ascii bs ≡ true → are_ascii (marks_of_bytes bs) ≡ true

@@ -20,7 +20,7 @@ use Rattle.lisp_reading.specs.InvokedCalls.{InvokedCall}
 use Rattle.lisp_reading.specs.Gathering.{is_escape, text_turn}
 use Rattle.lisp_reading.specs.Plans.{Plan, gives, refuses, character, next_byte, then_plan}
 use Rattle.lisp_reading.specs.Setting.{Setting}
-use Rattle.lisp_reading.specs.Reading.{text_to, completed, attempt}
+use Rattle.lisp_reading.specs.Reading.{text_to, completed_call, attempt}
 use Rattle.lisp_reading.proofs.Turns.{loop_is, text_guarded}
 use Rattle.plain_reader.specs.Coming.{ReadsOnAs}
 use Rattle.plain_reader.specs.Texts.{is_letter, begins_with_quote, IsText}
@@ -89,7 +89,7 @@ module _ (setting : Setting) where
       → ReadsOnAs setting (attempt setting room) (34 ∷ (bs ++ 34 ∷ ds)) (gives (one false (text_object bs))) ds
   unfolding then_plan
   string_by room bs ds sound is are others =
-      let end : List ℕ → Plan Found = λ cs. completed setting (setting.limits.nesting - room) string_call false false (letters cs) in
+      let end : List ℕ → Plan Found = λ cs. completed_call setting (setting.limits.nesting - room) string_call false false (letters cs) in
       onward setting (attempt setting room) (then_plan (from []) end) (gives (one false (text_object bs))) (34 ∷ (bs ++ 34 ∷ ds)) (bs ++ 34 ∷ ds) ds
       (calls setting room 34 (bs ++ 34 ∷ ds) std_string sound is)
       (behind setting (from []) (gives bs) end (bs ++ 34 ∷ ds) ds

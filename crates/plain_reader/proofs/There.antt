@@ -14,7 +14,7 @@ use Rattle.lisp_object.specs.Object.{Object, symbol, pair, list_of}
 use Rattle.package_table.specs.declared.error.PackageError.{PackageError}
 use Rattle.package_table.specs.declared.error.PackageError.TheVariants.{LockedPackage}
 use Rattle.package_table.specs.Table.{Name, Table, Present, IsPresent, AreSoundPackages, common_lisp, common_lisp_names, entry_at}
-use Rattle.package_table.specs.Lookup.{found, is_symbol}
+use Rattle.package_table.specs.Lookup.{home_by_name, is_symbol}
 use Rattle.package_table.specs.Resolving.{Resolution, found_at, new_in, resolution}
 use Rattle.package_table.specs.Symbols.{symbols, are_there}
 use Rattle.package_table.proofs.Found.{found_finds}
@@ -56,7 +56,7 @@ home_is (Some h) b p = refl
 
 pub found_there : (t : Table) (p n h : Name) → AreSoundPackages t → resolution t p n ≡ Ok (found_at h) → are_there t (symbol h n) ≡ true
 found_there t p n h sound is =
-    let finds : found t p n ≡ Some h = sym (home_is (found t p n) (bytes_eq p common_lisp) p) ∙ ap home_found is in
+    let finds : home_by_name t p n ≡ Some h = sym (home_is (home_by_name t p n) (bytes_eq p common_lisp) p) ∙ ap home_found is in
     symbol_there t h n (present_at_home t p n h sound.joined (found_finds t n p h finds))
 
 pair_there : (t : Table) (x xs : Object) → are_there t x ≡ true → are_there t xs ≡ true → are_there t (pair x xs) ≡ true

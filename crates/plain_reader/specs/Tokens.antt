@@ -9,8 +9,8 @@ use Rattle.readtable_core.specs.declared.characters.Syntax.TheVariants.{Constitu
 use Rattle.token_scan.specs.declared.mark.Mark.{Mark}
 use Rattle.token_scan.specs.declared.mark.Mark.TheVariants.{Plain}
 use Rattle.token_scan.specs.Spelling.{ends_tokens}
-use Rattle.token_scan.specs.Tokens.{typed, kind}
-use Rattle.token_meaning.specs.Folding.{folded}
+use Rattle.token_scan.specs.Tokens.{typed_byte, kind}
+use Rattle.token_meaning.specs.Folding.{folded_marks}
 use Rattle.token_meaning.specs.Meanings.{meaning_of}
 use Rattle.lisp_reading.specs.Naming.{told_meaning}
 use Rattle.lisp_reading.specs.declared.told.Told.TheVariants.{Object as told_object}
@@ -23,12 +23,12 @@ is_constituent _ = false
 
 -- a constituent that may stand in a token as it is
 abbrev pub is_part : Table → ℕ → Bool
-is_part table c = is_constituent (kind (typed table c)) && not (has_invalid_trait c)
+is_part table c = is_constituent (kind (typed_byte table c)) && not (has_invalid_trait c)
 
 -- a token ends before this text, which begins with a byte that ends one
 abbrev pub ends_before : Table → List ℕ → Bool
 ends_before table [] = false
-ends_before table (c ∷ cs) = ends_tokens (kind (typed table c))
+ends_before table (c ∷ cs) = ends_tokens (kind (typed_byte table c))
 
 -- so many bytes at the front of the text are parts of a token, and it ends before the rest
 pub record IsTokenRun (table : Table) (text : List ℕ) (count : ℕ) : Type 0 where
@@ -42,4 +42,4 @@ marks_of_bytes bytes = map (λ c. Plain c) bytes
 -- a token of these bytes is this object
 abbrev pub IsToken : PlainContext → List ℕ → Object → Type 0
 IsToken with bytes x =
-    told_meaning with.packages.now.0 with.current.now (meaning_of with.base (folded with.readtable.now.letters (marks_of_bytes bytes))) ≡ Ok (told_object x)
+    told_meaning with.packages.now.0 with.current.now (meaning_of with.base (folded_marks with.readtable.now.letters (marks_of_bytes bytes))) ≡ Ok (told_object x)

@@ -4,7 +4,7 @@ ghost use Rattle.std.specs.List.{list_all};
 ghost use Rattle.lisp_object.specs.Ascii.{is_ascii};
 ghost use Rattle.readtable_core.specs.Characters.{has_invalid_trait};
 ghost use Rattle.token_scan.specs.Marks.{are_ascii};
-ghost use Rattle.token_scan.specs.Tokens.{typed, kind};
+ghost use Rattle.token_scan.specs.Tokens.{typed_byte, kind};
 ghost use Rattle.plain_reader.specs.Plain.{Takes, Puts, LeavesLessText, AreThere, AllAreThere, IfStill};
 ghost use Rattle.plain_reader.specs.Tokens.{IsTokenRun, IsToken, marks_of_bytes};
 ghost use Rattle.plain_reader.specs.Words.{is_word};
@@ -140,7 +140,7 @@ fn is_invalid(c: u8) -> bool
 /// The syntax type of a byte, which is no character over 127.
 #[inline(always)]
 fn kind(readtable: &Readtable, c: u8) -> Syntax
-    ensures { result ≡ kind (typed readtable.now c) }
+    ensures { result ≡ kind (typed_byte readtable.now c) }
 {
     if c < 128 {
         readtable.syntax(c)

@@ -23,8 +23,8 @@ use Rattle.plist_state.specs.declared.note.Note.{Note}
 use Rattle.plist_state.specs.declared.note.Note.TheVariants.{Made, Changed}
 use Rattle.plist_state.specs.State.{Readtables, standard_name}
 use Rattle.plist_state.specs.Views.{NumberedRest}
-use Rattle.plist_state.specs.Undoing.{table_before, tables_before, undone}
-use Rattle.plist_state.specs.Journal.{IsNoted, IsTableChange, IsEntryNote, Continues}
+use Rattle.plist_state.specs.Undoing.{table_before, tables_before, rest_before}
+use Rattle.plist_state.specs.Journal.{IsNoted, IsTableChange, IsEntryNote, ContinuesJournal}
 use Rattle.plist_state.proofs.Notes.{continues_noted, continues_same}
 use Rattle.plist_state.specs.Changes.{writable, put_changed, with_changed, changed_readtable, Refused}
 use Rattle.plist_state.proofs.Orders.{name_total, name_exact, name_tied, one_name}
@@ -69,7 +69,7 @@ module _ (m : Readtables) (n : Name) (w : Table) where
       ] refl)
 
 copied_back : (m : Readtables) (n : Name) (w : Table) (name : Vec ℕ) → name.items ≡ n → (before : Option Table) → before ≡ finite.get m n → (r : NumberedRest)
-    → undone (was_table name before) (record r { readtables = finite.insert m n w }) ≡ record r { readtables = m }
+    → rest_before (was_table name before) (record r { readtables = finite.insert m n w }) ≡ record r { readtables = m }
 copied_back m n w name named None is r =
     ap (λ (k : Readtables). record r { readtables = k }) (ap (finite.remove (finite.insert m n w)) named ∙ taken_out m n w (sym is))
 copied_back m n w name named (Some t) is r =
@@ -83,28 +83,28 @@ copied_proper name None = tt
 copied_proper name (Some t) = tt
 
 -- ---- what is noted leads back to the readtables as they were
-module _ (ms ks ns : List (List Note)) (same : ks ≡ ms) (note : Note) (pushed : (t u : NumberedRest) → IsNoted note → undone note u ≡ t → Continues ks t ns u)
+module _ (ms ks ns : List (List Note)) (same : ks ≡ ms) (note : Note) (pushed : (t u : NumberedRest) → IsNoted note → rest_before note u ≡ t → ContinuesJournal ks t ns u)
     (m later : Readtables) (n : Name) (w : Table) (put : later ≡ finite.insert m n w) (name : Vec ℕ) (named : name.items ≡ n) where
   pub change_noted : (t : Table) → finite.get m n ≡ Some t → (change : TableChange) → IsTableChange change → note ≡ Changed name change → table_before change w ≡ t
-      → (r : NumberedRest) → Continues ms (record r { readtables = m }) ns (record r { readtables = later })
+      → (r : NumberedRest) → ContinuesJournal ms (record r { readtables = m }) ns (record r { readtables = later })
   change_noted t there change proper is back r =
       let over : Readtables = finite.insert m n w in
       let got : tables_before over n change ≡ finite.insert over n (table_before change w) =
       ap (λ (o : Option Table). option_map_or (λ t. finite.insert over n (table_before change t)) o over) (got_put m n w) in
-      let undoes : undone (Changed name change) (record r { readtables = later }) ≡ record r { readtables = m } =
+      let undoes : rest_before (Changed name change) (record r { readtables = later }) ≡ record r { readtables = m } =
       ap (λ (k : Readtables). record r { readtables = k })
       ((λ i. tables_before (put i) (named i) change) ∙ got ∙ ap (finite.insert over n) back ∙ put_again m n w t there) in
       continues_noted ms ks ns note (record r { readtables = m }) (record r { readtables = later }) same pushed (subst IsNoted (sym is) proper)
-      (ap (λ x. undone x (record r { readtables = later })) is ∙ undoes)
+      (ap (λ x. rest_before x (record r { readtables = later })) is ∙ undoes)
 
   pub copy_noted : (before : Option Table) → before ≡ finite.get m n → note ≡ was_table name before
-      → (r : NumberedRest) → Continues ms (record r { readtables = m }) ns (record r { readtables = later })
+      → (r : NumberedRest) → ContinuesJournal ms (record r { readtables = m }) ns (record r { readtables = later })
   copy_noted before was is r =
       continues_noted ms ks ns note (record r { readtables = m }) (record r { readtables = later }) same pushed (subst IsNoted (sym is) (copied_proper name before))
-      (ap (λ x. undone x (record r { readtables = later })) is ∙ ap (λ (k : Readtables). undone (was_table name before) (record r { readtables = k })) put ∙ copied_back m n w name named before was r)
+      (ap (λ x. rest_before x (record r { readtables = later })) is ∙ ap (λ (k : Readtables). rest_before (was_table name before) (record r { readtables = k })) put ∙ copied_back m n w name named before was r)
 
 -- nothing was changed
-pub tables_same : (ms ns : List (List Note)) (m later : Readtables) → ns ≡ ms → later ≡ m → (r : NumberedRest) → Continues ms (record r { readtables = m }) ns (record r { readtables = later })
+pub tables_same : (ms ns : List (List Note)) (m later : Readtables) → ns ≡ ms → later ≡ m → (r : NumberedRest) → ContinuesJournal ms (record r { readtables = m }) ns (record r { readtables = later })
 tables_same ms ns m later marks is r = continues_same ms ns (record r { readtables = m }) (record r { readtables = later }) marks (ap (λ (k : Readtables). record r { readtables = k }) is)
 
 pub some_of : {A : Type 0} (o : Option A) → is_some o ≡ true → (x : A) × (o ≡ Some x)
@@ -123,10 +123,10 @@ module _ (tables later : List (Vec ℕ × Table)) (n : Name) (t w : Table)
       ∙ insert_same name_of (λ (t : Table). t) name_cmp name_total name_exact (shown tables) n t (got_table n tables ∙ sym there)
 
 -- a change of a character of a readtable, written through `get_mut` and noted with what was there
-pub entry_noted : (ms ks ns : List (List Note)) → ks ≡ ms → (note : Note) → ((t u : NumberedRest) → IsNoted note → undone note u ≡ t → Continues ks t ns u)
+pub entry_noted : (ms ks ns : List (List Note)) → ks ≡ ms → (note : Note) → ((t u : NumberedRest) → IsNoted note → rest_before note u ≡ t → ContinuesJournal ks t ns u)
     → (tables later : List (Vec ℕ × Table)) (n : Name) (t w : Table) → Some t ≡ lookup (at n) tables → later ≡ set_value (at n) tables w
     → (c : ℕ) (e : CharacterEntry) → c < 128 → IsEntryNote (shown tables) n c note → w ≡ with_character_entry t c e
-    → (r : NumberedRest) → Continues ms (record r { readtables = shown tables }) ns (record r { readtables = shown later })
+    → (r : NumberedRest) → ContinuesJournal ms (record r { readtables = shown tables }) ns (record r { readtables = shown later })
 entry_noted ms ks ns same note pushed tables later n t w there holds c e below of made r =
     let got : finite.get (shown tables) n ≡ Some t = got_table n tables ∙ sym there in
     let back : with_character_entry w c of.entry ≡ t = (λ i. with_character_entry (made i) c (of.was t got i)) ∙ put_back t c e in

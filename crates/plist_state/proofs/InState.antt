@@ -10,7 +10,7 @@ use Rattle.package_table.specs.Table as packages
 use Rattle.package_table.specs.declared.error.PackageError.{PackageError}
 use Rattle.package_table.specs.Table.{Table, symbol_count}
 use Rattle.package_table.specs.Changes.{AnswersPackages, RunsOutOnlyIf, Yields}
-use Rattle.package_table.specs.Numbers.{Numbered, Tables, numbered, number_of}
+use Rattle.package_table.specs.Numbers.{Numbered, Tables, table_now, number_of}
 use Rattle.package_table.specs.Numbering.{IsNumbered, KeepsNumbers}
 use Rattle.package_table.specs.Growth.{Grows, TellsOfChange}
 use Rattle.plist_state.specs.declared.note.Note.{Note}
@@ -48,50 +48,50 @@ module _ (s : Numbered) (count : ℕ) (counted : IsNumbered s count) (x : Symbol
       ∙ ap (with_list (lists s r.properties) x) (made ∙ ap f (sym (lists_at s r.properties x n is))))
 
 module _ {A E : Type 0} (res : Result A E) (past : List WorldState) (ts : Tables) (ms ns : List (List Note)) (r u : NumberedRest) (same : rests_at ns u ≡ rests_at ms r)
-    (w : Worlds) (seen : ◌≡◌ {A = Worlds} (state_in (numbered ts) r, past ++ marked_states ts.1.marked (rests_at ms r)) w) where
-  pub world_listed : (count : ℕ) → IsNumbered (numbered ts) count → (x : Symbol) (n : ℕ) → number_of (numbered ts) x.0 x.1 ≡ Some n
-      → (g : NumberedPlist → NumberedPlist) (f : Plist → Plist) → named_plist (numbered ts) (g (plist_of_number r.properties n)) ≡ f (named_plist (numbered ts) (plist_of_number r.properties n))
+    (w : Worlds) (seen : ◌≡◌ {A = Worlds} (state_in (table_now ts) r, past ++ marked_states ts.1.marked (rests_at ms r)) w) where
+  pub world_listed : (count : ℕ) → IsNumbered (table_now ts) count → (x : Symbol) (n : ℕ) → number_of (table_now ts) x.0 x.1 ≡ Some n
+      → (g : NumberedPlist → NumberedPlist) (f : Plist → Plist) → named_plist (table_now ts) (g (plist_of_number r.properties n)) ≡ f (named_plist (table_now ts) (plist_of_number r.properties n))
       → OnOk res (u ≡ with_changed_row r n g)
-      → OnOk res (◌≡◌ {A = Worlds} (state_in (numbered ts) u, past ++ marked_states ts.1.marked (rests_at ns u)) (with_changed_list w.0 x f, w.1))
+      → OnOk res (◌≡◌ {A = Worlds} (state_in (table_now ts) u, past ++ marked_states ts.1.marked (rests_at ns u)) (with_changed_list w.0 x f, w.1))
   world_listed count counted x n is g f made = done res
     where
       done : (q : Result A E) → OnOk q (u ≡ with_changed_row r n g)
-          → OnOk q (◌≡◌ {A = Worlds} (state_in (numbered ts) u, past ++ marked_states ts.1.marked (rests_at ns u)) (with_changed_list w.0 x f, w.1))
+          → OnOk q (◌≡◌ {A = Worlds} (state_in (table_now ts) u, past ++ marked_states ts.1.marked (rests_at ns u)) (with_changed_list w.0 x f, w.1))
       done (Err e) ok = tt
       done (Ok v) ok =
-          (λ i. (state_in (numbered ts) (ok i), past ++ marked_states ts.1.marked (same i)))
-          ∙ (λ i. (state_listed (numbered ts) count counted x n is r g f made i, past ++ marked_states ts.1.marked (rests_at ms r)))
+          (λ i. (state_in (table_now ts) (ok i), past ++ marked_states ts.1.marked (same i)))
+          ∙ (λ i. (state_listed (table_now ts) count counted x n is r g f made i, past ++ marked_states ts.1.marked (rests_at ms r)))
           ∙ ap (λ (v : Worlds). (with_changed_list v.0 x f, v.1)) seen
 
-  pub world_same_err : OnErr res (u ≡ r) → OnErr res (◌≡◌ {A = Worlds} (state_in (numbered ts) u, past ++ marked_states ts.1.marked (rests_at ns u)) w)
+  pub world_same_err : OnErr res (u ≡ r) → OnErr res (◌≡◌ {A = Worlds} (state_in (table_now ts) u, past ++ marked_states ts.1.marked (rests_at ns u)) w)
   world_same_err = done res
     where
-      done : (q : Result A E) → OnErr q (u ≡ r) → OnErr q (◌≡◌ {A = Worlds} (state_in (numbered ts) u, past ++ marked_states ts.1.marked (rests_at ns u)) w)
+      done : (q : Result A E) → OnErr q (u ≡ r) → OnErr q (◌≡◌ {A = Worlds} (state_in (table_now ts) u, past ++ marked_states ts.1.marked (rests_at ns u)) w)
       done (Ok v) err = tt
       done (Err e) err = world_same past ts ms ns r u err same ∙ seen
 
 -- ---- what is seen of a symbol
 module _ (a : Inside) (w : Worlds) (seen : worlds_of a ≡ w) (x : Symbol) where
-  pub row_seen : (n : ℕ) → number_of (numbered a.packages) x.0 x.1 ≡ Some n → named_plist (numbered a.packages) (plist_of_number (rest_of a.stored).properties n) ≡ plist w.0 x
-  row_seen n is = sym (lists_at (numbered a.packages) (rest_of a.stored).properties x n is) ∙ ap (λ (v : Worlds). plist v.0 x) seen
+  pub row_seen : (n : ℕ) → number_of (table_now a.packages) x.0 x.1 ≡ Some n → named_plist (table_now a.packages) (plist_of_number (rest_of a.stored).properties n) ≡ plist w.0 x
+  row_seen n is = sym (lists_at (table_now a.packages) (rest_of a.stored).properties x n is) ∙ ap (λ (v : Worlds). plist v.0 x) seen
 
-  pub none_seen : number_of (numbered a.packages) x.0 x.1 ≡ None → [] ≡ plist w.0 x
-  none_seen is = sym (lists_none (numbered a.packages) (rest_of a.stored).properties x is) ∙ ap (λ (v : Worlds). plist v.0 x) seen
+  pub none_seen : number_of (table_now a.packages) x.0 x.1 ≡ None → [] ≡ plist w.0 x
+  none_seen is = sym (lists_none (table_now a.packages) (rest_of a.stored).properties x is) ∙ ap (λ (v : Worlds). plist v.0 x) seen
 
 -- ---- what is seen of a property
 module _ (a : Inside) (kept : HasKeptWorld a) (w : Worlds) (seen : worlds_of a ≡ w) (x i : Symbol) where
   -- a property by the numbers of its symbol and of its indicator
-  pub property_seen : (count : ℕ) → IsNumbered (numbered a.packages) count → (n j : ℕ) → number_of (numbered a.packages) x.0 x.1 ≡ Some n → number_of (numbered a.packages) i.0 i.1 ≡ Some j
+  pub property_seen : (count : ℕ) → IsNumbered (table_now a.packages) count → (n j : ℕ) → number_of (table_now a.packages) x.0 x.1 ≡ Some n → number_of (table_now a.packages) i.0 i.1 ≡ Some j
       → value_in (rest_of a.stored).properties n j ≡ property w.0 x i
   property_seen count counted n j owner indicator =
-      sym (value_named (numbered a.packages) count counted i j indicator (plist_of_number (rest_of a.stored).properties n) (kept.now.owned.indicators n))
+      sym (value_named (table_now a.packages) count counted i j indicator (plist_of_number (rest_of a.stored).properties n) (kept.now.owned.indicators n))
       ∙ ap (λ ps. value_at ps i) (row_seen a w seen x n owner)
 
   -- what has no number is no indicator
-  pub no_property : (n : ℕ) → number_of (numbered a.packages) x.0 x.1 ≡ Some n → number_of (numbered a.packages) i.0 i.1 ≡ None → property w.0 x i ≡ None
+  pub no_property : (n : ℕ) → number_of (table_now a.packages) x.0 x.1 ≡ Some n → number_of (table_now a.packages) i.0 i.1 ≡ None → property w.0 x i ≡ None
   no_property n owner none =
       ap (λ ps. value_at ps i) (sym (row_seen a w seen x n owner))
-      ∙ value_unnamed (numbered a.packages) i none (plist_of_number (rest_of a.stored).properties n) (kept.now.owned.indicators n)
+      ∙ value_unnamed (table_now a.packages) i none (plist_of_number (rest_of a.stored).properties n) (kept.now.owned.indicators n)
 
   -- a property that is not there, removed
   pub property_out : property w.0 x i ≡ None → ◌≡◌ {A = Worlds} (without_property w.0 x i, w.1) w
@@ -99,13 +99,13 @@ module _ (a : Inside) (kept : HasKeptWorld a) (w : Worlds) (seen : worlds_of a �
       ap (λ (t : WorldState). (t, w.1)) (removed_absent w.0 x i (subst (λ (v : Worlds). IsSoundWorldState v.0) seen kept.now.sound) absent)
 
 -- ---- other packages
-module _ (a : Inside) (ts : Tables) (grows : Grows a.packages.0 ts.0) (keeps : KeepsNumbers (numbered a.packages) (numbered ts))
-    (counted : IsNumbered (numbered ts) (symbol_count ts.0)) (marked : ts.1.marked ≡ a.packages.1.marked) (kept : HasKeptWorld a) where
-  same_lists : lists (numbered ts) (rest_of a.stored).properties ≡ lists (numbered a.packages) (rest_of a.stored).properties
-  same_lists = lists_grown (numbered a.packages) (numbered ts) (symbol_count ts.0) counted grows keeps (rest_of a.stored).properties kept.now.owned
+module _ (a : Inside) (ts : Tables) (grows : Grows a.packages.0 ts.0) (keeps : KeepsNumbers (table_now a.packages) (table_now ts))
+    (counted : IsNumbered (table_now ts) (symbol_count ts.0)) (marked : ts.1.marked ≡ a.packages.1.marked) (kept : HasKeptWorld a) where
+  same_lists : lists (table_now ts) (rest_of a.stored).properties ≡ lists (table_now a.packages) (rest_of a.stored).properties
+  same_lists = lists_grown (table_now a.packages) (table_now ts) (symbol_count ts.0) counted grows keeps (rest_of a.stored).properties kept.now.owned
 
-  same_state : state_in (numbered ts) (rest_of a.stored) ≡ with_packages (state_in (numbered a.packages) (rest_of a.stored)) ts.0
-  same_state = ap (λ (m : Properties). record (state_in (numbered ts) (rest_of a.stored)) { properties = m }) same_lists
+  same_state : state_in (table_now ts) (rest_of a.stored) ≡ with_packages (state_in (table_now a.packages) (rest_of a.stored)) ts.0
+  same_state = ap (λ (m : Properties). record (state_in (table_now ts) (rest_of a.stored)) { properties = m }) same_lists
 
   pub packages_rest : (w : Worlds) → worlds_of a ≡ w → worlds_of (record a { packages = ts }) ≡ (with_packages w.0 ts.0, w.1)
   packages_rest w seen =
@@ -118,8 +118,8 @@ module _ (a : Inside) (ts : Tables) (grows : Grows a.packages.0 ts.0) (keeps : K
       values = kept.now.values;
       indexed = kept.now.indexed;
       sizes = kept.now.sizes;
-      owned = owned_grown (numbered a.packages) (numbered ts) (symbol_count ts.0) counted grows keeps (rest_of a.stored).properties kept.now.owned;
-      sound = subst IsSoundWorldState (sym same_state) (sound_packages (state_in (numbered a.packages) (rest_of a.stored)) ts.0 kept.now.sound sound grows);
+      owned = owned_grown (table_now a.packages) (table_now ts) (symbol_count ts.0) counted grows keeps (rest_of a.stored).properties kept.now.owned;
+      sound = subst IsSoundWorldState (sym same_state) (sound_packages (state_in (table_now a.packages) (rest_of a.stored)) ts.0 kept.now.sound sound grows);
       marked = subst (λ ss. AreKept ss (marks_of a.marks.items) (rest_of a.stored) a.stored.properties.items) (sym marked) kept.now.marked;
     };
     earlier = kept.earlier;
@@ -130,7 +130,7 @@ packages_unchanged (Ok x) a ts same w seen = tt
 packages_unchanged (Err e) a ts same w seen = ap (λ (ts : Tables). worlds_of (record a { packages = ts })) same ∙ seen
 
 -- what a call of the packages answers, of the world
-pub packages_changed : (a : Inside) (ts : Tables) → Grows a.packages.0 ts.0 → KeepsNumbers (numbered a.packages) (numbered ts) → IsNumbered (numbered ts) (symbol_count ts.0) → ts.1.marked ≡ a.packages.1.marked → HasKeptWorld a
+pub packages_changed : (a : Inside) (ts : Tables) → Grows a.packages.0 ts.0 → KeepsNumbers (table_now a.packages) (table_now ts) → IsNumbered (table_now ts) (symbol_count ts.0) → ts.1.marked ≡ a.packages.1.marked → HasKeptWorld a
     → (res : Result Bool PackageError) (after : Table → Result Table PackageError) (changes : Table → Bool)
     → AnswersPackages (λ _. ts.0) res (after a.packages.0) → Yields res (changes a.packages.0) → IfErr res (RunsOutOnlyIf (changes a.packages.0)) → IfOk res (λ changed. TellsOfChange changed a.packages.0 ts.0) → IfErr res (λ _. ts ≡ a.packages)
     → (w : Worlds) → worlds_of a ≡ w → ChangesPackages w (worlds_of (record a { packages = ts })) res (after w.0.packages) (changes w.0.packages)

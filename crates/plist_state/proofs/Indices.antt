@@ -10,8 +10,8 @@ use Rattle.property_rows.specs.declared.property.NumberedProperty.{NumberedPrope
 use Rattle.property_rows.specs.Slots.{no_property, with_value}
 use Rattle.plist_state.specs.Views.{numbered_property}
 use Rattle.plist_state.specs.Properties.{value_beside, with_value_by, without_value_by}
-use Rattle.plist_state.specs.Pushed.{pushed, with_pushed_by}
-use Rattle.plist_state.specs.Popped.{popped, with_popped_by}
+use Rattle.plist_state.specs.PushedLists.{pushed_list, with_pushed_by}
+use Rattle.plist_state.specs.PoppedLists.{popped_list, with_popped_by}
 use Rattle.plist_state.specs.Lists.{NumberedPlist, same_number}
 use Rattle.plist_state.specs.Undoing.{with_value_at, with_changed_at, without_first, with_inserted}
 
@@ -133,7 +133,7 @@ pub pushed_at : (items : List NumberedProperty) (i k : ℕ) (p : NumberedPropert
 pushed_at items i k p v x at is made =
     shown-set items k p v is ∙ ap (with_value_at (shown items) k) made
     ∙ sym ((first_at items i k at).written (pair (object_of x) (object_of p.value)))
-    ∙ ap (λ o. with_value_by same_number (shown items) i (pushed (object_of x) o)) (sym (stands_at items i k p at is))
+    ∙ ap (λ o. with_value_by same_number (shown items) i (pushed_list (object_of x) o)) (sym (stands_at items i k p at is))
 
 -- the list at the index of an indicator, without its first item
 pub popped_at : (items : List NumberedProperty) (i k : ℕ) (p : NumberedProperty) (v : Datum) → position (has i) items ≡ Some k → p ≡ get_or items k p → object_of v ≡ without_first (object_of p.value)
@@ -141,7 +141,7 @@ pub popped_at : (items : List NumberedProperty) (i k : ℕ) (p : NumberedPropert
 popped_at items i k p v at is made =
     shown-set items k p v is ∙ ap (with_value_at (shown items) k) made
     ∙ sym ((first_at items i k at).written (without_first (object_of p.value)))
-    ∙ ap (λ o. with_value_by same_number (shown items) i (popped o)) (sym (stands_at items i k p at is))
+    ∙ ap (λ o. with_value_by same_number (shown items) i (popped_list o)) (sym (stands_at items i k p at is))
 
 -- the list as it was, where there was no memory
 pub unpushed : {A E : Type 0} (r : Result A E) (items : List NumberedProperty) (k : ℕ) (p : NumberedProperty) (v : Datum) → p ≡ get_or items k p → object_of v ≡ object_of p.value

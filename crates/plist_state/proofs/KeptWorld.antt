@@ -27,7 +27,7 @@ use Rattle.plist_state.specs.declared.error.ReadtableError.{ReadtableError}
 use Rattle.plist_state.specs.declared.error.ReadtableError.TheVariants.{NoReadtable, StandardReadtable, Limit}
 use Rattle.plist_state.specs.State.{Readtables, WorldState, standard_name}
 use Rattle.plist_state.specs.Views.{NumberedRest}
-use Rattle.plist_state.specs.Changes.{put_changed, with_changed, changed_readtable, with_sub_function, refused_as, with_copy, with_syntax, AnswersReadtables}
+use Rattle.plist_state.specs.Changes.{put_changed, with_changed, changed_readtable, with_sub_function, readtable_error_of, with_copy, with_syntax, AnswersReadtables}
 use Rattle.plist_state.specs.Sound.{IsSymbol, IsNamed, IsSoundWorldState}
 use Rattle.plist_state.proofs.Orders.{name_total}
 use Rattle.plist_state.proofs.Soundness.{sound_table, symbol_from}
@@ -120,7 +120,7 @@ named_dispatched t c sub f r u below low other fits at_home named is =
     ] refl is
   where
     made : Option DispatchRefusal → Result Table ReadtableError
-    made o = option_map_or (λ x. Err (refused_as x)) o (Ok (with_character_entry r c (with_function (entry_at r c) sub f)))
+    made o = option_map_or (λ x. Err (readtable_error_of x)) o (Ok (with_character_entry r c (with_function (entry_at r c) sub f)))
 
 pub sound_syntax : (s : WorldState) (n : Name) (c : ℕ) (m : Name) (d : ℕ) → IsSoundWorldState s → c < 128 → (v : Readtables) → with_syntax s.readtables n c m d ≡ Ok v → IsSoundWorldState (record s { readtables = v })
 sound_syntax s n c m d sound below v is =

@@ -9,11 +9,11 @@ use Rattle.readtable_core.specs.Tables.{Table}
 use Rattle.plist_state.specs.declared.error.ReadtableError.{ReadtableError}
 use Rattle.plist_state.specs.declared.note.Note.{Note}
 use Rattle.plist_state.specs.declared.world.World.TheInside.{Inside}
-use Rattle.package_table.specs.Numbers.{numbered}
+use Rattle.package_table.specs.Numbers.{table_now}
 use Rattle.plist_state.specs.State.{Readtables, Worlds}
 use Rattle.plist_state.specs.Views.{NumberedRest, readtables_of, rest_of}
 use Rattle.plist_state.specs.Changes.{AnswersReadtables}
-use Rattle.plist_state.specs.Journal.{Continues, marks_of}
+use Rattle.plist_state.specs.Journal.{ContinuesJournal, marks_of}
 use Rattle.plist_state.specs.MarkedWorlds.{HasKeptWorld, state_in, marked_states, earlier_states, worlds_of}
 use Rattle.plist_state.specs.Sound.{IsSoundWorldState}
 use Rattle.plist_state.proofs.KeptWorld.{kept_gives}
@@ -27,9 +27,9 @@ with_tables a tables marks = record a { stored = record a.stored { readtables = 
 
 module _ (a : Inside) (tables : BTreeMap (Vec ℕ) Table) (marks : Vec (Vec Note)) (r : Result (Unit {0}) ReadtableError)
     (unchanged : IfErr r (λ _. readtables_of tables ≡ readtables_of a.stored.readtables))
-    (noted : (q : NumberedRest) → Continues (marks_of a.marks.items) (record q { readtables = readtables_of a.stored.readtables }) (marks_of marks.items) (record q { readtables = readtables_of tables })) where
+    (noted : (q : NumberedRest) → ContinuesJournal (marks_of a.marks.items) (record q { readtables = readtables_of a.stored.readtables }) (marks_of marks.items) (record q { readtables = readtables_of tables })) where
   pub left_kept : (said : Result Readtables ReadtableError) → AnswersReadtables (λ _. readtables_of tables) r said → HasKeptWorld a
-      → ((v : Readtables) → said ≡ Ok v → IsSoundWorldState (record (state_in (numbered a.packages) (rest_of a.stored)) { readtables = v })) → HasKeptWorld (with_tables a tables marks)
+      → ((v : Readtables) → said ≡ Ok v → IsSoundWorldState (record (state_in (table_now a.packages) (rest_of a.stored)) { readtables = v })) → HasKeptWorld (with_tables a tables marks)
   left_kept said gives kept sound =
       let rows = a.stored.properties.items in
       record {
@@ -38,7 +38,7 @@ module _ (a : Inside) (tables : BTreeMap (Vec ℕ) Table) (marks : Vec (Vec Note
           indexed = kept.now.indexed;
           sizes = kept.now.sizes;
           owned = kept.now.owned;
-          sound = kept_gives r (state_in (numbered a.packages) (rest_of a.stored)) (readtables_of tables) said gives unchanged kept.now.sound sound;
+          sound = kept_gives r (state_in (table_now a.packages) (rest_of a.stored)) (readtables_of tables) said gives unchanged kept.now.sound sound;
           marked = kept_continued a.packages.1.marked (marks_of a.marks.items) (rest_of a.stored) rows kept.now.marked (marks_of marks.items) _ rows
               (noted (rest_of a.stored)) (fits_now rows (rest_of a.stored) refl) (wider_same rows rows refl);
         };

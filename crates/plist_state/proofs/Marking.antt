@@ -11,14 +11,14 @@ use Rattle.std.proofs.lemmas.Option.{slice_get_within, get_or_from_slice_get}
 use Rattle.std.specs.Global.{Vec}
 use Rattle.std.proofs.lemmas.List.{length-map, length_push, map_push}
 use Rattle.std.proofs.lemmas.List.Elements.{All-nil, All-push, All-take}
-use Rattle.package_table.specs.Numbers.{Numbered, Tables, numbered}
+use Rattle.package_table.specs.Numbers.{Numbered, Tables, table_now}
 use Rattle.plist_state.specs.declared.note.Note.{Note}
 use Rattle.plist_state.specs.State.{Readtables, WorldState, Worlds}
 use Rattle.plist_state.specs.Lists.{IsOwned}
 use Rattle.plist_state.specs.Views.{NumberedRest, Rows}
 use Rattle.plist_state.specs.KeptRows.{IsWider}
 use Rattle.plist_state.specs.Undoing.{rests_at}
-use Rattle.plist_state.specs.Journal.{marks_of, FitsRows, IsJournal, Continues}
+use Rattle.plist_state.specs.Journal.{marks_of, FitsRows, IsJournal, ContinuesJournal}
 use Rattle.plist_state.specs.MarkedWorlds.{state_in, marked_states, AreOwned, AreKept}
 use Rattle.plist_state.specs.Sound.{IsSoundWorldState}
 use Rattle.package_table.proofs.Names.{same_some}
@@ -70,12 +70,12 @@ owned_get (suc m) (u ∷ ts) (s ∷ rs) t r a b all = owned_get m ts rs t r a b 
 
 -- ---- a world that was left as it was
 pub world_same : (past : List WorldState) (ts : Tables) (ms ns : List (List Note)) (r u : NumberedRest) → u ≡ r → rests_at ns u ≡ rests_at ms r
-    → ◌≡◌ {A = Worlds} (state_in (numbered ts) u, past ++ marked_states ts.1.marked (rests_at ns u)) (state_in (numbered ts) r, past ++ marked_states ts.1.marked (rests_at ms r))
-world_same past ts ms ns r u rest same = λ i. (state_in (numbered ts) (rest i), past ++ marked_states ts.1.marked (same i))
+    → ◌≡◌ {A = Worlds} (state_in (table_now ts) u, past ++ marked_states ts.1.marked (rests_at ns u)) (state_in (table_now ts) r, past ++ marked_states ts.1.marked (rests_at ms r))
+world_same past ts ms ns r u rest same = λ i. (state_in (table_now ts) (rest i), past ++ marked_states ts.1.marked (same i))
 
 pub refused_same : {A E : Type 0} (res : Result A E) (past : List WorldState) (ts : Tables) (ms ns : List (List Note)) (r : NumberedRest) (later : Readtables) (w : Worlds)
-    → IfErr res (λ _. later ≡ r.readtables) → rests_at ns (record r { readtables = later }) ≡ rests_at ms r → ◌≡◌ {A = Worlds} (state_in (numbered ts) r, past ++ marked_states ts.1.marked (rests_at ms r)) w
-    → IfErr res (λ _. ◌≡◌ {A = Worlds} (state_in (numbered ts) (record r { readtables = later }), past ++ marked_states ts.1.marked (rests_at ns (record r { readtables = later }))) w)
+    → IfErr res (λ _. later ≡ r.readtables) → rests_at ns (record r { readtables = later }) ≡ rests_at ms r → ◌≡◌ {A = Worlds} (state_in (table_now ts) r, past ++ marked_states ts.1.marked (rests_at ms r)) w
+    → IfErr res (λ _. ◌≡◌ {A = Worlds} (state_in (table_now ts) (record r { readtables = later }), past ++ marked_states ts.1.marked (rests_at ns (record r { readtables = later }))) w)
 refused_same (Ok x) past ts ms ns r later w tables same is = tt
 refused_same (Err e) past ts ms ns r later w tables same is =
     world_same past ts ms ns r (record r { readtables = later }) (ap (λ (m : Readtables). record r { readtables = m }) tables) same ∙ is
@@ -112,7 +112,7 @@ module _ (ts : List Numbered) (ms : List (List Note)) (r : NumberedRest) (rows :
   states_many = length_marked ts (rests_at ms r) rests_many ∙ kept.as_many
 
   -- a change that was noted
-  pub kept_continued : (ns : List (List Note)) (u : NumberedRest) (later : Rows) → Continues ms r ns u → FitsRows rows r → IsWider rows later → AreKept ts ns u later
+  pub kept_continued : (ns : List (List Note)) (u : NumberedRest) (later : Rows) → ContinuesJournal ms r ns u → FitsRows rows r → IsWider rows later → AreKept ts ns u later
   kept_continued ns u later continues fits wider = record {
     as_many = rests_many ∙ ap length (sym continues.same) ∙ length-rests ns u;
     journal = journal_wider ns u rows later wider (continues.journal rows fits kept.journal);

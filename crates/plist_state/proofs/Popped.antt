@@ -27,8 +27,8 @@ use Rattle.plist_state.specs.Properties.{Symbol, same_symbol, value_beside, with
 use Rattle.plist_state.specs.State.{WorldState, Worlds}
 use Rattle.plist_state.specs.Changes.{property, with_property}
 use Rattle.plist_state.specs.Lists.{NumberedPlist, same_number, IsNumber, named_plist}
-use Rattle.plist_state.specs.Pushed.{holds_pair}
-use Rattle.plist_state.specs.Popped.{first_item, with_rest, popped, with_popped, with_popped_by}
+use Rattle.plist_state.specs.PushedLists.{holds_pair}
+use Rattle.plist_state.specs.PoppedLists.{first_item, with_rest, popped_list, with_popped, with_popped_by}
 use Rattle.plist_state.specs.Sound.{IsValue}
 use Rattle.plist_state.specs.Undoing.{without_first, element_count, with_items}
 use Rattle.plist_state.proofs.Named.{value_named, with_named}
@@ -104,8 +104,8 @@ pub popped_named : (s : Numbered) (count : ℕ) (counted : IsNumbered s count) (
     (ps : NumberedPlist) (all : All (λ p. IsNumber s p.0) ps)
     → named_plist s (with_popped_by same_number ps i) ≡ with_popped_by same_symbol (named_plist s ps) x
 popped_named s count counted x i is ps all =
-    with_named s count counted x i is ps all (popped (value_beside same_number ps i))
-    ∙ ap (λ o. with_value (named_plist s ps) x (popped o)) (sym (value_named s count counted x i is ps all))
+    with_named s count counted x i is ps all (popped_list (value_beside same_number ps i))
+    ∙ ap (λ o. with_value (named_plist s ps) x (popped_list o)) (sym (value_named s count counted x i is ps all))
 
 -- ---- whether there is a first item
 pub first_there : (o : Option Object) (x : Object) → first_item o ≡ Some x → holds_pair o ≡ true
@@ -130,7 +130,7 @@ none_popped s x i (Some (Object.uninterned name)) is = refl
 none_popped s x i (Some (Object.vector xs)) is = refl
 none_popped s x i None is = refl
 
-pub with_popped_there : (s : WorldState) (x i : Symbol) (o : Option Object) → holds_pair o ≡ true → with_rest s x i o ≡ with_property s x i (popped o)
+pub with_popped_there : (s : WorldState) (x i : Symbol) (o : Option Object) → holds_pair o ≡ true → with_rest s x i o ≡ with_property s x i (popped_list o)
 with_popped_there s x i (Some (pair a b)) is = refl
 with_popped_there s x i (Some (Object.symbol home name)) is = absurd (cc)
 with_popped_there s x i (Some (Object.integer n)) is = absurd (cc)
@@ -143,7 +143,7 @@ with_popped_there s x i None is = absurd (cc)
 
 -- what a call leaves that puts the rest there
 pub popped_put : {A E : Type 0} (r : Result A E) (s : WorldState) (ss : List WorldState) (w : Worlds) (x i : Symbol) → holds_pair (property s x i) ≡ true
-    → OnOk r (◌≡◌ {A = Worlds} w (with_property s x i (popped (property s x i)), ss)) → OnOk r (◌≡◌ {A = Worlds} w (with_popped s x i, ss))
+    → OnOk r (◌≡◌ {A = Worlds} w (with_property s x i (popped_list (property s x i)), ss)) → OnOk r (◌≡◌ {A = Worlds} w (with_popped s x i, ss))
 popped_put (Ok a) s ss w x i there is = is ∙ ap (λ (t : WorldState). (t, ss)) (sym (with_popped_there s x i (property s x i) there))
 popped_put (Err e) s ss w x i there is = tt
 
@@ -158,7 +158,7 @@ rest_depth (Object.text bytes) = omega arith
 rest_depth (Object.uninterned name) = omega arith
 rest_depth (Object.vector xs) = omega arith
 
-pub rest_value : (t : packages.Table) (o : Option Object) → ((x : Object) → o ≡ Some x → IsValue t x) → holds_pair o ≡ true → IsValue t (popped o)
+pub rest_value : (t : packages.Table) (o : Option Object) → ((x : Object) → o ≡ Some x → IsValue t x) → holds_pair o ≡ true → IsValue t (popped_list o)
 rest_value t (Some (pair a b)) each there =
     let value : IsValue t (pair a b) = each (pair a b) refl in
     let below : object_depth b ≤ depth_along b + 1 = rest_depth b in

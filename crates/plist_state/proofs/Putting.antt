@@ -6,7 +6,7 @@ use Rattle.std.specs.Prelude.{OnOk, OnErr}
 use Rattle.std.specs.Global.{Vec}
 use Rattle.lisp_object.specs.Object.{Object}
 use Rattle.package_table.specs.Numbering.{IsNumbered}
-use Rattle.package_table.specs.Numbers.{Tables, number_of, numbered}
+use Rattle.package_table.specs.Numbers.{Tables, number_of, table_now}
 use Rattle.package_table.specs.Table.{symbol_count}
 use Rattle.package_table.proofs.Numbered.{number_there}
 use Rattle.plist_state.specs.declared.note.Note.{Note}
@@ -15,7 +15,7 @@ use Rattle.plist_state.specs.Properties.{Symbol, with_value, with_value_by}
 use Rattle.plist_state.specs.Views.{NumberedRest, rest_of}
 use Rattle.plist_state.specs.Sound.{IsValue, IsSoundWorldState}
 use Rattle.plist_state.specs.Lists.{NumberedLists, same_number, plist_of_number, IsNumber, named_plist, IsOwned}
-use Rattle.plist_state.specs.Journal.{marks_of, Continues}
+use Rattle.plist_state.specs.Journal.{marks_of, ContinuesJournal}
 use Rattle.plist_state.specs.KeptRows.{IsWider}
 use Rattle.plist_state.specs.MarkedWorlds.{state_in, IsKeptPart}
 use Rattle.plist_state.specs.RowIndexes.{AreIndexed}
@@ -30,18 +30,18 @@ use Rattle.plist_state.proofs.Notes.{fits_now}
 use Rattle.plist_state.proofs.Sized.{same_others, others_with}
 use Rattle.plist_state.proofs.Soundness.{sound_put}
 
-module _ (ts : Tables) (before : Stored) (notes : List (Vec Note)) (noted : Sizes) (kept : IsKeptPart ts before notes noted) (counted : IsNumbered (numbered ts) (symbol_count (numbered ts).0))
-    (x i : Symbol) (n j : ℕ) (owner : number_of (numbered ts) x.0 x.1 ≡ Some n) (place : number_of (numbered ts) i.0 i.1 ≡ Some j) (v : Object) where
-  pub same_list : named_plist (numbered ts) (with_value_by same_number (plist_of_number (rest_of before).properties n) j v) ≡ with_value (named_plist (numbered ts) (plist_of_number (rest_of before).properties n)) i v
-  same_list = with_named (numbered ts) (symbol_count (numbered ts).0) counted i j place (plist_of_number (rest_of before).properties n) (kept.owned.indicators n) v
+module _ (ts : Tables) (before : Stored) (notes : List (Vec Note)) (noted : Sizes) (kept : IsKeptPart ts before notes noted) (counted : IsNumbered (table_now ts) (symbol_count (table_now ts).0))
+    (x i : Symbol) (n j : ℕ) (owner : number_of (table_now ts) x.0 x.1 ≡ Some n) (place : number_of (table_now ts) i.0 i.1 ≡ Some j) (v : Object) where
+  pub same_list : named_plist (table_now ts) (with_value_by same_number (plist_of_number (rest_of before).properties n) j v) ≡ with_value (named_plist (table_now ts) (plist_of_number (rest_of before).properties n)) i v
+  same_list = with_named (table_now ts) (symbol_count (table_now ts).0) counted i j place (plist_of_number (rest_of before).properties n) (kept.owned.indicators n) v
 
-  pub part_put : {A E : Type 0} (res : Result A E) (after : Stored) (later : List (Vec Note)) (forgotten : Sizes) → IsValue (numbered ts).0 v
+  pub part_put : {A E : Type 0} (res : Result A E) (after : Stored) (later : List (Vec Note)) (forgotten : Sizes) → IsValue (table_now ts).0 v
       → OnOk res (rest_of after ≡ with_changed_row (rest_of before) n (λ ps. with_value_by same_number ps j v)) → OnErr res (rest_of after ≡ rest_of before)
       → IsWider before.properties.items after.properties.items → AreIndexed after.properties.items after.indexes.entries
-      → Continues (marks_of notes) (rest_of before) (marks_of later) (rest_of after)
+      → ContinuesJournal (marks_of notes) (rest_of before) (marks_of later) (rest_of after)
       → ((m : NumberedLists) → AreOtherSizes m n j noted → AreSizes m forgotten) → IsKeptPart ts after later forgotten
   part_put res after later forgotten value ok err wider indexed continues forget =
-      let s = numbered ts in
+      let s = table_now ts in
       let r : NumberedRest = rest_of before in
       let u : NumberedRest = rest_of after in
       let made : NumberedRest = with_changed_row r n (λ ps. with_value_by same_number ps j v) in

@@ -24,8 +24,8 @@ use Rattle.plist_state.specs.declared.note.Note.TheVariants.{Property, Made, Cha
 use Rattle.plist_state.specs.State.{Readtables}
 use Rattle.plist_state.specs.Lists.{NumberedLists, plist_of_number, with_row}
 use Rattle.plist_state.specs.Views.{Rows, room_at, NumberedRest}
-use Rattle.plist_state.specs.Undoing.{list_before, table_before, tables_before, undone, all_undone, rests_at, restores}
-use Rattle.plist_state.specs.Journal.{marks_of, FitsRows, LeadsBack, IsJournal, Continues, ContinuesTables}
+use Rattle.plist_state.specs.Undoing.{list_before, table_before, tables_before, rest_before, all_undone, rests_at, restores}
+use Rattle.plist_state.specs.Journal.{marks_of, FitsRows, LeadsBack, IsJournal, ContinuesJournal, ContinuesTables}
 use Rattle.plist_state.proofs.Orders.{name_total, name_exact, one_name}
 use Rattle.plist_state.proofs.Notes.{rests_push, journal_split, journal_put}
 use Rattle.plist_state.proofs.ByName.{got_put, some_of, same_some}
@@ -112,16 +112,16 @@ record DiffersAt (n : Name) (a b : NumberedRest) : Type 0 where
 
 -- the same after a note that changes the readtable of another name
 differs_apart : (n : Name) (name : Vec ℕ) (change : TableChange) (a b : NumberedRest) → DiffersAt n a b → name.items ≢ n
-    → DiffersAt n (undone (Changed name change) a) (undone (Changed name change) b)
+    → DiffersAt n (rest_before (Changed name change) a) (rest_before (Changed name change) b)
 differs_apart n name change a b d apart = record {
   table = d.table;
-  rest = ap (undone (Changed name change)) d.rest ∙ ap (λ (k : Readtables). record a { readtables = k }) (before_apart a.readtables n d.table change name.items apart);
+  rest = ap (rest_before (Changed name change)) d.rest ∙ ap (λ (k : Readtables). record a { readtables = k }) (before_apart a.readtables n d.table change name.items apart);
   there = before_there a.readtables n d.table change name.items apart ∙ d.there;
 }
 
 -- and after one that changes this readtable
 differs_within : (n : Name) (name : Vec ℕ) (change : TableChange) (a b : NumberedRest) → DiffersAt n a b → name.items ≡ n
-    → DiffersAt n (undone (Changed name change) a) (undone (Changed name change) b)
+    → DiffersAt n (rest_before (Changed name change) a) (rest_before (Changed name change) b)
 differs_within n name change a b d named =
     let m : Readtables = a.readtables in
     let old : (s : Table) × (tables_before m n change ≡ finite.insert m n (table_before change s)) = before_old m n d.table change d.there in
@@ -129,7 +129,7 @@ differs_within n name change a b d named =
     record {
       table = table_before change d.table;
       rest =
-          ap (undone (Changed name change)) d.rest
+          ap (rest_before (Changed name change)) d.rest
           ∙ ap (λ (k : Readtables). record a { readtables = k })
           (ap (λ q. tables_before (finite.insert m n d.table) q change) named ∙ before_new m n d.table change
           ∙ sym (ap (λ k. finite.insert k n (table_before change d.table)) was ∙ insert_twice m n (table_before change old.0) (table_before change d.table)));
@@ -137,36 +137,36 @@ differs_within n name change a b d named =
     }
 
 differs_changed : (n : Name) (name : Vec ℕ) (change : TableChange) (a b : NumberedRest) → DiffersAt n a b
-    → DiffersAt n (undone (Changed name change) a) (undone (Changed name change) b)
+    → DiffersAt n (rest_before (Changed name change) a) (rest_before (Changed name change) b)
 differs_changed n name change a b d =
-    elim (bytes_eq name.items n) as (λ e. bytes_eq name.items n ≡ e → DiffersAt n (undone (Changed name change) a) (undone (Changed name change) b)) [
+    elim (bytes_eq name.items n) as (λ e. bytes_eq name.items n ≡ e → DiffersAt n (rest_before (Changed name change) a) (rest_before (Changed name change) b)) [
       | true ↦ λ same. differs_within n name change a b d (equal_names name.items n same)
       | false ↦ λ other. differs_apart n name change a b d (unequal_names name.items n other)
     ] refl
 
-still_differs : (n : Name) (k : Note) (a b : NumberedRest) → DiffersAt n a b → restores n k ≡ false → DiffersAt n (undone k a) (undone k b)
-still_differs n (Property x change) a b d other = record { table = d.table; rest = ap (undone (Property x change)) d.rest; there = d.there }
+still_differs : (n : Name) (k : Note) (a b : NumberedRest) → DiffersAt n a b → restores n k ≡ false → DiffersAt n (rest_before k a) (rest_before k b)
+still_differs n (Property x change) a b d other = record { table = d.table; rest = ap (rest_before (Property x change)) d.rest; there = d.there }
 still_differs n (Made name) a b d other = record {
   table = d.table;
-  rest = ap (undone (Made name)) d.rest ∙ ap (λ (k : Readtables). record a { readtables = k }) (remove_apart a.readtables n d.table name.items (unequal_names name.items n other));
+  rest = ap (rest_before (Made name)) d.rest ∙ ap (λ (k : Readtables). record a { readtables = k }) (remove_apart a.readtables n d.table name.items (unequal_names name.items n other));
   there = ap is_some (still_removed a.readtables n name.items (unequal_names name.items n other)) ∙ d.there;
 }
 still_differs n (Changed name change) a b d other = differs_changed n name change a b d
-still_differs n (InPackage name) a b d other = record { table = d.table; rest = ap (undone (InPackage name)) d.rest; there = d.there }
-still_differs n (InReadtable name) a b d other = record { table = d.table; rest = ap (undone (InReadtable name)) d.rest; there = d.there }
-still_differs n (InBase base) a b d other = record { table = d.table; rest = ap (undone (InBase base)) d.rest; there = d.there }
+still_differs n (InPackage name) a b d other = record { table = d.table; rest = ap (rest_before (InPackage name)) d.rest; there = d.there }
+still_differs n (InReadtable name) a b d other = record { table = d.table; rest = ap (rest_before (InReadtable name)) d.rest; there = d.there }
+still_differs n (InBase base) a b d other = record { table = d.table; rest = ap (rest_before (InBase base)) d.rest; there = d.there }
 
-restored : (n : Name) (k : Note) (a b : NumberedRest) → DiffersAt n a b → restores n k ≡ true → undone k b ≡ undone k a
+restored : (n : Name) (k : Note) (a b : NumberedRest) → DiffersAt n a b → restores n k ≡ true → rest_before k b ≡ rest_before k a
 restored n (Property x change) a b d e = absurd (false≢true e)
 restored n (Made name) a b d e =
     let named : name.items ≡ n = equal_names name.items n e in
-    ap (undone (Made name)) d.rest
+    ap (rest_before (Made name)) d.rest
     ∙ ap (λ (k : Readtables). record a { readtables = k })
     (ap (finite.remove (finite.insert a.readtables n d.table)) named ∙ remove_over a.readtables n d.table ∙ sym (ap (finite.remove a.readtables) named))
 restored n (Changed name (Over before)) a b d e =
     let named : name.items ≡ n = equal_names name.items n e in
     let m : Readtables = a.readtables in
-    ap (undone (Changed name (Over before))) d.rest
+    ap (rest_before (Changed name (Over before))) d.rest
     ∙ ap (λ (k : Readtables). record a { readtables = k })
     (ap (λ q. tables_before (finite.insert m n d.table) q (Over before)) named ∙ before_new m n d.table (Over before)
     ∙ sym (ap (λ q. tables_before m q (Over before)) named ∙ (before_old m n d.table (Over before) d.there).1))
@@ -179,7 +179,7 @@ restored n (InBase base) a b d e = absurd (false≢true e)
 all_differs : (n : Name) (ns : List Note) (a b : NumberedRest) → DiffersAt n a b → list_any (restores n) ns ≡ false → DiffersAt n (all_undone ns a) (all_undone ns b)
 all_differs n [] a b d none = d
 all_differs n (k ∷ ns) a b d none =
-    elim (restores n k) as (λ e. restores n k ≡ e → e || list_any (restores n) ns ≡ false → DiffersAt n (undone k (all_undone ns a)) (undone k (all_undone ns b))) [
+    elim (restores n k) as (λ e. restores n k ≡ e → e || list_any (restores n) ns ≡ false → DiffersAt n (rest_before k (all_undone ns a)) (rest_before k (all_undone ns b))) [
       | true ↦ λ _ no. absurd (false≢true (sym no))
       | false ↦ λ other no. still_differs n k (all_undone ns a) (all_undone ns b) (all_differs n ns a b d no) other
     ] refl none
@@ -187,8 +187,8 @@ all_differs n (k ∷ ns) a b d none =
 all_restored : (n : Name) (ns : List Note) (a b : NumberedRest) → DiffersAt n a b → list_any (restores n) ns ≡ true → all_undone ns b ≡ all_undone ns a
 all_restored n [] a b d some = absurd (false≢true some)
 all_restored n (k ∷ ns) a b d some =
-    elim (list_any (restores n) ns) as (λ e. list_any (restores n) ns ≡ e → restores n k || e ≡ true → undone k (all_undone ns b) ≡ undone k (all_undone ns a)) [
-      | true ↦ λ later _. ap (undone k) (all_restored n ns a b d later)
+    elim (list_any (restores n) ns) as (λ e. list_any (restores n) ns ≡ e → restores n k || e ≡ true → rest_before k (all_undone ns b) ≡ rest_before k (all_undone ns a)) [
+      | true ↦ λ later _. ap (rest_before k) (all_restored n ns a b d later)
       | false ↦ λ none here. restored n k (all_undone ns a) (all_undone ns b) (all_differs n ns a b d none) (first_one (restores n k) here)
     ] refl some
   where
@@ -197,7 +197,7 @@ all_restored n (k ∷ ns) a b d some =
     first_one false is = is
 
 -- ---- the rows that there is memory for
-list_undone : (k : Note) (t u : NumberedRest) → u.properties ≡ t.properties → (undone k u).properties ≡ (undone k t).properties
+list_undone : (k : Note) (t u : NumberedRest) → u.properties ≡ t.properties → (rest_before k u).properties ≡ (rest_before k t).properties
 list_undone (Property x change) t u same = ap (λ (m : NumberedLists). with_row m x (list_before change (plist_of_number m x))) same
 list_undone (Made name) t u same = same
 list_undone (Changed name change) t u same = same
@@ -217,7 +217,7 @@ leads_same (k ∷ ns) t u rows same leads =
 
 -- ---- no note is wanted
 not_noted : (ms : List (List Note)) (ns : List Note) (n : Name) → list_any (restores n) ns ≡ true → (t u : NumberedRest) → DiffersAt n t u → u.properties ≡ t.properties
-    → Continues (ms ++ ns ∷ []) t (ms ++ ns ∷ []) u
+    → ContinuesJournal (ms ++ ns ∷ []) t (ms ++ ns ∷ []) u
 not_noted ms ns n some t u d same =
     let back : all_undone ns u ≡ all_undone ns t = all_restored n ns t u d some in
     record {
@@ -253,11 +253,11 @@ ends_with {A} (y ∷ z ∷ zs) x is =
 -- the marks of which the newest has such a note
 pub none_wanted : (ms : List (Vec Note)) (newest : Vec Note) → Some newest ≡ slice_get ms (length ms - 1) → (n : Name) → list_any (restores n) newest.items ≡ true
     → (m : Readtables) (t : Table) → is_some (finite.get m n) ≡ true → (r : NumberedRest)
-    → Continues (marks_of ms) (record r { readtables = m }) (marks_of ms) (record r { readtables = finite.insert m n t })
+    → ContinuesJournal (marks_of ms) (record r { readtables = m }) (marks_of ms) (record r { readtables = finite.insert m n t })
 none_wanted ms newest is n some m t there r =
     let split : (before : List (Vec Note)) × (ms ≡ before ++ newest ∷ []) = ends_with ms newest is in
     let marks : marks_of ms ≡ marks_of split.0 ++ newest.items ∷ [] = ap marks_of split.1 ∙ map_push (λ (v : Vec Note). v.items) split.0 newest in
-    subst (λ ks. Continues ks (record r { readtables = m }) ks (record r { readtables = finite.insert m n t })) (sym marks)
+    subst (λ ks. ContinuesJournal ks (record r { readtables = m }) ks (record r { readtables = finite.insert m n t })) (sym marks)
     (not_noted (marks_of split.0) newest.items n some (record r { readtables = m }) (record r { readtables = finite.insert m n t })
     (record { table = t; rest = refl; there = there }) refl)
 
@@ -265,5 +265,5 @@ none_wanted ms newest is n some m t there r =
 pub copied_over : (ms ks : List (List Note)) → ks ≡ ms → (m later : Readtables) (n : Name) (w : Table) → later ≡ finite.insert m n w
     → ContinuesTables ks m ks (finite.insert m n w) → ContinuesTables ms m ks later
 copied_over ms ks same m later n w put holds r =
-    subst (λ k. Continues k (record r { readtables = m }) ks (record r { readtables = later })) same
-    (subst (λ (l : Readtables). Continues ks (record r { readtables = m }) ks (record r { readtables = l })) (sym put) (holds r))
+    subst (λ k. ContinuesJournal k (record r { readtables = m }) ks (record r { readtables = later })) same
+    (subst (λ (l : Readtables). ContinuesJournal ks (record r { readtables = m }) ks (record r { readtables = l })) (sym put) (holds r))

@@ -18,7 +18,7 @@ use Rattle.lisp_object.proofs.Objects.{object_of-List, object_of-dotted}
 use Rattle.lisp_object.proofs.ProperLists.{items_of_proper}
 use Rattle.plist_state.specs.Properties.{value_beside, with_value_by, without_value_by}
 use Rattle.plist_state.specs.Lists.{NumberedPlist, NumberedLists, same_number, plist_of_number, with_row, value_in, with_value_in, without_value_in}
-use Rattle.plist_state.specs.Pushed.{pair_size, pushed, with_pushed_in, with_pushed_by}
+use Rattle.plist_state.specs.PushedLists.{pair_size, pushed_list, with_pushed_in, with_pushed_by}
 use Rattle.plist_state.specs.Sizes.{Sizes, size_key, size_at, AreSizes, AreOtherSizes}
 use Rattle.plist_state.proofs.Lists.{kept}
 use Rattle.plist_state.proofs.ListRows.{one_number, number_tied, get-with_row, row-with_row}
@@ -129,6 +129,6 @@ module _ (m : NumberedLists) (x y : ℕ) where
     others_without i j n within differ is =
         ap pair_size (value_elsewhere (without_value_by same_number (plist_of_number m x) y) (λ k other. elsewhere_without (plist_of_number m x) y k other) i j differ) ∙ are i j n within is
 
-  pub size_pushed : (v : Object) (size : ℕ) → pair_size (Some (pushed v (value_in m x y))) ≡ Some size → pair_size (value_in (with_pushed_in m x y v) x y) ≡ Some size
+  pub size_pushed : (v : Object) (size : ℕ) → pair_size (Some (pushed_list v (value_in m x y))) ≡ Some size → pair_size (value_in (with_pushed_in m x y v) x y) ≡ Some size
   size_pushed v size is =
-      ap pair_size (ap (λ l. value_beside same_number l y) (row-with_row m x (with_pushed_by same_number (plist_of_number m x) y v)) ∙ put_there (plist_of_number m x) y (pushed v (value_in m x y))) ∙ is
+      ap pair_size (ap (λ l. value_beside same_number l y) (row-with_row m x (with_pushed_by same_number (plist_of_number m x) y v)) ∙ put_there (plist_of_number m x) y (pushed_list v (value_in m x y))) ∙ is

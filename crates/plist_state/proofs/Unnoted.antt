@@ -27,9 +27,9 @@ use Rattle.plist_state.specs.declared.note.Note.TheVariants.{Property, Made, Cha
 use Rattle.plist_state.specs.declared.overwritten.PropertyPlace.{PropertyPlace}
 use Rattle.plist_state.specs.Lists.{NumberedPlist, NumberedLists, plist_of_number, with_row}
 use Rattle.plist_state.specs.Views.{Rows, room_at, lists_in, NumberedRest}
-use Rattle.plist_state.specs.Undoing.{with_value_at, with_changed_at, with_items, with_inserted, without_first, list_before, undone, all_undone, rests_at}
+use Rattle.plist_state.specs.Undoing.{with_value_at, with_changed_at, with_items, with_inserted, without_first, list_before, rest_before, all_undone, rests_at}
 use Rattle.plist_state.specs.KeptRows.{IsProperChange}
-use Rattle.plist_state.specs.Journal.{marks_of, IsNoted, FitsRows, LeadsBack, IsJournal, Continues}
+use Rattle.plist_state.specs.Journal.{marks_of, IsNoted, FitsRows, LeadsBack, IsJournal, ContinuesJournal}
 use Rattle.plist_state.specs.OverwrittenValues.{before_change, before_note, before_notes, with_at, IsOverwritten, LeadsBackAs}
 use Rattle.plist_state.proofs.Indices.{with_value_at-past, with_value_at-twice, length-inserted}
 use Rattle.plist_state.proofs.ListRows.{one_number, get-with_row, row-with_row, with_row_twice, property_back}
@@ -189,17 +189,17 @@ module _ (x : ℕ) (change : PropertyChange) (s : NumberedRest) where
   ps : NumberedPlist
   ps = plist_of_number s.properties x
 
-  made : (qs : NumberedPlist) → undone (Property x change) (record s { properties = with_row s.properties x qs }) ≡ record s { properties = with_row s.properties x (list_before change qs) }
+  made : (qs : NumberedPlist) → rest_before (Property x change) (record s { properties = with_row s.properties x qs }) ≡ record s { properties = with_row s.properties x (list_before change qs) }
   made qs = ap (λ (k : NumberedLists). record s { properties = k })
       ((λ i. with_row (with_row s.properties x qs) x (list_before change (row-with_row s.properties x qs i))) ∙ with_row_twice s.properties x qs (list_before change qs))
 
-  put_at : (k : ℕ) (w : Object) → with_at (undone (Property x change) s) x k w ≡ record s { properties = with_row s.properties x (with_value_at (list_before change (plist_of_number s.properties x)) k w) }
+  put_at : (k : ℕ) (w : Object) → with_at (rest_before (Property x change) s) x k w ≡ record s { properties = with_row s.properties x (with_value_at (list_before change (plist_of_number s.properties x)) k w) }
   put_at k w = ap (λ (k : NumberedLists). record s { properties = k })
       ((λ i. with_row (with_row s.properties x (list_before change (plist_of_number s.properties x))) x (with_value_at (row-with_row s.properties x (list_before change (plist_of_number s.properties x)) i) k w))
       ∙ with_row_twice s.properties x (list_before change (plist_of_number s.properties x)) (with_value_at (list_before change (plist_of_number s.properties x)) k w))
 
   follows_list : (o : Option PropertyPlace) (qs : NumberedPlist) → ListFollows (list_before change (plist_of_number s.properties x)) o (list_before change qs)
-      → Follows x (undone (Property x change) s) o (undone (Property x change) (record s { properties = with_row s.properties x qs }))
+      → Follows x (rest_before (Property x change) s) o (rest_before (Property x change) (record s { properties = with_row s.properties x qs }))
   follows_list None qs f = made qs ∙ ap (λ l. record s { properties = with_row s.properties x l }) f
   follows_list (Some q) qs f = (
     f.0,
@@ -209,15 +209,15 @@ module _ (x : ℕ) (change : PropertyChange) (s : NumberedRest) where
   )
 
 follows_here : (x : ℕ) (change : PropertyChange) (s a : NumberedRest) (p : PropertyPlace) → Follows x s (Some p) a
-    → Follows x (undone (Property x change) s) (before_change change p) (undone (Property x change) a)
+    → Follows x (rest_before (Property x change) s) (before_change change p) (rest_before (Property x change) a)
 follows_here x change s a p f =
-    subst (λ (b : NumberedRest). Follows x (undone (Property x change) s) (before_change change p) (undone (Property x change) b)) (sym f.3)
+    subst (λ (b : NumberedRest). Follows x (rest_before (Property x change) s) (before_change change p) (rest_before (Property x change) b)) (sym f.3)
     (follows_list x change s (before_change change p) (with_value_at (plist_of_number s.properties x) p.index f.0)
     (follows_change change (plist_of_number s.properties x) (with_value_at (plist_of_number s.properties x) p.index f.0) p (f.0, f.1, f.2, refl)))
 
 -- a change of another list
 follows_there : (x y : ℕ) (change : PropertyChange) (s a : NumberedRest) (p : PropertyPlace) → y ≢ x → Follows x s (Some p) a
-    → Follows x (undone (Property y change) s) (Some p) (undone (Property y change) a)
+    → Follows x (rest_before (Property y change) s) (Some p) (rest_before (Property y change) a)
 follows_there x y change s a p apart f =
     let m : NumberedLists = s.properties in
     let qs : NumberedPlist = with_value_at (plist_of_number m x) p.index f.0 in
@@ -227,28 +227,28 @@ follows_there x y change s a p apart f =
       f.0,
       ap length here ∙ f.1,
       f.2,
-      ap (undone (Property y change)) f.3
+      ap (rest_before (Property y change)) f.3
           ∙ ap (λ (k : NumberedLists). record s { properties = k })
           ((λ i. with_row (with_row m x qs) y (list_before change (there i))) ∙ with_row_apart m x y qs before apart
           ∙ (λ i. with_row (with_row m y before) x (with_value_at (sym here i) p.index f.0))),
     )
 
 follows_property : (x y : ℕ) (change : PropertyChange) (s a : NumberedRest) (p : PropertyPlace) (b : Bool) → (y == x) ≡ b → Follows x s (Some p) a
-    → Follows x (undone (Property y change) s) (cond b (before_change change p) (Some p)) (undone (Property y change) a)
+    → Follows x (rest_before (Property y change) s) (cond b (before_change change p) (Some p)) (rest_before (Property y change) a)
 follows_property x y change s a p true e f =
     let same : x ≡ y = grind (arith, nat_tests, e) in
-    subst (λ z. Follows x (undone (Property z change) s) (before_change change p) (undone (Property z change) a)) same (follows_here x change s a p f)
+    subst (λ z. Follows x (rest_before (Property z change) s) (before_change change p) (rest_before (Property z change) a)) same (follows_here x change s a p f)
 follows_property x y change s a p false e f = follows_there x y change s a p (λ same. absurd (grind (arith, nat_tests, e, same))) f
 
 follows_note : (x : ℕ) (n : Note) (o : Option PropertyPlace) (s a : NumberedRest) → Follows x s o a
-    → Follows x (undone n s) (option_and_then (before_note x n) o) (undone n a)
-follows_note x n None s a f = ap (undone n) f
+    → Follows x (rest_before n s) (option_and_then (before_note x n) o) (rest_before n a)
+follows_note x n None s a f = ap (rest_before n) f
 follows_note x (Property y change) (Some p) s a f = follows_property x y change s a p (y == x) refl f
-follows_note x (Made name) (Some p) s a f = (f.0, f.1, f.2, ap (undone (Made name)) f.3)
-follows_note x (Changed name change) (Some p) s a f = (f.0, f.1, f.2, ap (undone (Changed name change)) f.3)
-follows_note x (InPackage name) (Some p) s a f = (f.0, f.1, f.2, ap (undone (InPackage name)) f.3)
-follows_note x (InReadtable name) (Some p) s a f = (f.0, f.1, f.2, ap (undone (InReadtable name)) f.3)
-follows_note x (InBase base) (Some p) s a f = (f.0, f.1, f.2, ap (undone (InBase base)) f.3)
+follows_note x (Made name) (Some p) s a f = (f.0, f.1, f.2, ap (rest_before (Made name)) f.3)
+follows_note x (Changed name change) (Some p) s a f = (f.0, f.1, f.2, ap (rest_before (Changed name change)) f.3)
+follows_note x (InPackage name) (Some p) s a f = (f.0, f.1, f.2, ap (rest_before (InPackage name)) f.3)
+follows_note x (InReadtable name) (Some p) s a f = (f.0, f.1, f.2, ap (rest_before (InReadtable name)) f.3)
+follows_note x (InBase base) (Some p) s a f = (f.0, f.1, f.2, ap (rest_before (InBase base)) f.3)
 
 follows_notes : (x : ℕ) (ns : List Note) (p : PropertyPlace) (s a : NumberedRest) → Follows x s (Some p) a
     → Follows x (all_undone ns s) (before_notes x ns p) (all_undone ns a)
@@ -289,7 +289,7 @@ leads_from x (n ∷ ns) p s a rows f leads =
 
 -- ---- no note is wanted
 back_the_same : (ms : List (List Note)) (ns : List Note) (t u : NumberedRest) → all_undone ns u ≡ all_undone ns t
-    → ((rows : Rows) → LeadsBack ns t rows → LeadsBack ns u rows) → Continues (ms ++ ns ∷ []) t (ms ++ ns ∷ []) u
+    → ((rows : Rows) → LeadsBack ns t rows → LeadsBack ns u rows) → ContinuesJournal (ms ++ ns ∷ []) t (ms ++ ns ∷ []) u
 back_the_same ms ns t u back leads = record {
   same = rests_push ms ns u ∙ (λ i. rests_at ms (back i) ++ back i ∷ []) ∙ sym (rests_push ms ns t);
   journal = λ rows fits journal.
@@ -344,22 +344,22 @@ overwritten_since ms newest is x p k none within =
 
 -- a value that was set, and is overwritten
 pub not_noted : (ms : List (List Note)) (x : ℕ) (p : PropertyPlace) (k : ℕ) (d : Datum) → p.index ≡ k → IsOverwritten ms x p → (t u : NumberedRest)
-    → length (plist_of_number u.properties x) ≡ p.length → undone (Property x (Set k d)) u ≡ t → Continues ms t ms u
+    → length (plist_of_number u.properties x) ≡ p.length → rest_before (Property x (Set k d)) u ≡ t → ContinuesJournal ms t ms u
 not_noted ms x p k d here gone t u long undoes =
-    subst (λ (r : NumberedRest). Continues ms r ms u) (ap (λ j. with_at u x j (object_of d)) here ∙ undoes) (gone.same u (object_of d) long).1
+    subst (λ (r : NumberedRest). ContinuesJournal ms r ms u) (ap (λ j. with_at u x j (object_of d)) here ∙ undoes) (gone.same u (object_of d) long).1
 
 -- the same where a call made the rows
 pub property_unnoted : (ms ks : List (List Note)) → ks ≡ ms → (x : ℕ) (change : PropertyChange) (t : NumberedRest) (rows later : Rows) (ps : NumberedPlist)
-    → ((s u : NumberedRest) → u.properties ≡ lists_in later → undone (Property x change) u ≡ s → Continues ks s ks u)
+    → ((s u : NumberedRest) → u.properties ≡ lists_in later → rest_before (Property x change) u ≡ s → ContinuesJournal ks s ks u)
     → lists_in later ≡ with_row (lists_in rows) x ps → list_before change (plist_of_number (lists_in later) x) ≡ plist_of_number (lists_in rows) x
-    → Continues ms (record t { properties = lists_in rows }) ks (record t { properties = lists_in later })
+    → ContinuesJournal ms (record t { properties = lists_in rows }) ks (record t { properties = lists_in later })
 property_unnoted ms ks same x change t rows later ps unnoted put back =
-    subst (λ k. Continues k (record t { properties = lists_in rows }) ks (record t { properties = lists_in later })) same
+    subst (λ k. ContinuesJournal k (record t { properties = lists_in rows }) ks (record t { properties = lists_in later })) same
     (unnoted (record t { properties = lists_in rows }) (record t { properties = lists_in later }) refl
     (ap (λ (m : NumberedLists). record t { properties = m }) (property_back rows later x ps change put back)))
 
 -- ---- a note without the value of the property that was taken out
-continues_both : (ms ks ns : List (List Note)) (t s u : NumberedRest) → ((rows : Rows) → FitsRows rows t → FitsRows rows s) → Continues ms t ks s → Continues ks s ns u → Continues ms t ns u
+continues_both : (ms ks ns : List (List Note)) (t s u : NumberedRest) → ((rows : Rows) → FitsRows rows t → FitsRows rows s) → ContinuesJournal ms t ks s → ContinuesJournal ks s ns u → ContinuesJournal ms t ns u
 continues_both ms ks ns t s u room former latter = record {
   same = latter.same ∙ former.same;
   journal = λ rows fits journal. latter.journal rows (room rows fits) (former.journal rows fits journal);
@@ -375,20 +375,20 @@ removed_noted ms x k count p q same gone ns t u long undoes continues =
     let more : length (plist_of_number t.properties x) ≡ suc (length ps) =
     ap (λ (r : NumberedRest). length (plist_of_number r.properties x)) (sym undoes) ∙ ap length (row-with_row u.properties x (with_inserted ps k former)) ∙ length-inserted ps k former in
     let within : k ≤ length ps = (let less : k < count = gone.within in omega (arith, less, long, more)) in
-    let one : with_at t x k v ≡ undone (Property x (Removed k q)) u =
+    let one : with_at t x k v ≡ rest_before (Property x (Removed k q)) u =
     ap (λ (r : NumberedRest). with_at r x k v) (sym undoes) ∙ put_at x (Removed k p) u k v
     ∙ ap (λ qs. record u { properties = with_row u.properties x qs }) (inserted_set ps k former v within ∙ ap (λ i. with_inserted ps k (i, v)) (sym same)) in
-    continues_both ms ms ns t (with_at t x k v) u (λ rows. fits_at rows t x k v) (gone.same t v long).0 (subst (λ (r : NumberedRest). Continues ms r ns u) (sym one) continues)
+    continues_both ms ms ns t (with_at t x k v) u (λ rows. fits_at rows t x k v) (gone.same t v long).0 (subst (λ (r : NumberedRest). ContinuesJournal ms r ns u) (sym one) continues)
 
 -- the same where a call made the rows
 pub property_noted_as : (ms ks ns : List (List Note)) → ks ≡ ms → (x count : ℕ) (change other : PropertyChange) → LeadsBackAs ks x count change other
-    → ((t u : NumberedRest) → IsNoted (Property x other) → undone (Property x other) u ≡ t → Continues ks t ns u) → IsProperChange other
+    → ((t u : NumberedRest) → IsNoted (Property x other) → rest_before (Property x other) u ≡ t → ContinuesJournal ks t ns u) → IsProperChange other
     → (t : NumberedRest) (rows later : Rows) (ps : NumberedPlist) → count ≡ length (plist_of_number (lists_in rows) x)
     → lists_in later ≡ with_row (lists_in rows) x ps → list_before change (plist_of_number (lists_in later) x) ≡ plist_of_number (lists_in rows) x
-    → Continues ms (record t { properties = lists_in rows }) ns (record t { properties = lists_in later })
+    → ContinuesJournal ms (record t { properties = lists_in rows }) ns (record t { properties = lists_in later })
 property_noted_as ms ks ns same x count change other alike pushed proper t rows later ps long put back =
     let u : NumberedRest = record t { properties = lists_in later } in
-    subst (λ k. Continues k (record t { properties = lists_in rows }) ns u) same
+    subst (λ k. ContinuesJournal k (record t { properties = lists_in rows }) ns u) same
     (alike ns (record t { properties = lists_in rows }) u (sym long)
     (ap (λ (m : NumberedLists). record t { properties = m }) (property_back rows later x ps change put back))
-    (pushed (undone (Property x other) u) u proper refl))
+    (pushed (rest_before (Property x other) u) u proper refl))

@@ -11,7 +11,7 @@ use Rattle.std.proofs.lemmas.List.Elements.{All-nil, All-cons, All-head, All-tai
 use Rattle.std.proofs.lemmas.Option.{slice_get-map, slice_get_read}
 use Rattle.lisp_object.specs.Object.{Object}
 use Rattle.lisp_object.specs.Datum.{object_of, is_proper}
-use Rattle.package_table.specs.Numbers.{Numbered, numbered}
+use Rattle.package_table.specs.Numbers.{Numbered, table_now}
 use Rattle.property_rows.specs.declared.property.NumberedProperty.{NumberedProperty}
 use Rattle.plist_state.specs.declared.property_list.PropertyList.TheInside.{Inside}
 use Rattle.plist_state.specs.Properties.{Symbol, Plist}
@@ -28,7 +28,7 @@ are_numbers s (p ∷ ps) all =
 
 module _ (a : Inside) where
   abbrev by_number : ℕ × Object → Symbol × Object
-  by_number p = (numbered_symbol (numbered a.packages.now) p.0, p.1)
+  by_number p = (numbered_symbol (table_now a.packages.now) p.0, p.1)
 
   pub same_length : length (plist_in a) ≡ length (items_in a.row)
   same_length = length-map (map numbered_property (items_in a.row)) by_number ∙ length-map (items_in a.row) numbered_property
@@ -39,15 +39,15 @@ module _ (a : Inside) where
       omega (arith, same, within)
 
   module _ (i : ℕ) (within : i < length (items_in a.row)) (p : NumberedProperty) (is : p ≡ get_or (items_in a.row) i p) where
-    pub property_at : (ps : Plist) → plist_in a ≡ ps → slice_get ps i ≡ Some (numbered_symbol (numbered a.packages.now) p.indicator, object_of p.value)
+    pub property_at : (ps : Plist) → plist_in a ≡ ps → slice_get ps i ≡ Some (numbered_symbol (table_now a.packages.now) p.indicator, object_of p.value)
     property_at ps seen =
         ap (λ ps. slice_get ps i) (sym seen)
         ∙ slice_get-map by_number (map numbered_property (items_in a.row)) i
         ∙ ap (option_map by_number) (slice_get-map numbered_property (items_in a.row) i ∙ ap (option_map numbered_property) (slice_get_read (items_in a.row) (length (items_in a.row)) i p refl within is))
 
     module _ (kept : IsPropertyList a) where
-      pub number_at : IsNumber (numbered a.packages.now) p.indicator
-      number_at = subst (λ (q : NumberedProperty). IsNumber (numbered a.packages.now) q.indicator) (sym is) (kept.indicators i p within)
+      pub number_at : IsNumber (table_now a.packages.now) p.indicator
+      number_at = subst (λ (q : NumberedProperty). IsNumber (table_now a.packages.now) q.indicator) (sym is) (kept.indicators i p within)
 
       pub value_proper : is_proper p.value ≡ true
       value_proper = subst (λ (q : NumberedProperty). is_proper q.value ≡ true) (sym is) (kept.values i p within)

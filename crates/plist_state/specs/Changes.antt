@@ -82,14 +82,14 @@ abbrev pub with_dispatching : Readtables → Name → ℕ → Bool → Result Re
 with_dispatching m n c non_terminating = changed_readtable m n (λ t. Ok (with_character_entry t c (dispatching_entry non_terminating)))
 
 -- the refusal of a readtable, as the world gives it
-abbrev pub refused_as : DispatchRefusal → ReadtableError
-refused_as NoDispatch = NotDispatching
-refused_as Digit = DigitSubcharacter
+abbrev pub readtable_error_of : DispatchRefusal → ReadtableError
+readtable_error_of NoDispatch = NotDispatching
+readtable_error_of Digit = DigitSubcharacter
 
 -- a readtable with a function at a sub-character
 abbrev pub with_sub_function : Table → ℕ → ℕ → Name → Result Table ReadtableError
 with_sub_function t c sub f =
-    option_map_or (λ r. Err (refused_as r)) (dispatch_refusal t c sub) (Ok (with_character_entry t c (with_function (entry_at t c) sub f)))
+    option_map_or (λ r. Err (readtable_error_of r)) (dispatch_refusal t c sub) (Ok (with_character_entry t c (with_function (entry_at t c) sub f)))
 
 -- SET-DISPATCH-MACRO-CHARACTER (standard 23.2)
 abbrev pub with_dispatch : Readtables → Name → ℕ → ℕ → Name → Result Readtables ReadtableError

@@ -1,7 +1,7 @@
 -- Properties that are set by the names by which a package finds the symbol and the indicator.
 use Rattle.std.specs.Prelude.{◌≡◌, List, ℕ, Some}
 use Rattle.lisp_object.specs.Object.{Object}
-use Rattle.package_table.specs.Lookup.{found}
+use Rattle.package_table.specs.Lookup.{home_by_name}
 use Rattle.package_table.specs.Table.{Name}
 use Rattle.plist_state.specs.Changes.{with_property}
 use Rattle.plist_state.specs.State.{Worlds}
@@ -10,6 +10,6 @@ use Rattle.plist_state.specs.State.{Worlds}
 pub record PutsFound (old new : Worlds) (owner symbol indicator : Name) (x : Object) : Type 0 where
   pub home : Name
   pub indicator_home : Name
-  pub symbol_found : found old.0.packages owner symbol ≡ Some home
-  pub indicator_found : found old.0.packages owner indicator ≡ Some indicator_home
+  pub symbol_found : home_by_name old.0.packages owner symbol ≡ Some home
+  pub indicator_found : home_by_name old.0.packages owner indicator ≡ Some indicator_home
   pub puts : new ≡ (with_property old.0 (home, symbol) (indicator_home, indicator) x, old.1)

@@ -63,11 +63,11 @@ IsJournal [] r rows = Unit {0}
 IsJournal (m ∷ ms) r rows = LeadsBack m (undone_since ms r) rows × IsJournal ms r rows
 
 -- From the rest u one gets back with the notes ns to what one gets back to from t with the notes ms.
-pub record Continues (ms : List (List Note)) (t : NumberedRest) (ns : List (List Note)) (u : NumberedRest) : Type 0 where
+pub record ContinuesJournal (ms : List (List Note)) (t : NumberedRest) (ns : List (List Note)) (u : NumberedRest) : Type 0 where
   pub same : rests_at ns u ≡ rests_at ms t
   pub journal : (rows : Rows) → FitsRows rows t → IsJournal ms t rows → IsJournal ns u rows
 
 -- the same of a change of the readtables alone, whatever else is kept
 abbrev pub ContinuesTables : List (List Note) → Readtables → List (List Note) → Readtables → Type 0
 ContinuesTables ms before ns later =
-    (r : NumberedRest) → Continues ms (record r { readtables = before }) ns (record r { readtables = later })
+    (r : NumberedRest) → ContinuesJournal ms (record r { readtables = before }) ns (record r { readtables = later })

@@ -16,7 +16,7 @@ pub mod OverwrittenValues
 pub mod Sizes
 pub mod MarkedWorlds
 pub mod PropertyListViews
-pub mod Pushed
-pub mod Popped
-pub mod Shortened
+pub mod PushedLists
+pub mod PoppedLists
+pub mod ShortenedLists
 pub mod Found

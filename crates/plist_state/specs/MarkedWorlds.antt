@@ -1,7 +1,7 @@
 -- What contracts see of a world, and what holds of it.
 use Rattle.std.specs.Prelude.{◌≡◌, ℕ, ◌<◌, ◌≤◌, ◌^◌, ◌++◌, List, [], ◌∷◌, length, All}
 use Rattle.std.specs.Global.{Vec}
-use Rattle.package_table.specs.Numbers.{Numbered, Tables, numbered}
+use Rattle.package_table.specs.Numbers.{Numbered, Tables, table_now}
 use Rattle.plist_state.specs.declared.note.Note.{Note}
 use Rattle.plist_state.specs.declared.replaced.Replaced.{Replaced}
 use Rattle.plist_state.specs.declared.stored.Stored.{Stored}
@@ -39,7 +39,7 @@ marked_states (s ∷ ss) (r ∷ rests) = state_in s r ∷ marked_states ss rests
 
 -- the state of what was replaced, and the states that were marked in it
 abbrev pub worlds_in : Replaced → Worlds
-worlds_in e = (state_in (numbered e.packages) (rest_of e.stored), marked_states e.packages.1.marked (rests_at (marks_of e.marks.items) (rest_of e.stored)))
+worlds_in e = (state_in (table_now e.packages) (rest_of e.stored), marked_states e.packages.1.marked (rests_at (marks_of e.marks.items) (rest_of e.stored)))
 
 -- what was replaced has one mark more, at which another was put in its place
 abbrev pub earlier_states : List Replaced → List WorldState
@@ -49,7 +49,7 @@ earlier_states (e ∷ es) = (worlds_in e).1 ++ (worlds_in e).0 ∷ earlier_state
 -- the state of a world, and the states that were marked: those of what was replaced come first
 abbrev pub worlds_of : Inside → Worlds
 worlds_of a =
-    (state_in (numbered a.packages) (rest_of a.stored), earlier_states a.earlier.items ++ marked_states a.packages.1.marked (rests_at (marks_of a.marks.items) (rest_of a.stored)))
+    (state_in (table_now a.packages) (rest_of a.stored), earlier_states a.earlier.items ++ marked_states a.packages.1.marked (rests_at (marks_of a.marks.items) (rest_of a.stored)))
 
 -- at each mark, each number that has a list is that of a symbol
 abbrev pub AreOwned : List Numbered → List NumberedRest → Type 0
@@ -69,8 +69,8 @@ pub record IsKeptPart (packages : Tables) (stored : Stored) (notes : List (Vec N
   pub values : IsProperRows stored.properties.items
   pub indexed : AreIndexed stored.properties.items stored.indexes.entries
   pub sizes : AreSizes (rest_of stored).properties noted
-  pub owned : IsOwned (numbered packages) (rest_of stored).properties
-  pub sound : IsSoundWorldState (state_in (numbered packages) (rest_of stored))
+  pub owned : IsOwned (table_now packages) (rest_of stored).properties
+  pub sound : IsSoundWorldState (state_in (table_now packages) (rest_of stored))
   pub marked : AreKept packages.1.marked (marks_of notes) (rest_of stored) stored.properties.items
 
 -- what was replaced can be put back

@@ -9,8 +9,8 @@ use Rattle.plist_state.specs.declared.note.Note.TheVariants.{Property, Made, Cha
 use Rattle.plist_state.specs.declared.overwritten.PropertyPlace.{PropertyPlace}
 use Rattle.plist_state.specs.Lists.{plist_of_number, with_row}
 use Rattle.plist_state.specs.Views.{NumberedRest}
-use Rattle.plist_state.specs.Undoing.{with_value_at, undone}
-use Rattle.plist_state.specs.Journal.{Continues}
+use Rattle.plist_state.specs.Undoing.{with_value_at, rest_before}
+use Rattle.plist_state.specs.Journal.{ContinuesJournal}
 
 -- where the property at a place was before a change of its list; none where its value is overwritten as the change is undone
 abbrev pub before_change : PropertyChange → PropertyPlace → Option PropertyPlace
@@ -43,10 +43,10 @@ with_at r x index v = record r { properties = with_row r.properties x (with_valu
 pub record IsOverwritten (ms : List (List Note)) (x : ℕ) (p : PropertyPlace) : Type 0 where
   pub within : p.index < p.length
   pub same : (r : NumberedRest) (v : Object) → length (plist_of_number r.properties x) ≡ p.length
-      → Continues ms r ms (with_at r x p.index v) × Continues ms (with_at r x p.index v) ms r
+      → ContinuesJournal ms r ms (with_at r x p.index v) × ContinuesJournal ms (with_at r x p.index v) ms r
 
 -- Where the list of the symbol x had so many properties before a change, a note of the other change leads back as well.
 abbrev pub LeadsBackAs : List (List Note) → ℕ → ℕ → PropertyChange → PropertyChange → Type 0
 LeadsBackAs ms x count change other =
-    (ns : List (List Note)) (t u : NumberedRest) → length (plist_of_number t.properties x) ≡ count → undone (Property x change) u ≡ t
-    → Continues ms (undone (Property x other) u) ns u → Continues ms t ns u
+    (ns : List (List Note)) (t u : NumberedRest) → length (plist_of_number t.properties x) ≡ count → rest_before (Property x change) u ≡ t
+    → ContinuesJournal ms (rest_before (Property x other) u) ns u → ContinuesJournal ms t ns u

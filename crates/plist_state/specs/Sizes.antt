@@ -4,7 +4,7 @@ use Rattle.std.specs.Ordering.{nat_cmp, eq_by_cmp}
 use Rattle.std.specs.Map.{lookup}
 use Rattle.std.specs.BTreeMap.{is_at}
 use Rattle.plist_state.specs.Lists.{NumberedLists, value_in}
-use Rattle.plist_state.specs.Pushed.{pair_size}
+use Rattle.plist_state.specs.PushedLists.{pair_size}
 
 -- sizes by their keys
 abbrev pub Sizes : Type 0

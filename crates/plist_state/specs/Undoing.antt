@@ -76,18 +76,18 @@ abbrev pub tables_before : Readtables → Name → TableChange → Readtables
 tables_before m n change = option_map_or (λ t. finite.insert m n (table_before change t)) (finite.get m n) m
 
 -- the rest before the change
-abbrev pub undone : Note → NumberedRest → NumberedRest
-undone (Property number change) r = record r { properties = with_row r.properties number (list_before change (plist_of_number r.properties number)) }
-undone (Made name) r = record r { readtables = finite.remove r.readtables name.items }
-undone (Changed name change) r = record r { readtables = tables_before r.readtables name.items change }
-undone (InPackage name) r = record r { current_package = name.items }
-undone (InReadtable name) r = record r { current_readtable = name.items }
-undone (InBase base) r = record r { read_base = base }
+abbrev pub rest_before : Note → NumberedRest → NumberedRest
+rest_before (Property number change) r = record r { properties = with_row r.properties number (list_before change (plist_of_number r.properties number)) }
+rest_before (Made name) r = record r { readtables = finite.remove r.readtables name.items }
+rest_before (Changed name change) r = record r { readtables = tables_before r.readtables name.items change }
+rest_before (InPackage name) r = record r { current_package = name.items }
+rest_before (InReadtable name) r = record r { current_readtable = name.items }
+rest_before (InBase base) r = record r { read_base = base }
 
 -- the rest before all these changes: the last is undone first
 abbrev pub all_undone : List Note → NumberedRest → NumberedRest
 all_undone [] r = r
-all_undone (n ∷ ns) r = undone n (all_undone ns r)
+all_undone (n ∷ ns) r = rest_before n (all_undone ns r)
 
 -- the rest at the first of these marks, each of which is the changes since, up to the next one
 abbrev pub undone_since : List (List Note) → NumberedRest → NumberedRest

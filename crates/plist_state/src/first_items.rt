@@ -2,8 +2,8 @@
 ghost use Rattle.std.specs.Prelude.{◌≡◌, ◌∷◌, ◌++◌, ◌+◌, ◌<◌, ◌≤◌, [], None, Some, true, false, IfOk, IfSome, OnOk, OnErr, All, length, nat_le, if◌then◌else◌, unwrap_or, option_map, vec_capacity};
 ghost use Rattle.lisp_object.specs.Object.{pair, nil};
 ghost use Rattle.lisp_object.specs.Datum.{object_of, is_proper};
-ghost use Rattle.plist_state.specs.Pushed.{holds_pair};
-ghost use Rattle.plist_state.specs.Popped.{first_item};
+ghost use Rattle.plist_state.specs.PushedLists.{holds_pair};
+ghost use Rattle.plist_state.specs.PoppedLists.{first_item};
 ghost use Rattle.plist_state.specs.Undoing.{without_first, element_count, with_items};
 ghost use Rattle.plist_state.specs.KeptRows.{IsEmptyList};
 

@@ -1,7 +1,7 @@
 //! Properties by the names by which a package finds the symbol and the indicator.
 ghost use Rattle.std.specs.Prelude.{◌≡◌, true, false, Some, IfOk, OnErr};
 ghost use Rattle.lisp_object.specs.Datum.{object_of, is_proper};
-ghost use Rattle.package_table.specs.Lookup.{found};
+ghost use Rattle.package_table.specs.Lookup.{home_by_name};
 ghost use Rattle.package_table.specs.Table.{Name};
 ghost use Rattle.plist_state.specs.Found.{PutsFound};
 ghost use Rattle.plist_state.specs.Sound.{IsValue};
@@ -22,8 +22,8 @@ impl World {
         value: Datum,
     ) -> Result<bool, AllocError>
         requires proper { is_proper value ≡ true }
-        requires value { (h i : Name) → found self.old.0.packages current.now symbol.now ≡ Some h
-            → found self.old.0.packages current.now indicator.now ≡ Some i
+        requires value { (h i : Name) → home_by_name self.old.0.packages current.now symbol.now ≡ Some h
+            → home_by_name self.old.0.packages current.now indicator.now ≡ Some i
             → IsValue self.old.0.packages (object_of value) }
         ensures put { IfOk result (λ was_put. was_put ≡ true
             → PutsFound self.old self.new current.now symbol.now indicator.now (object_of value)) }

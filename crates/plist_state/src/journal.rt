@@ -5,8 +5,8 @@ ghost use Rattle.std.specs.FinMap as finite;
 ghost use Rattle.readtable_core.specs.Tables.{Table};
 ghost use Rattle.plist_state.specs.State.{Readtables};
 ghost use Rattle.plist_state.specs.Views.{NumberedRest};
-ghost use Rattle.plist_state.specs.Undoing.{undone, restores};
-ghost use Rattle.plist_state.specs.Journal.{marks_of, has_room, IsNoted, Continues, ContinuesTables};
+ghost use Rattle.plist_state.specs.Undoing.{rest_before, restores};
+ghost use Rattle.plist_state.specs.Journal.{marks_of, has_room, IsNoted, ContinuesJournal, ContinuesTables};
 
 use crate::note::Note;
 use std::alloc::{AllocError, Global};
@@ -43,8 +43,8 @@ pub(crate) fn reserve_named(
 /// Notes a change under the newest mark, if there is one.
 pub(crate) fn push_note(marks: &mut Vec<Vec<Note>>, note: Note)
     requires { has_room marks.old.items }
-    ensures { (t u : NumberedRest) → IsNoted note → undone note u ≡ t
-        → Continues (marks_of marks.old.items) t (marks_of marks.new.items) u }
+    ensures { (t u : NumberedRest) → IsNoted note → rest_before note u ≡ t
+        → ContinuesJournal (marks_of marks.old.items) t (marks_of marks.new.items) u }
 {
     if let Some(newest) = marks.last_mut() {
         newest.push_reserved(note);

@@ -37,8 +37,8 @@
 //! - specs/State.antt: `WorldState`, `Worlds`, `Readtables`, `initial`, `first_readtables`, `first_base`, `standard_name`, `user_name`
 //! - specs/Properties.antt: `Symbol`, `Plist`, `Properties`, `symbol_cmp`, `same_symbol`, `value_at`, `with_value`, `list_at`,
 //!   `with_list`
-//! - specs/Changes.antt: what each call makes of a state; specs/Pushed.antt: `pushed`, `with_pushed`, `holds_pair`, `pair_size`;
-//!   specs/Popped.antt: `first_item`, `with_popped`
+//! - specs/Changes.antt: what each call makes of a state; specs/PushedLists.antt: `pushed`, `with_pushed`, `holds_pair`, `pair_size`;
+//!   specs/PoppedLists.antt: `first_item`, `with_popped`
 //! - specs/Found.antt: `PutsFound`; specs/Sound.antt: what holds of each state; specs/Readers.antt: the lists that a world gives
 //! - specs/Views.antt: `symbol_of`, `symbol_named`, `property_of`; specs/ErrorNumbers.antt: `readtable_error_number`; specs/Codes.antt: `state_code`
 //!

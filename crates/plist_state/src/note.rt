@@ -1,7 +1,7 @@
 //! Changes, each with what it overwrote.
 ghost use Rattle.std.specs.Prelude.{◌≡◌};
 ghost use Rattle.plist_state.specs.Undoing.{restores};
-ghost use Rattle.plist_state.specs.Shortened.{shortened};
+ghost use Rattle.plist_state.specs.ShortenedLists.{shortened_symbol};
 
 use lisp_object::Datum;
 use property_rows::NumberedProperty;
@@ -67,7 +67,7 @@ pub(crate) enum Note {
 impl Note {
     /// The number of the symbol of whose list this took a property out.
     pub(crate) fn shortens(&self) -> Option<u32>
-        ensures { result ≡ shortened self.now }
+        ensures { result ≡ shortened_symbol self.now }
     {
         match self {
             Note::Property { number, change } => match change {

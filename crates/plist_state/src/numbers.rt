@@ -1,7 +1,7 @@
 //! The number of a symbol, under which its property list is kept.
 ghost use Rattle.std.specs.Prelude.{◌≡◌, Some};
 ghost use Rattle.package_table.specs.Numbers as numbers;
-ghost use Rattle.package_table.specs.Numbers.{numbered};
+ghost use Rattle.package_table.specs.Numbers.{table_now};
 ghost use Rattle.plist_state.specs.Views.{symbol_named};
 ghost use Rattle.plist_state.specs.Sound.{IsSymbol};
 
@@ -12,7 +12,7 @@ use package_table::Packages;
 pub(crate) fn number(packages: &Packages, symbol: BorrowedSymbol<'_>) -> u32
     requires { IsSymbol packages.now.0 (symbol_named symbol) }
     ensures { let s = symbol_named symbol.entry in
-        numbers.number_of (numbered packages.now) s.0 s.1 ≡ Some result }
+        numbers.number_of (table_now packages.now) s.0 s.1 ≡ Some result }
 {
     packages.numbering();
     match packages.number_of(symbol.home, symbol.name) {

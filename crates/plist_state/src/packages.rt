@@ -1,7 +1,7 @@
 //! The calls that change packages, and the current one. Each is the call of package_table.
 ghost use Rattle.std.specs.Prelude.{◌≡◌, ◌<◌, All, Some, IfErr, IfOk};
 ghost use Rattle.package_table.specs.Table.{IsPresent};
-ghost use Rattle.package_table.specs.Lookup.{found};
+ghost use Rattle.package_table.specs.Lookup.{home_by_name};
 ghost use Rattle.package_table.specs.Changes.{after_make, after_intern, after_export, after_import, after_use, intern_changes, export_changes, import_changes, use_changes, AnswersPackages};
 ghost use Rattle.package_table.specs.Growth.{Grows, TellsOfChange, IsSameBut};
 ghost use Rattle.plist_state.specs.Changes.{with_packages, after_in_package};
@@ -46,7 +46,7 @@ impl World {
         ensures exactly { IfOk result
             (λ interned. TellsOfChange interned.is_new self.old.0.packages self.new.0.packages) }
         ensures finds { IfOk result
-            (λ interned. found self.new.0.packages owner.now name.now ≡ Some interned.home) }
+            (λ interned. home_by_name self.new.0.packages owner.now name.now ≡ Some interned.home) }
 
         // No other name finds another symbol, and nothing but the packages changes; after an error nothing has changed.
         ensures others { IsSameBut self.old.0.packages self.new.0.packages owner.now name.now }

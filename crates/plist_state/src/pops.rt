@@ -4,7 +4,7 @@ ghost use Rattle.lisp_object.specs.Object.{nil};
 ghost use Rattle.lisp_object.specs.Datum.{is_proper};
 ghost use Rattle.property_rows.specs.Rows.{room};
 ghost use Rattle.plist_state.specs.Properties.{value_beside};
-ghost use Rattle.plist_state.specs.Popped.{with_popped_by, with_popped_in};
+ghost use Rattle.plist_state.specs.PoppedLists.{with_popped_by, with_popped_in};
 ghost use Rattle.plist_state.specs.Lists.{same_number, plist_of_number, value_in};
 ghost use Rattle.plist_state.specs.Views.{plist_of, lists_of};
 ghost use Rattle.plist_state.specs.Undoing.{GoesBack, element_count, with_changed_at, with_items};

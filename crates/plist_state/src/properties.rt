@@ -2,8 +2,8 @@
 ghost use Rattle.std.specs.Prelude.{◌≡◌, true, Some, is_some, option_map, IfOk, IfSome, OnOk, OnErr};
 ghost use Rattle.lisp_object.specs.Datum.{object_of, is_proper};
 ghost use Rattle.plist_state.specs.Changes.{property, with_property, without_property};
-ghost use Rattle.plist_state.specs.Pushed.{holds_pair, pair_size, pushed, with_pushed};
-ghost use Rattle.plist_state.specs.Popped.{first_item, with_popped};
+ghost use Rattle.plist_state.specs.PushedLists.{holds_pair, pair_size, pushed_list, with_pushed};
+ghost use Rattle.plist_state.specs.PoppedLists.{first_item, with_popped};
 ghost use Rattle.plist_state.specs.Views.{symbol_of, symbol_named};
 ghost use Rattle.plist_state.specs.Sound.{IsSymbol, IsValue};
 
@@ -79,9 +79,9 @@ impl World {
             (property self.old.0 (symbol_of symbol.now) (symbol_of indicator.now)) ≡ true }
         requires proper { is_proper first ≡ true }
         requires value { let old = property self.old.0 (symbol_of symbol.now) (symbol_of indicator.now) in
-            IsValue self.old.0.packages (pushed (object_of first) old) }
+            IsValue self.old.0.packages (pushed_list (object_of first) old) }
         requires size { let old = property self.old.0 (symbol_of symbol.now) (symbol_of indicator.now) in
-            pair_size (Some (pushed (object_of first) old)) ≡ Some size }
+            pair_size (Some (pushed_list (object_of first) old)) ≡ Some size }
         ensures ok { OnOk result (self.new
             ≡ (with_pushed self.old.0 (symbol_of symbol.now) (symbol_of indicator.now) (object_of first), self.old.1)) }
         ensures err { OnErr result (self.new ≡ self.old) }

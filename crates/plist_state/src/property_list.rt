@@ -2,7 +2,7 @@
 ghost use Rattle.std.specs.Prelude.{◌≡◌, ◌<◌, ◌==◌, true, All, Some, length, map};
 ghost use Rattle.std.specs.List.{slice_get};
 ghost use Rattle.lisp_object.specs.Datum.{is_proper};
-ghost use Rattle.package_table.specs.Numbers.{numbered};
+ghost use Rattle.package_table.specs.Numbers.{table_now};
 ghost use Rattle.plist_state.specs.Lists.{IsNumber, named_plist};
 ghost use Rattle.plist_state.specs.Views.{numbered_property, property_of, items_in};
 
@@ -35,9 +35,9 @@ impl<'a> Model for PropertyList<'a> {
 
 impl<'a> PropertyList<'a> {
     pub(crate) fn new(packages: &'a Packages, row: Option<&'a Row>) -> PropertyList<'a>
-        requires indicators { All (λ p. IsNumber (numbered packages.now) p.indicator) (items_in row) }
+        requires indicators { All (λ p. IsNumber (table_now packages.now) p.indicator) (items_in row) }
         requires values { All (λ p. is_proper p.value ≡ true) (items_in row) }
-        ensures { result ≡ named_plist (numbered packages.now) (map numbered_property (items_in row.entry)) }
+        ensures { result ≡ named_plist (table_now packages.now) (map numbered_property (items_in row.entry)) }
     {
         PropertyList { packages, row }
     }

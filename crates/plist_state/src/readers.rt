@@ -1,7 +1,7 @@
 //! The lists that a world gives, each sorted by bytes.
 ghost use Rattle.std.specs.Prelude.{◌≡◌, ◌++◌, map, filter, is_some, IfOk, OnOk};
 ghost use Rattle.std.specs.FinMap as finite;
-ghost use Rattle.package_table.specs.Numbers.{numbered};
+ghost use Rattle.package_table.specs.Numbers.{table_now};
 ghost use Rattle.package_table.specs.Readers.{own_names};
 ghost use Rattle.plist_state.specs.Lists.{property_list_of, lists};
 ghost use Rattle.plist_state.specs.Readers.{readtable_names, borrowed_symbols, symbols_with_properties};
@@ -28,7 +28,7 @@ fn names(alloc: Global, tables: &BTreeMap<Vec<u8>, Readtable>) -> Result<Items<B
 // Whether the symbol of this home and name has properties.
 fn has_properties(packages: &Packages, rows: &Vec<Row>, home: &[u8], name: &[u8]) -> bool
     ensures { result
-        ≡ is_some (property_list_of (numbered packages.now) (lists_of rows.now) (home.now, name.now)) }
+        ≡ is_some (property_list_of (table_now packages.now) (lists_of rows.now) (home.now, name.now)) }
 {
     match packages.number_of(home, name) {
         Some(number) => rows::count(rows, number) > 0,
@@ -45,7 +45,7 @@ fn push_owners<'a>(
     symbols: &mut Vec<(&'a [u8], &'a [u8])>,
 ) -> Result<(), AllocError>
     ensures { OnOk result (borrowed_symbols symbols.new.items ≡ borrowed_symbols symbols.old.items
-        ++ filter (λ x. is_some (property_list_of (numbered packages.now) (lists_of rows.now) x)) (map (λ n. (home.now, n)) (own_names packages.now.0 home.now))) }
+        ++ filter (λ x. is_some (property_list_of (table_now packages.now) (lists_of rows.now) x)) (map (λ n. (home.now, n)) (own_names packages.now.0 home.now))) }
 {
     let Ok(names) = packages.own_names(alloc, home) else {
         return Err(AllocError);
@@ -65,7 +65,7 @@ fn owners<'a>(
     rows: &Vec<Row>,
 ) -> Result<Vec<(&'a [u8], &'a [u8])>, AllocError>
     ensures { IfOk result (λ symbols. borrowed_symbols symbols.items
-        ≡ finite.keys (lists (numbered packages.now) (lists_of rows.now))) }
+        ≡ finite.keys (lists (table_now packages.now) (lists_of rows.now))) }
 {
     let mut symbols = Vec::new(alloc);
     for home in packages.package_names(alloc)? {

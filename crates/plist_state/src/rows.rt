@@ -5,7 +5,7 @@ ghost use Rattle.std.specs.Option.{option_map};
 ghost use Rattle.lisp_object.specs.Datum.{object_of, is_proper};
 ghost use Rattle.property_rows.specs.Rows.{room};
 ghost use Rattle.plist_state.specs.Properties.{value_beside, with_value_by, without_value_by};
-ghost use Rattle.plist_state.specs.Pushed.{holds_pair, with_pushed_by, with_pushed_in};
+ghost use Rattle.plist_state.specs.PushedLists.{holds_pair, with_pushed_by, with_pushed_in};
 ghost use Rattle.plist_state.specs.Lists.{same_number, plist_of_number, value_in, with_row, with_value_in, without_value_in};
 ghost use Rattle.plist_state.specs.Views.{items_in, numbered_property, plist_of, lists_of, row_at, room_at};
 ghost use Rattle.plist_state.specs.Undoing.{list_before, GoesBack};

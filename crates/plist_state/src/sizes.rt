@@ -2,7 +2,7 @@
 ghost use Rattle.std.specs.Prelude.{◌≡◌, Some, true, IfSome};
 ghost use Rattle.lisp_object.specs.Datum.{object_of, is_proper};
 ghost use Rattle.plist_state.specs.Lists.{NumberedLists, value_in};
-ghost use Rattle.plist_state.specs.Pushed.{pair_size};
+ghost use Rattle.plist_state.specs.PushedLists.{pair_size};
 ghost use Rattle.plist_state.specs.Sizes.{size_key, AreSizes, AreOtherSizes};
 
 use lisp_object::Datum;

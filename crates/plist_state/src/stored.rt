@@ -3,16 +3,16 @@ ghost use Rattle.std.specs.Prelude.{◌≡◌, ◌≢◌, ◌≤◌, ◌<◌, tr
 ghost use Rattle.std.specs.FinMap as finite;
 ghost use Rattle.lisp_object.specs.Object.{nil};
 ghost use Rattle.lisp_object.specs.Datum.{object_of, is_proper};
-ghost use Rattle.plist_state.specs.Pushed.{holds_pair, with_pushed_in};
-ghost use Rattle.plist_state.specs.Popped.{with_popped_in};
+ghost use Rattle.plist_state.specs.PushedLists.{holds_pair, with_pushed_in};
+ghost use Rattle.plist_state.specs.PoppedLists.{with_popped_in};
 ghost use Rattle.plist_state.specs.State.{first_readtables};
 ghost use Rattle.plist_state.specs.Lists.{value_in, with_value_in, without_value_in};
 ghost use Rattle.plist_state.specs.Views.{NumberedRest, first_numbered, rest_of, lists_of, readtables_of};
 ghost use Rattle.plist_state.specs.RowIndexes.{AreIndexed};
 ghost use Rattle.plist_state.specs.KeptRows.{IsProperRows, IsWider};
-ghost use Rattle.plist_state.specs.Undoing.{undone, element_count};
+ghost use Rattle.plist_state.specs.Undoing.{rest_before, element_count};
 ghost use Rattle.plist_state.specs.declared.note.Note.TheVariants.{Property};
-ghost use Rattle.plist_state.specs.Journal.{marks_of, Continues};
+ghost use Rattle.plist_state.specs.Journal.{marks_of, ContinuesJournal};
 
 use crate::first_items::{count_items, end_of};
 use crate::journal::{push_note, reserve_note};
@@ -76,7 +76,7 @@ pub(crate) fn first_stored(alloc: Global) -> Result<Stored, AllocError>
 // Whether a value that was set need not be noted: the one that it overwrote is overwritten as earlier changes are undone.
 fn needs_no_note(rows: &Vec<Row>, marks: &[Vec<Note>], number: u32, change: &PropertyChange) -> bool
     ensures { result ≡ true → (t u : NumberedRest) → u.properties ≡ lists_of rows.now
-        → undone (Property number change.now) u ≡ t → Continues (marks_of marks.now) t (marks_of marks.now) u }
+        → rest_before (Property number change.now) u ≡ t → ContinuesJournal (marks_of marks.now) t (marks_of marks.now) u }
 {
     let PropertyChange::Set { index, value } = change else {
         return false;
@@ -115,7 +115,7 @@ pub(crate) fn put(
     ensures err { OnErr result (rest_of stored.new ≡ rest_of stored.old) }
     ensures wider { IsWider stored.old.properties.items stored.new.properties.items }
     ensures indexed { AreIndexed stored.new.properties.items stored.new.indexes.entries }
-    ensures marked { Continues (marks_of marks.old.items) (rest_of stored.old)
+    ensures marked { ContinuesJournal (marks_of marks.old.items) (rest_of stored.old)
         (marks_of marks.new.items) (rest_of stored.new) }
 {
     reserve_note(marks)?;
@@ -161,7 +161,7 @@ pub(crate) fn push(
     // No row has less room, each index fits its row, and the marks lead back to what they led back to.
     ensures wider { IsWider stored.old.properties.items stored.new.properties.items }
     ensures indexed { AreIndexed stored.new.properties.items stored.new.indexes.entries }
-    ensures marked { Continues (marks_of marks.old.items) (rest_of stored.old)
+    ensures marked { ContinuesJournal (marks_of marks.old.items) (rest_of stored.old)
         (marks_of marks.new.items) (rest_of stored.new) }
 {
     reserve_note(marks)?;
@@ -205,7 +205,7 @@ fn shorten(
     // No row has less room, each index fits its row, and the marks lead back to what they led back to.
     ensures wider { IsWider stored.old.properties.items stored.new.properties.items }
     ensures indexed { AreIndexed stored.new.properties.items stored.new.indexes.entries }
-    ensures marked { Continues (marks_of marks.old.items) (rest_of stored.old)
+    ensures marked { ContinuesJournal (marks_of marks.old.items) (rest_of stored.old)
         (marks_of marks.new.items) (rest_of stored.new) }
 {
     reserve_note(marks)?;
@@ -244,7 +244,7 @@ pub(crate) fn pop(
     // No row has less room, each index fits its row, and the marks lead back to what they led back to.
     ensures wider { IsWider stored.old.properties.items stored.new.properties.items }
     ensures indexed { AreIndexed stored.new.properties.items stored.new.indexes.entries }
-    ensures marked { Continues (marks_of marks.old.items) (rest_of stored.old)
+    ensures marked { ContinuesJournal (marks_of marks.old.items) (rest_of stored.old)
         (marks_of marks.new.items) (rest_of stored.new) }
 {
     let Some(list) = rows::value(&stored.properties, &stored.indexes, number, indicator) else {
@@ -295,7 +295,7 @@ pub(crate) fn remove(
     // No row has less room, each index fits its row, and the marks lead back to what they led back to.
     ensures wider { IsWider stored.old.properties.items stored.new.properties.items }
     ensures indexed { AreIndexed stored.new.properties.items stored.new.indexes.entries }
-    ensures marked { Continues (marks_of marks.old.items) (rest_of stored.old)
+    ensures marked { ContinuesJournal (marks_of marks.old.items) (rest_of stored.old)
         (marks_of marks.new.items) (rest_of stored.new) }
 {
     if rows::value(&stored.properties, &stored.indexes, number, indicator).is_none() {

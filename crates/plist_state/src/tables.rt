@@ -6,7 +6,7 @@ ghost use Rattle.readtable_core.specs.Names.{is_dispatch_name};
 ghost use Rattle.readtable_core.specs.Tables.{Table, entry_at};
 ghost use Rattle.readtable_core.specs.Changes.{with_character_entry, dispatch_refusal};
 ghost use Rattle.plist_state.specs.declared.error.ReadtableError.TheVariants.{OutOfMemory};
-ghost use Rattle.plist_state.specs.Changes.{writable, with_case, with_macro, with_dispatching, with_dispatch, with_syntax, refused_as, AnswersReadtables};
+ghost use Rattle.plist_state.specs.Changes.{writable, with_case, with_macro, with_dispatching, with_dispatch, with_syntax, readtable_error_of, AnswersReadtables};
 ghost use Rattle.plist_state.specs.Views.{readtables_of};
 ghost use Rattle.plist_state.specs.Undoing.{table_before, tables_before};
 ghost use Rattle.plist_state.specs.Journal.{marks_of, has_room, IsTableChange, IsEntryNote, ContinuesTables};
@@ -61,7 +61,7 @@ fn check_dispatch(
     requires { IsTrue (finite.contains_key (readtables_of tables.now) name.now) }
     ensures { (t : Table) → finite.get (readtables_of tables.now) name.now ≡ Some t
         → MatchResult result (λ _. dispatch_refusal t c sub ≡ None)
-        (λ e. (option_map refused_as (dispatch_refusal t c sub) ≡ Some e) × (e ≢ OutOfMemory)) }
+        (λ e. (option_map readtable_error_of (dispatch_refusal t c sub) ≡ Some e) × (e ≢ OutOfMemory)) }
 {
     let Some(table) = table(tables, name) else {
         unreachable!()

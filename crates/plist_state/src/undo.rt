@@ -5,7 +5,7 @@ ghost use Rattle.std.specs.List.{slice_get};
 ghost use Rattle.plist_state.specs.Views.{rest_of};
 ghost use Rattle.plist_state.specs.RowIndexes.{AreIndexed};
 ghost use Rattle.plist_state.specs.KeptRows.{IsProperRows, IsWider};
-ghost use Rattle.plist_state.specs.Undoing.{undone, all_undone, rests_at};
+ghost use Rattle.plist_state.specs.Undoing.{rest_before, all_undone, rests_at};
 ghost use Rattle.plist_state.specs.Journal.{marks_of, IsNoted, IsJournal, FitsRows, LeadsBack};
 
 use crate::note::Note;
@@ -16,8 +16,8 @@ fn undo(stored: &mut Stored, note: Note)
     requires note { IsNoted note }
     requires values { IsProperRows stored.old.properties.items }
     requires indexed { AreIndexed stored.old.properties.items stored.old.indexes.entries }
-    requires room { FitsRows stored.old.properties.items (undone note (rest_of stored.old)) }
-    ensures after { rest_of stored.new ≡ undone note (rest_of stored.old) }
+    requires room { FitsRows stored.old.properties.items (rest_before note (rest_of stored.old)) }
+    ensures after { rest_of stored.new ≡ rest_before note (rest_of stored.old) }
     ensures wider { IsWider stored.old.properties.items stored.new.properties.items }
     ensures indexed { AreIndexed stored.new.properties.items stored.new.indexes.entries }
 {

@@ -5,7 +5,7 @@ ghost use Rattle.std.specs.FinMap as finite;
 ghost use Rattle.lisp_object.specs.Datum.{object_of, is_proper};
 ghost use Rattle.plist_state.specs.Changes.{plist, property};
 ghost use Rattle.plist_state.specs.MarkedWorlds.{worlds_in, IsReplaced};
-ghost use Rattle.plist_state.specs.Pushed.{pair_size};
+ghost use Rattle.plist_state.specs.PushedLists.{pair_size};
 ghost use Rattle.plist_state.specs.Views.{symbol_of, symbol_named};
 ghost use Rattle.plist_state.specs.Sound.{IsSoundWorld};
 ghost use Rattle.plist_state.specs.State.{initial};

@@ -4,8 +4,8 @@ ghost use Rattle.evaluator.specs.Operators.{pazturrok};
 ghost use Rattle.lisp_object.specs.Datum.{is_proper, object_of};
 ghost use Rattle.lisp_object.specs.Object.{integer};
 ghost use Rattle.package_table.specs.Table.{Table};
-ghost use Rattle.lisp_operators.specs.Evaluated.{Answers, IsArgument, done};
-ghost use Rattle.forgotten_names.specs.Forgotten.{forgotten};
+ghost use Rattle.lisp_operators.specs.EvaluationAnswers.{Answers, IsArgument, done};
+ghost use Rattle.forgotten_names.specs.WorldsWithoutNames.{forgotten};
 ghost use Rattle.prevalence_store.specs.meaning.Forgetting.{counting, forgettable_count, forgetting, held_symbols, is_forget_names, is_forgetting};
 
 use crate::whole_macros::WholeMacros;

@@ -3,9 +3,9 @@ ghost use Rattle.std.specs.Prelude.{◌≡◌, ◌∷◌, ◌++◌, [], IfErr, I
 ghost use Rattle.form_eval.specs.Laws.{MayEvaluate};
 ghost use Rattle.lisp_object.specs.Datum.{object_of};
 ghost use Rattle.lisp_operators.specs.Effects.{Leaves};
-ghost use Rattle.lisp_operators.specs.Evaluated.{Answers, IsArgument, done};
-ghost use Rattle.prevalence_store.specs.meaning.Acceptance.{transacted};
-ghost use Rattle.prevalence_store.specs.meaning.Forgetting.{forgetting, questioned};
+ghost use Rattle.lisp_operators.specs.EvaluationAnswers.{Answers, IsArgument, done};
+ghost use Rattle.prevalence_store.specs.meaning.Acceptance.{transaction_value};
+ghost use Rattle.prevalence_store.specs.meaning.Forgetting.{forgetting, question_in_force};
 
 use crate::forgetting::{count_names, forget_names, is_forgetting};
 use crate::whole_macros::WholeMacros;
@@ -27,7 +27,7 @@ pub(crate) fn transact<R: MacroFunctions>(
 ) -> Result<Evaluated, EvaluationError>
     requires form { MayEvaluate world.old.0.packages form.now }
     ensures gives { Answers done result world.new.0
-        (transacted R.Meaning.functions.names world.old.0 (object_of form.now.datum)) }
+        (transaction_value R.Meaning.functions.names world.old.0 (object_of form.now.datum)) }
     ensures value { IfOk result (λ e. IsArgument world.new.0.packages e.value) }
     ensures marked { IfOk result (λ _. world.new.1 ≡ world.old.1 ++ world.old.0 ∷ []) }
     ensures unchanged { IfErr result (λ _. world.new ≡ world.old) }
@@ -66,7 +66,7 @@ pub(crate) fn carry_out<R: MacroFunctions>(
 ) -> Result<bool, EvaluationError>
     requires form { MayEvaluate world.old.0.packages form }
     ensures gives { Leaves result world.new.0
-        (transacted R.Meaning.functions.names world.old.0 (object_of form.datum)) }
+        (transaction_value R.Meaning.functions.names world.old.0 (object_of form.datum)) }
     ensures marked { IfOk result (λ _. world.new.1 ≡ world.old.1 ++ world.old.0 ∷ []) }
     ensures unchanged { IfErr result (λ _. world.new ≡ world.old) }
 {
@@ -89,7 +89,7 @@ pub fn ask<R: MacroFunctions>(
 ) -> Result<Evaluated, EvaluationError>
     requires form { MayEvaluate world.old.0.packages form.now }
     ensures gives { Answers done result world.new.0
-        (questioned R.Meaning.functions.names world.old.0 (object_of form.now.datum)) }
+        (question_in_force R.Meaning.functions.names world.old.0 (object_of form.now.datum)) }
     ensures value { IfOk result (λ e. IsArgument world.new.0.packages e.value) }
     ensures marked { IfOk result (λ _. world.new.1 ≡ world.old.1 ++ world.old.0 ∷ []) }
     ensures unchanged { IfErr result (λ _. world.new ≡ world.old) }

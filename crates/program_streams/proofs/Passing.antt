@@ -1,7 +1,7 @@
 -- Bytes of answers, one after the other.
 use Rattle.std.proofs.Common.{◌≡◌, ℕ, ◌+◌, ◌≤◌, ◌<◌, List, [], ◌++◌, length, get_or, drop, sym, ap, ◌∙◌, append_assoc}
 use Rattle.std.proofs.lemmas.List.{append-nil, at_drop_more, at_drop_all}
-use Rattle.program_streams.specs.AnswerText.{after, after_all, counted, counted_byte, passed, refusals_in}
+use Rattle.program_streams.specs.AnswerText.{after, after_all, counted_on, counted_byte, passed, refusals_in}
 use Rattle.program_streams.specs.declared.answer_text.At.{At}
 use Rattle.program_streams.specs.declared.refusals.Counts.{Counts}
 
@@ -23,12 +23,12 @@ passed_further at new had has bytes whole i d within is more so_far =
     ∙ so_far
 
 pub counted_further : (at new : At) (had has whole : Counts) (bytes : List ℕ) (i d : ℕ) → i < length bytes → new ≡ after at (get_or bytes i d)
-    → has ≡ counted_byte at had (get_or bytes i d) → counted at had (drop i bytes) ≡ whole → counted new has (drop (i + 1) bytes) ≡ whole
-unfolding counted
+    → has ≡ counted_byte at had (get_or bytes i d) → counted_on at had (drop i bytes) ≡ whole → counted_on new has (drop (i + 1) bytes) ≡ whole
+unfolding counted_on
 counted_further at new had has whole bytes i d within is more so_far =
-    ap (λ a. counted a has (drop (i + 1) bytes)) is
-    ∙ ap (λ (c : Counts). counted (after at (get_or bytes i d)) c (drop (i + 1) bytes)) more
-    ∙ sym (at_drop_more (counted at had) bytes i d within)
+    ap (λ a. counted_on a has (drop (i + 1) bytes)) is
+    ∙ ap (λ (c : Counts). counted_on (after at (get_or bytes i d)) c (drop (i + 1) bytes)) more
+    ∙ sym (at_drop_more (counted_on at had) bytes i d within)
     ∙ so_far
 
 -- at the end
@@ -41,6 +41,6 @@ unfolding refusals_in
 passed_at_end at has bytes whole i far so_far =
     sym (append-nil has) ∙ ap (λ z. has ++ z) (sym (at_drop_all (refusals_in at) bytes i far)) ∙ so_far
 
-pub counted_at_end : (at : At) (has whole : Counts) (bytes : List ℕ) (i : ℕ) → length bytes ≤ i → counted at has (drop i bytes) ≡ whole → has ≡ whole
-unfolding counted
-counted_at_end at has whole bytes i far so_far = sym (at_drop_all (counted at has) bytes i far) ∙ so_far
+pub counted_at_end : (at : At) (has whole : Counts) (bytes : List ℕ) (i : ℕ) → length bytes ≤ i → counted_on at has (drop i bytes) ≡ whole → has ≡ whole
+unfolding counted_on
+counted_at_end at has whole bytes i far so_far = sym (at_drop_all (counted_on at has) bytes i far) ∙ so_far

@@ -86,9 +86,9 @@ counted_byte at counts byte =
     else counts
 
 -- with the answers that end within these bytes
-unfoldable pub counted : At → Counts → List ℕ → Counts
-counted at counts [] = counts
-counted at counts (byte ∷ bytes) = counted (after at byte) (counted_byte at counts byte) bytes
+unfoldable pub counted_on : At → Counts → List ℕ → Counts
+counted_on at counts [] = counts
+counted_on at counts (byte ∷ bytes) = counted_on (after at byte) (counted_byte at counts byte) bytes
 
 -- the line on them: how many answers there were, and how many of them were refusals
 abbrev pub counts_line : Counts → List ℕ

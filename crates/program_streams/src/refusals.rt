@@ -2,7 +2,7 @@
 ghost use Rattle.std.specs.Prelude.{◌≡◌, ◌++◌, length, None, IfOk, OnOk};
 ghost use Rattle.std.specs.Io.{WritesAtMost};
 ghost use Rattle.std.specs.Io.KnownBytes.{WriteAppends};
-ghost use Rattle.program_streams.specs.AnswerText.{after, after_all, counted, counted_byte, counts_line, passed, refusals_in, Gets};
+ghost use Rattle.program_streams.specs.AnswerText.{after, after_all, counted_on, counted_byte, counts_line, passed, refusals_in, Gets};
 
 use crate::answer_text::At;
 use arrayvec::ArrayString;
@@ -118,7 +118,7 @@ impl<O> Refusals<O> {
         ensures output { self.new.output ≡ self.old.output }
         ensures at { OnOk result (self.new.at ≡ after_all self.old.at bytes.now) }
         ensures refusals { OnOk result (self.new.refusals.items ≡ refusals_in self.old.at bytes.now) }
-        ensures counts { OnOk result (self.new.counts ≡ counted self.old.at self.old.counts bytes.now) }
+        ensures counts { OnOk result (self.new.counts ≡ counted_on self.old.at self.old.counts bytes.now) }
     {
         self.refusals.clear();
         for byte in bytes {
@@ -154,7 +154,7 @@ impl<O: Write> Write for Refusals<O> {
         ensures at { IfOk result (λ _. self.new.at ≡ after_all self.old.at buf.now) }
         ensures refusals { IfOk result (λ _. Gets (O.contents self.old.output) (O.contents self.new.output)
             (refusals_in self.old.at buf.now)) }
-        ensures counts { IfOk result (λ _. self.new.counts ≡ counted self.old.at self.old.counts buf.now) }
+        ensures counts { IfOk result (λ _. self.new.counts ≡ counted_on self.old.at self.old.counts buf.now) }
     {
         self.note_all(buf)?;
         write_whole(&mut self.output, self.refusals.as_slice())?;

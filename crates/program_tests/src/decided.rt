@@ -4,7 +4,7 @@ ghost use Rattle.lisp_object.specs.Datum.{object_of};
 ghost use Rattle.lisp_object.specs.Object.{Object, nil, integer, is_proper_list};
 ghost use Rattle.package_table.specs.Symbols.{symbols};
 ghost use Rattle.plist_state.specs.Properties.{Symbol};
-ghost use Rattle.lisp_operators.specs.Evaluated.{Answers, done};
+ghost use Rattle.lisp_operators.specs.EvaluationAnswers.{Answers, done};
 ghost use Rattle.evaluator.specs.FormObjects.{if_form, progn_form, when_form};
 ghost use Rattle.form_eval.specs.Acceptance.{asked_with, with_symbols};
 ghost use Rattle.form_eval.specs.Laws.{MayEvaluate};

@@ -1,7 +1,7 @@
 //! A store that takes the export of a world.
 ghost use Rattle.std.specs.Prelude.{◌≡◌, ◌<◌, ◌-◌, ◌^◌, [], IfOk, IsTrue, Some, true};
 ghost use Rattle.plist_state.specs.State.{initial};
-ghost use Rattle.snapshot_text.specs.Covered.{are_covered};
+ghost use Rattle.snapshot_text.specs.NamedFunctions.{are_covered};
 ghost use Rattle.world_forms.specs.Properties.{left_out_lines};
 
 use crate::same::have_same_export;

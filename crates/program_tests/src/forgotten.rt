@@ -1,7 +1,7 @@
 //! A world from which the symbols went that it does not need.
 ghost use Rattle.std.specs.Prelude.{◌≡◌, ◌+◌, IfOk, Some};
-ghost use Rattle.forgotten_names.specs.Forgotten.{forgotten};
-ghost use Rattle.package_table.specs.Lookup.{found, is_used};
+ghost use Rattle.forgotten_names.specs.WorldsWithoutNames.{forgotten};
+ghost use Rattle.package_table.specs.Lookup.{home_by_name, is_used};
 ghost use Rattle.package_table.specs.Readers.{imports};
 ghost use Rattle.package_table.specs.Table.{Name, symbol_count};
 ghost use Rattle.plist_state.specs.Readers.{borrowed_symbols};
@@ -34,7 +34,7 @@ fn without_unneeded<M: MacroFunctions>(
     ensures again { IfOk result (λ left. forgotten (borrowed_symbols held.now) left.0.0 ≡ left.0.0) }
     ensures count { IfOk result (λ left. symbol_count left.0.0.packages + left.1 ≡ symbol_count world.now.0.packages) }
     ensures none { IfOk result (λ left. left.1 ≡ 0 → left.0.0 ≡ world.now.0) }
-    ensures kept { IfOk result (λ left. (p n h : Name) → found left.0.0.packages p n ≡ Some h → found world.now.0.packages p n ≡ Some h) }
+    ensures kept { IfOk result (λ left. (p n h : Name) → home_by_name left.0.0.packages p n ≡ Some h → home_by_name world.now.0.packages p n ≡ Some h) }
     ensures imports { IfOk result (λ left. (p : Name) → imports left.0.0.packages p ≡ imports world.now.0.packages p) }
     ensures uses { IfOk result (λ left. (p q : Name) → is_used left.0.0.packages p q ≡ is_used world.now.0.packages p q) }
     ensures rest { IfOk result (λ left. left.0.0 ≡ record world.now.0 { packages = left.0.0.packages }) }

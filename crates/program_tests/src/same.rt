@@ -3,7 +3,7 @@ ghost use Rattle.std.specs.Prelude.{◌≡◌, [], IsTrue, Some, true};
 ghost use Rattle.disk_trait.specs.Disk.{IsHonest};
 ghost use Rattle.plist_state.specs.State.{WorldState};
 ghost use Rattle.session_words.specs.declared.content.Content.TheVariants.{World as Whole};
-ghost use Rattle.snapshot_text.specs.Covered.{are_covered};
+ghost use Rattle.snapshot_text.specs.NamedFunctions.{are_covered};
 ghost use Rattle.user_macros.specs.Functions.{Functions};
 ghost use Rattle.world_forms.specs.Forms.{forms};
 ghost use Rattle.world_forms.specs.Properties.{left_out_lines};

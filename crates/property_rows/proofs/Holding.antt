@@ -6,7 +6,7 @@ use Rattle.std.proofs.Common.{◌≡◌, ℕ, zero, suc, ◌<◌, true, false, c
 use Rattle.std.specs.List.{insert, remove}
 use Rattle.property_rows.specs.declared.slot.Slot.{Slot}
 use Rattle.property_rows.specs.declared.property.NumberedProperty.{NumberedProperty}
-use Rattle.property_rows.specs.Slots.{is_gone, property_in, there, slot_at, shown, blank, no_property}
+use Rattle.property_rows.specs.Slots.{is_gone, property_in, there, slot_at, slot_shown, blank, no_property}
 use Rattle.std.proofs.lemmas.List.{length-map}
 use Rattle.property_rows.proofs.Turned.{Shown, there_of, there_shown, shown_at}
 
@@ -23,68 +23,68 @@ slot_at-within (s ∷ ss) (suc i) le =
       | false ↦ λ le. let h = slot_at-within ss i (omega (arith, le)) in omega (arith, h)
     ] le
 
-pub slot_at-shown : (slots : List Slot) (i : ℕ) → i < length (there slots) → shown (get_or slots (slot_at slots i) blank) ≡ (false, get_or (there slots) i no_property)
+pub slot_at-shown : (slots : List Slot) (i : ℕ) → i < length (there slots) → slot_shown (get_or slots (slot_at slots i) blank) ≡ (false, get_or (there slots) i no_property)
 slot_at-shown [] i le = absurd (omega (arith, le))
 slot_at-shown (s ∷ ss) zero le =
     elim (is_gone s) as (λ g. is_gone s ≡ g → zero < length (cond g (there ss) (property_in s ∷ there ss))
-    → shown (get_or (s ∷ ss) (cond g (suc (slot_at ss zero)) 0) blank) ≡ (false, get_or (cond g (there ss) (property_in s ∷ there ss)) zero no_property)) [
+    → slot_shown (get_or (s ∷ ss) (cond g (suc (slot_at ss zero)) 0) blank) ≡ (false, get_or (cond g (there ss) (property_in s ∷ there ss)) zero no_property)) [
       | true ↦ λ t le. slot_at-shown ss zero le
       | false ↦ λ t le. ap (λ b. (b, property_in s)) t
     ] refl le
 slot_at-shown (s ∷ ss) (suc i) le =
     elim (is_gone s) as (λ g. suc i < length (cond g (there ss) (property_in s ∷ there ss))
-    → shown (get_or ss (slot_at ss (cond g (suc i) i)) blank) ≡ (false, get_or (cond g (there ss) (property_in s ∷ there ss)) (suc i) no_property)) [
+    → slot_shown (get_or ss (slot_at ss (cond g (suc i) i)) blank) ≡ (false, get_or (cond g (there ss) (property_in s ∷ there ss)) (suc i) no_property)) [
       | true ↦ λ le. slot_at-shown ss (suc i) le
       | false ↦ λ le. slot_at-shown ss i (omega (arith, le))
     ] le
 
-pub removed : (slots : List Slot) (i : ℕ) (q : NumberedProperty) → i < length (there slots) → there_of (set (map shown slots) (slot_at slots i) (true, q)) ≡ remove (there slots) i
+pub removed : (slots : List Slot) (i : ℕ) (q : NumberedProperty) → i < length (there slots) → there_of (set (map slot_shown slots) (slot_at slots i) (true, q)) ≡ remove (there slots) i
 removed [] i q le = absurd (omega (arith, le))
 removed (s ∷ ss) zero q le =
     elim (is_gone s) as (λ g. zero < length (cond g (there ss) (property_in s ∷ there ss))
-    → there_of (set ((g, property_in s) ∷ map shown ss) (cond g (suc (slot_at ss zero)) 0) (true, q)) ≡ remove (cond g (there ss) (property_in s ∷ there ss)) zero) [
+    → there_of (set ((g, property_in s) ∷ map slot_shown ss) (cond g (suc (slot_at ss zero)) 0) (true, q)) ≡ remove (cond g (there ss) (property_in s ∷ there ss)) zero) [
       | true ↦ λ le. removed ss zero q le
       | false ↦ λ le. sym (there_shown ss)
     ] le
 removed (s ∷ ss) (suc i) q le =
     elim (is_gone s) as (λ g. suc i < length (cond g (there ss) (property_in s ∷ there ss))
-    → there_of ((g, property_in s) ∷ set (map shown ss) (slot_at ss (cond g (suc i) i)) (true, q)) ≡ remove (cond g (there ss) (property_in s ∷ there ss)) (suc i)) [
+    → there_of ((g, property_in s) ∷ set (map slot_shown ss) (slot_at ss (cond g (suc i) i)) (true, q)) ≡ remove (cond g (there ss) (property_in s ∷ there ss)) (suc i)) [
       | true ↦ λ le. removed ss (suc i) q le
       | false ↦ λ le. ap (λ ps. property_in s ∷ ps) (removed ss i q (omega (arith, le)))
     ] le
 
-pub replaced : (slots : List Slot) (i : ℕ) (q : NumberedProperty) → i < length (there slots) → there_of (set (map shown slots) (slot_at slots i) (false, q)) ≡ set (there slots) i q
+pub replaced : (slots : List Slot) (i : ℕ) (q : NumberedProperty) → i < length (there slots) → there_of (set (map slot_shown slots) (slot_at slots i) (false, q)) ≡ set (there slots) i q
 replaced [] i q le = absurd (omega (arith, le))
 replaced (s ∷ ss) zero q le =
     elim (is_gone s) as (λ g. zero < length (cond g (there ss) (property_in s ∷ there ss))
-    → there_of (set ((g, property_in s) ∷ map shown ss) (cond g (suc (slot_at ss zero)) 0) (false, q)) ≡ set (cond g (there ss) (property_in s ∷ there ss)) zero q) [
+    → there_of (set ((g, property_in s) ∷ map slot_shown ss) (cond g (suc (slot_at ss zero)) 0) (false, q)) ≡ set (cond g (there ss) (property_in s ∷ there ss)) zero q) [
       | true ↦ λ le. replaced ss zero q le
       | false ↦ λ le. ap (λ ps. q ∷ ps) (sym (there_shown ss))
     ] le
 replaced (s ∷ ss) (suc i) q le =
     elim (is_gone s) as (λ g. suc i < length (cond g (there ss) (property_in s ∷ there ss))
-    → there_of ((g, property_in s) ∷ set (map shown ss) (slot_at ss (cond g (suc i) i)) (false, q)) ≡ set (cond g (there ss) (property_in s ∷ there ss)) (suc i) q) [
+    → there_of ((g, property_in s) ∷ set (map slot_shown ss) (slot_at ss (cond g (suc i) i)) (false, q)) ≡ set (cond g (there ss) (property_in s ∷ there ss)) (suc i) q) [
       | true ↦ λ le. replaced ss (suc i) q le
       | false ↦ λ le. ap (λ ps. property_in s ∷ ps) (replaced ss i q (omega (arith, le)))
     ] le
 
 -- a slot that is gone
 pub inserted : (slots : List Slot) (j : ℕ) (q : NumberedProperty) → j < length slots → is_gone (get_or slots j blank) ≡ true
-    → there_of (set (map shown slots) j (false, q)) ≡ insert (there slots) (length (there (take j slots))) q
+    → there_of (set (map slot_shown slots) j (false, q)) ≡ insert (there slots) (length (there (take j slots))) q
 inserted [] j q le gone = absurd (omega (arith, le))
 inserted (s ∷ ss) zero q le gone = ap (λ ps. q ∷ ps) (sym (ap (λ g. cond g (there ss) (property_in s ∷ there ss)) gone ∙ there_shown ss))
 inserted (s ∷ ss) (suc j) q le gone =
-    elim (is_gone s) as (λ g. there_of ((g, property_in s) ∷ set (map shown ss) j (false, q))
+    elim (is_gone s) as (λ g. there_of ((g, property_in s) ∷ set (map slot_shown ss) j (false, q))
     ≡ insert (cond g (there ss) (property_in s ∷ there ss)) (length (cond g (there (take j ss)) (property_in s ∷ there (take j ss)))) q) [
       | true ↦ inserted ss j q (omega (arith, le)) gone
       | false ↦ ap (λ ps. property_in s ∷ ps) (inserted ss j q (omega (arith, le)) gone)
     ]
 
 -- ---- what slots show, after a write
-pub shown-set : (slots : List Slot) (k : ℕ) (t : Slot) → map shown (set slots k t) ≡ set (map shown slots) k (shown t)
+pub shown-set : (slots : List Slot) (k : ℕ) (t : Slot) → map slot_shown (set slots k t) ≡ set (map slot_shown slots) k (slot_shown t)
 shown-set [] k t = refl
 shown-set (s ∷ ss) zero t = refl
-shown-set (s ∷ ss) (suc k) t = ap (λ es. shown s ∷ es) (shown-set ss k t)
+shown-set (s ∷ ss) (suc k) t = ap (λ es. slot_shown s ∷ es) (shown-set ss k t)
 
 set-twice : (es : List Shown) (k : ℕ) (x y : Shown) → set (set es k x) k y ≡ set es k y
 set-twice [] k x y = refl
@@ -97,13 +97,13 @@ set-got (e ∷ es) zero x d le = refl
 set-got (e ∷ es) (suc k) x d le = set-got es k x d (omega (arith, le))
 
 -- a slot was turned, and then written
-pub shown-written : (a b : List Slot) (k : ℕ) (x : Shown) (t : Slot) → map shown b ≡ set (map shown a) k x → map shown (set b k t) ≡ set (map shown a) k (shown t)
-shown-written a b k x t e = shown-set b k t ∙ ap (λ es. set es k (shown t)) e ∙ set-twice (map shown a) k x (shown t)
+pub shown-written : (a b : List Slot) (k : ℕ) (x : Shown) (t : Slot) → map slot_shown b ≡ set (map slot_shown a) k x → map slot_shown (set b k t) ≡ set (map slot_shown a) k (slot_shown t)
+shown-written a b k x t e = shown-set b k t ∙ ap (λ es. set es k (slot_shown t)) e ∙ set-twice (map slot_shown a) k x (slot_shown t)
 
-pub shown-turned : (a b : List Slot) (k : ℕ) (x : Shown) → k < length a → map shown b ≡ set (map shown a) k x → shown (get_or b k blank) ≡ x
+pub shown-turned : (a b : List Slot) (k : ℕ) (x : Shown) → k < length a → map slot_shown b ≡ set (map slot_shown a) k x → slot_shown (get_or b k blank) ≡ x
 shown-turned a b k x le e =
-    let long = length-map a shown in
-    sym (shown_at b k blank) ∙ ap (λ es. get_or es k (shown blank)) e ∙ set-got (map shown a) k x (shown blank) (omega (arith, le, long))
+    let long = length-map a slot_shown in
+    sym (shown_at b k blank) ∙ ap (λ es. get_or es k (slot_shown blank)) e ∙ set-got (map slot_shown a) k x (slot_shown blank) (omega (arith, le, long))
 
 pub got_same : (slots : List Slot) (k : ℕ) (s : Slot) → k < length slots → s ≡ get_or slots k s → s ≡ get_or slots k blank
 got_same [] k s le e = absurd (omega (arith, le))

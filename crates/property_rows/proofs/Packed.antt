@@ -13,63 +13,63 @@ use Rattle.std.proofs.lemmas.Iterator.Adapters.{position_from-zero}
 use Rattle.std.proofs.lemmas.List.{length-map, length-take, length-drop, length-append}
 use Rattle.property_rows.specs.declared.slot.Slot.{Slot}
 use Rattle.property_rows.specs.declared.property.NumberedProperty.{NumberedProperty}
-use Rattle.property_rows.specs.Slots.{is_gone, property_in, there, gone_in, full, most_slots, IsNode, IsCounted, IsTree, IsTreeSize, IsSlots, uncounted, packed, has, no_property}
+use Rattle.property_rows.specs.Slots.{is_gone, property_in, there, gone_in, full, most_slots, IsNode, IsCounted, IsTree, IsTreeSize, IsSlots, uncounted_slot, slots_there, has, no_property}
 use Rattle.property_rows.proofs.Counted.{counted-any}
 
-pub packed-there : (slots : List Slot) → there (packed slots) ≡ there slots
+pub packed-there : (slots : List Slot) → there (slots_there slots) ≡ there slots
 packed-there [] = refl
 packed-there (s ∷ ss) =
-    elim (is_gone s) as (λ g. there (map uncounted (cond (not g) (s ∷ filter (λ s. not (is_gone s)) ss) (filter (λ s. not (is_gone s)) ss))) ≡ cond g (there ss) (property_in s ∷ there ss)) [
+    elim (is_gone s) as (λ g. there (map uncounted_slot (cond (not g) (s ∷ filter (λ s. not (is_gone s)) ss) (filter (λ s. not (is_gone s)) ss))) ≡ cond g (there ss) (property_in s ∷ there ss)) [
       | true ↦ packed-there ss
       | false ↦ ap (λ ps. property_in s ∷ ps) (packed-there ss)
     ]
 
-pub packed-long : (slots : List Slot) → length (packed slots) ≡ length (there slots)
+pub packed-long : (slots : List Slot) → length (slots_there slots) ≡ length (there slots)
 packed-long [] = refl
 packed-long (s ∷ ss) =
-    elim (is_gone s) as (λ g. length (map uncounted (cond (not g) (s ∷ filter (λ s. not (is_gone s)) ss) (filter (λ s. not (is_gone s)) ss))) ≡ length (cond g (there ss) (property_in s ∷ there ss))) [
+    elim (is_gone s) as (λ g. length (map uncounted_slot (cond (not g) (s ∷ filter (λ s. not (is_gone s)) ss) (filter (λ s. not (is_gone s)) ss))) ≡ length (cond g (there ss) (property_in s ∷ there ss))) [
       | true ↦ packed-long ss
       | false ↦ ap suc (packed-long ss)
     ]
 
-pub uncounted-none : (slots : List Slot) → gone_in (map uncounted slots) ≡ 0
+pub uncounted-none : (slots : List Slot) → gone_in (map uncounted_slot slots) ≡ 0
 uncounted-none [] = refl
 uncounted-none (s ∷ ss) = let e = uncounted-none ss in omega (arith, e)
 
-pub uncounted-there : (slots : List Slot) → there (map uncounted slots) ≡ map property_in slots
+pub uncounted-there : (slots : List Slot) → there (map uncounted_slot slots) ≡ map property_in slots
 uncounted-there [] = refl
 uncounted-there (s ∷ ss) = ap (λ ps. property_in s ∷ ps) (uncounted-there ss)
 
-take-uncounted : (n : ℕ) (slots : List Slot) → map uncounted (take n slots) ≡ take n (map uncounted slots)
+take-uncounted : (n : ℕ) (slots : List Slot) → map uncounted_slot (take n slots) ≡ take n (map uncounted_slot slots)
 take-uncounted zero slots = refl
 take-uncounted (suc n) [] = refl
-take-uncounted (suc n) (s ∷ ss) = ap (λ ts. uncounted s ∷ ts) (take-uncounted n ss)
+take-uncounted (suc n) (s ∷ ss) = ap (λ ts. uncounted_slot s ∷ ts) (take-uncounted n ss)
 
-drop-uncounted : (n : ℕ) (slots : List Slot) → map uncounted (drop n slots) ≡ drop n (map uncounted slots)
+drop-uncounted : (n : ℕ) (slots : List Slot) → map uncounted_slot (drop n slots) ≡ drop n (map uncounted_slot slots)
 drop-uncounted zero slots = refl
 drop-uncounted (suc n) [] = refl
 drop-uncounted (suc n) (s ∷ ss) = drop-uncounted n ss
 
-uncounted_node : (d : ℕ) (before rest : List Slot) → ((slots : List Slot) → length slots ≤ full d → IsCounted d (map uncounted slots)) → gone_in before ≡ 0 → length rest ≤ suc (full d)
-    → IsNode (IsCounted d) before (map uncounted rest)
+uncounted_node : (d : ℕ) (before rest : List Slot) → ((slots : List Slot) → length slots ≤ full d → IsCounted d (map uncounted_slot slots)) → gone_in before ≡ 0 → length rest ≤ suc (full d)
+    → IsNode (IsCounted d) before (map uncounted_slot rest)
 uncounted_node d before [] each none le = tt
 uncounted_node d before (s ∷ ss) each none le = (sym none, each ss (omega (arith, le)))
 
-pub uncounted-counted : (d : ℕ) (slots : List Slot) → length slots ≤ full d → IsCounted d (map uncounted slots)
+pub uncounted-counted : (d : ℕ) (slots : List Slot) → length slots ≤ full d → IsCounted d (map uncounted_slot slots)
 uncounted-counted zero [] le = refl
 uncounted-counted zero (s ∷ ss) le = absurd (omega (arith, le))
 uncounted-counted (suc d) slots le =
     let front = length-take (full d) slots in
     let back = length-drop (full d) slots in
-    let none : gone_in (take (full d) (map uncounted slots)) ≡ 0 = ap gone_in (sym (take-uncounted (full d) slots)) ∙ uncounted-none (take (full d) slots) in (
+    let none : gone_in (take (full d) (map uncounted_slot slots)) ≡ 0 = ap gone_in (sym (take-uncounted (full d) slots)) ∙ uncounted-none (take (full d) slots) in (
       subst (IsCounted d) (take-uncounted (full d) slots) (uncounted-counted d (take (full d) slots) (grind (arith, front))),
-      subst (IsNode (IsCounted d) (take (full d) (map uncounted slots))) (drop-uncounted (full d) slots)
-          (uncounted_node d (take (full d) (map uncounted slots)) (drop (full d) slots) (uncounted-counted d) none (omega (arith, back, le))),
+      subst (IsNode (IsCounted d) (take (full d) (map uncounted_slot slots))) (drop-uncounted (full d) slots)
+          (uncounted_node d (take (full d) (map uncounted_slot slots)) (drop (full d) slots) (uncounted-counted d) none (omega (arith, back, le))),
     )
 
-pub uncounted-slots : (slots : List Slot) → length slots ≤ most_slots → IsSlots (map uncounted slots)
+pub uncounted-slots : (slots : List Slot) → length slots ≤ most_slots → IsSlots (map uncounted_slot slots)
 uncounted-slots slots few =
-    let long = length-map slots uncounted in
+    let long = length-map slots uncounted_slot in
     record { counted = λ d le. uncounted-counted d slots (omega (arith, le, long)); few = omega (arith, few, long) }
 
 -- ---- trees of slots
@@ -185,26 +185,26 @@ search_there slots i none =
     position_from-zero (λ (s : Slot). i == s.indicator) slots ∙ search_from slots i 0 ∙ sym (position_from-zero (has i) (map property_in slots)) ∙ ap (position (has i)) (sym (all_there slots none))
 
 -- ---- counts that are forgotten one by one
-pub forgets : (slots : List Slot) (k : ℕ) (d : Slot) → k < length slots → set (map uncounted (take k slots) ++ drop k slots) k (uncounted (get_or slots k d)) ≡ map uncounted (take (suc k) slots) ++ drop (suc k) slots
+pub forgets : (slots : List Slot) (k : ℕ) (d : Slot) → k < length slots → set (map uncounted_slot (take k slots) ++ drop k slots) k (uncounted_slot (get_or slots k d)) ≡ map uncounted_slot (take (suc k) slots) ++ drop (suc k) slots
 forgets [] k d le = absurd (omega (arith, le))
 forgets (s ∷ ss) zero d le = refl
-forgets (s ∷ ss) (suc k) d le = ap (λ ts. uncounted s ∷ ts) (forgets ss k d (omega (arith, le)))
+forgets (s ∷ ss) (suc k) d le = ap (λ ts. uncounted_slot s ∷ ts) (forgets ss k d (omega (arith, le)))
 
-reads : (slots : List Slot) (k : ℕ) (d : Slot) → get_or (map uncounted (take k slots) ++ drop k slots) k d ≡ get_or slots k d
+reads : (slots : List Slot) (k : ℕ) (d : Slot) → get_or (map uncounted_slot (take k slots) ++ drop k slots) k d ≡ get_or slots k d
 reads [] zero d = refl
 reads [] (suc k) d = refl
 reads (s ∷ ss) zero d = refl
 reads (s ∷ ss) (suc k) d = reads ss k d
 
-pub forgets_next : (slots later : List Slot) (k : ℕ) (s : Slot) → later ≡ map uncounted (take k slots) ++ drop k slots → k < length later → s ≡ get_or later k s
-    → set later k (uncounted s) ≡ map uncounted (take (k + 1) slots) ++ drop (k + 1) slots
+pub forgets_next : (slots later : List Slot) (k : ℕ) (s : Slot) → later ≡ map uncounted_slot (take k slots) ++ drop k slots → k < length later → s ≡ get_or later k s
+    → set later k (uncounted_slot s) ≡ map uncounted_slot (take (k + 1) slots) ++ drop (k + 1) slots
 forgets_next slots later k s e le read =
     let long = ap length e in
-    let parts = length-append (map uncounted (take k slots)) (drop k slots) in
-    let front = length-map (take k slots) uncounted in
+    let parts = length-append (map uncounted_slot (take k slots)) (drop k slots) in
+    let front = length-map (take k slots) uncounted_slot in
     let short = length-take k slots in
     let rest = length-drop k slots in
     let within : k < length slots = grind (arith, long, parts, front, short, rest, le) in
     let one : suc k ≡ k + 1 = omega arith in
-    ap (λ l. set l k (uncounted s)) e ∙ ap (λ t. set (map uncounted (take k slots) ++ drop k slots) k (uncounted t)) (read ∙ ap (λ l. get_or l k s) e ∙ reads slots k s)
-    ∙ forgets slots k s within ∙ ap (λ n. map uncounted (take n slots) ++ drop n slots) one
+    ap (λ l. set l k (uncounted_slot s)) e ∙ ap (λ t. set (map uncounted_slot (take k slots) ++ drop k slots) k (uncounted_slot t)) (read ∙ ap (λ l. get_or l k s) e ∙ reads slots k s)
+    ∙ forgets slots k s within ∙ ap (λ n. map uncounted_slot (take n slots) ++ drop n slots) one

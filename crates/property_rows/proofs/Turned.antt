@@ -9,7 +9,7 @@ use Rattle.std.proofs.Math.Seq.{take-append_seam}
 use Rattle.std.proofs.lemmas.List.{length-append, length-map, map-append}
 use Rattle.property_rows.specs.declared.slot.Slot.{Slot}
 use Rattle.property_rows.specs.declared.property.NumberedProperty.{NumberedProperty}
-use Rattle.property_rows.specs.Slots.{is_gone, property_in, there, gone_in, shown, blank, IsTree}
+use Rattle.property_rows.specs.Slots.{is_gone, property_in, there, gone_in, slot_shown, blank, IsTree}
 use Rattle.property_rows.proofs.Counted.{Parts, parts, tree-join, tree-whole, tree_fits, gone_short}
 
 abbrev pub Shown : Type 0
@@ -23,24 +23,24 @@ abbrev pub gones : List Shown → ℕ
 gones [] = 0
 gones (e ∷ es) = cond e.0 1 0 + gones es
 
-pub there_shown : (slots : List Slot) → there slots ≡ there_of (map shown slots)
+pub there_shown : (slots : List Slot) → there slots ≡ there_of (map slot_shown slots)
 there_shown [] = refl
 there_shown (s ∷ ss) =
-    elim (is_gone s) as (λ g. cond g (there ss) (property_in s ∷ there ss) ≡ cond g (there_of (map shown ss)) (property_in s ∷ there_of (map shown ss))) [
+    elim (is_gone s) as (λ g. cond g (there ss) (property_in s ∷ there ss) ≡ cond g (there_of (map slot_shown ss)) (property_in s ∷ there_of (map slot_shown ss))) [
       | true ↦ there_shown ss
       | false ↦ ap (λ ps. property_in s ∷ ps) (there_shown ss)
     ]
 
-pub gone_shown : (slots : List Slot) → gone_in slots ≡ gones (map shown slots)
+pub gone_shown : (slots : List Slot) → gone_in slots ≡ gones (map slot_shown slots)
 gone_shown [] = refl
 gone_shown (s ∷ ss) =
     let e = gone_shown ss in
-    elim (is_gone s) as (λ g. is_gone s ≡ g → s.gone % 2 + gone_in ss ≡ cond g 1 0 + gones (map shown ss)) [
+    elim (is_gone s) as (λ g. is_gone s ≡ g → s.gone % 2 + gone_in ss ≡ cond g 1 0 + gones (map slot_shown ss)) [
       | true ↦ λ t. grind (arith, nat_tests, t, e)
       | false ↦ λ t. grind (arith, nat_tests, t, e)
     ] refl
 
-pub shown_at : (slots : List Slot) (k : ℕ) (d : Slot) → get_or (map shown slots) k (shown d) ≡ shown (get_or slots k d)
+pub shown_at : (slots : List Slot) (k : ℕ) (d : Slot) → get_or (map slot_shown slots) k (slot_shown d) ≡ slot_shown (get_or slots k d)
 shown_at [] k d = refl
 shown_at (s ∷ ss) zero d = refl
 shown_at (s ∷ ss) (suc k) d = shown_at ss k d
@@ -92,23 +92,23 @@ gones-back [] k d q le is = absurd (omega (arith, le))
 gones-back (e ∷ es) zero d q le is = let one : ℕ = 1 in let c : cond e.0 one 0 ≡ 1 = ap (λ b. cond b one 0) is in omega (arith, c)
 gones-back (e ∷ es) (suc k) d q le is = let h = gones-back es k d q (omega (arith, le)) is in omega (arith, h)
 
-shown_long : (slots : List Slot) (k : ℕ) → k < length slots → k < length (map shown slots)
-shown_long slots k le = let e = length-map slots shown in omega (arith, le, e)
+shown_long : (slots : List Slot) (k : ℕ) → k < length slots → k < length (map slot_shown slots)
+shown_long slots k le = let e = length-map slots slot_shown in omega (arith, le, e)
 
-gone_at : (slots : List Slot) (k : ℕ) (b : Bool) → is_gone (get_or slots k blank) ≡ b → (get_or (map shown slots) k (shown blank)).0 ≡ b
+gone_at : (slots : List Slot) (k : ℕ) (b : Bool) → is_gone (get_or slots k blank) ≡ b → (get_or (map slot_shown slots) k (slot_shown blank)).0 ≡ b
 gone_at slots k b is = ap (λ (e : Shown). e.0) (shown_at slots k blank) ∙ is
 
-pub gone-left : (a b : List Slot) (k : ℕ) (q : NumberedProperty) → k < length a → is_gone (get_or a k blank) ≡ false → map shown b ≡ set (map shown a) k (true, q) → gone_in b ≡ suc (gone_in a)
+pub gone-left : (a b : List Slot) (k : ℕ) (q : NumberedProperty) → k < length a → is_gone (get_or a k blank) ≡ false → map slot_shown b ≡ set (map slot_shown a) k (true, q) → gone_in b ≡ suc (gone_in a)
 gone-left a b k q le is e =
-    gone_shown b ∙ ap gones e ∙ gones-left (map shown a) k (shown blank) q (shown_long a k le) (gone_at a k false is) ∙ ap suc (sym (gone_shown a))
+    gone_shown b ∙ ap gones e ∙ gones-left (map slot_shown a) k (slot_shown blank) q (shown_long a k le) (gone_at a k false is) ∙ ap suc (sym (gone_shown a))
 
-pub gone-back : (a b : List Slot) (k : ℕ) (q : NumberedProperty) → k < length a → is_gone (get_or a k blank) ≡ true → map shown b ≡ set (map shown a) k (false, q) → suc (gone_in b) ≡ gone_in a
+pub gone-back : (a b : List Slot) (k : ℕ) (q : NumberedProperty) → k < length a → is_gone (get_or a k blank) ≡ true → map slot_shown b ≡ set (map slot_shown a) k (false, q) → suc (gone_in b) ≡ gone_in a
 gone-back a b k q le is e =
-    ap suc (gone_shown b ∙ ap gones e) ∙ gones-back (map shown a) k (shown blank) q (shown_long a k le) (gone_at a k true is) ∙ sym (gone_shown a)
+    ap suc (gone_shown b ∙ ap gones e) ∙ gones-back (map slot_shown a) k (slot_shown blank) q (shown_long a k le) (gone_at a k true is) ∙ sym (gone_shown a)
 
 pub gone-some : (a : List Slot) (k : ℕ) → k < length a → is_gone (get_or a k blank) ≡ true → 1 ≤ gone_in a
 gone-some a k le is =
-    let e = gones-back (map shown a) k (shown blank) (property_in blank) (shown_long a k le) (gone_at a k true is) in
+    let e = gones-back (map slot_shown a) k (slot_shown blank) (property_in blank) (shown_long a k le) (gone_at a k true is) in
     let f = gone_shown a in
     omega (arith, e, f)
 
@@ -117,8 +117,8 @@ length_set [] k x = refl
 length_set (e ∷ es) zero x = refl
 length_set (e ∷ es) (suc k) x = ap suc (length_set es k x)
 
-pub shown-length : (a b : List Slot) (k : ℕ) (x : Shown) → map shown b ≡ set (map shown a) k x → length b ≡ length a
-shown-length a b k x e = sym (length-map b shown) ∙ ap length e ∙ length_set (map shown a) k x ∙ length-map a shown
+pub shown-length : (a b : List Slot) (k : ℕ) (x : Shown) → map slot_shown b ≡ set (map slot_shown a) k x → length b ≡ length a
+shown-length a b k x e = sym (length-map b slot_shown) ∙ ap length e ∙ length_set (map slot_shown a) k x ∙ length-map a slot_shown
 
 -- ---- a tree of which a slot is turned
 abbrev pub with_gone : Slot → ℕ → Slot
@@ -129,7 +129,7 @@ abbrev pub IsChanged : ℕ → ℕ → ℕ → Bool → Type 0
 IsChanged old by new leaves = (leaves ≡ true → new ≡ old + by) × (leaves ≡ false → new + by ≡ old)
 
 abbrev pub Turns : ℕ → List Slot → List Slot → ℕ → Bool → NumberedProperty → Type 0
-Turns size old new k leaves q = IsTree size new × (map shown new ≡ set (map shown old) k (leaves, q))
+Turns size old new k leaves q = IsTree size new × (map slot_shown new ≡ set (map slot_shown old) k (leaves, q))
 
 module _ (size : ℕ) (slots front : List Slot) (s : Slot) (after : List Slot) (long : length front ≡ size / 2) (is : slots ≡ front ++ s ∷ after) (tree : IsTree size slots) where
   take_is : take (size / 2) slots ≡ front
@@ -169,13 +169,13 @@ module _ (size : ℕ) (slots front : List Slot) (s : Slot) (after : List Slot) (
   pub after_at : (k j : ℕ) → k ≡ suc (size / 2) + j → get_or slots k blank ≡ get_or after j blank
   after_at k j e = ap (λ l. get_or l k blank) is ∙ get-back front s after k j blank (omega (arith, e, long))
 
-  shown_long_front : length (map shown front) ≡ size / 2
-  shown_long_front = length-map front shown ∙ long
+  shown_long_front : length (map slot_shown front) ≡ size / 2
+  shown_long_front = length-map front slot_shown ∙ long
 
-  parted : map shown slots ≡ map shown front ++ shown s ∷ map shown after
-  parted = ap (map shown) is ∙ map-append shown front (s ∷ after)
+  parted : map slot_shown slots ≡ map slot_shown front ++ slot_shown s ∷ map slot_shown after
+  parted = ap (map slot_shown) is ∙ map-append slot_shown front (s ∷ after)
 
-  same_shown : (g : ℕ) → g % 2 ≡ s.gone % 2 → shown (with_gone s g) ≡ shown s
+  same_shown : (g : ℕ) → g % 2 ≡ s.gone % 2 → slot_shown (with_gone s g) ≡ slot_shown s
   same_shown g e = ap (λ n. (n == 1, property_in s)) e
 
   -- the slot is before the middle
@@ -184,13 +184,13 @@ module _ (size : ℕ) (slots front : List Slot) (s : Slot) (after : List Slot) (
   in_front_turned later_front g k leaves q le turned at changed =
       let long_now : length later_front ≡ size / 2 = shown-length front later_front k (leaves, q) turned.1 ∙ long in
       let counts : (g % 2 ≡ s.gone % 2) × (g / 2 ≡ gone_in later_front) =
-      elim leaves as (λ b. map shown later_front ≡ set (map shown front) k (b, q) → is_gone (get_or front k blank) ≡ not b → IsChanged s.gone 2 g b → (g % 2 ≡ s.gone % 2) × (g / 2 ≡ gone_in later_front)) [
+      elim leaves as (λ b. map slot_shown later_front ≡ set (map slot_shown front) k (b, q) → is_gone (get_or front k blank) ≡ not b → IsChanged s.gone 2 g b → (g % 2 ≡ s.gone % 2) × (g / 2 ≡ gone_in later_front)) [
         | true ↦ λ t a c. let e = c.0 refl in let f = gone-left front later_front k q (omega (arith, le, long)) a t in let n = count in (omega (arith, e), omega (arith, e, f, n))
         | false ↦ λ t a c. let e = c.1 refl in let f = gone-back front later_front k q (omega (arith, le, long)) a t in let n = count in (omega (arith, e), omega (arith, e, f, n))
       ] turned.1 at changed in (
         tree-join size later_front (with_gone s g) after some (tree-whole size slots tree) long_now turned.0 counts.1 later,
-        map-append shown later_front (with_gone s g ∷ after) ∙ ap (λ e. map shown later_front ++ e ∷ map shown after) (same_shown g counts.0) ∙ ap (λ es. es ++ shown s ∷ map shown after) turned.1
-            ∙ sym (ap (λ es. set es k (leaves, q)) parted ∙ set-front (map shown front) (shown s ∷ map shown after) k (leaves, q) (let e = shown_long_front in omega (arith, e, le))),
+        map-append slot_shown later_front (with_gone s g ∷ after) ∙ ap (λ e. map slot_shown later_front ++ e ∷ map slot_shown after) (same_shown g counts.0) ∙ ap (λ es. es ++ slot_shown s ∷ map slot_shown after) turned.1
+            ∙ sym (ap (λ es. set es k (leaves, q)) parted ∙ set-front (map slot_shown front) (slot_shown s ∷ map slot_shown after) k (leaves, q) (let e = shown_long_front in omega (arith, e, le))),
       )
 
   -- it is the middle
@@ -210,8 +210,8 @@ module _ (size : ℕ) (slots front : List Slot) (s : Slot) (after : List Slot) (
             (omega (arith, f, odd), ap (λ n. n == 1) even)
       ] at changed in (
         tree-join size front (with_gone s g) after some (tree-whole size slots tree) long before (counts.0 ∙ count) later,
-        map-append shown front (with_gone s g ∷ after) ∙ ap (λ b. map shown front ++ (b, property_in s) ∷ map shown after) counts.1
-            ∙ sym (ap (λ es. set es k (leaves, property_in s)) parted ∙ set-mid (map shown front) (shown s) (map shown after) k (leaves, property_in s) (let l = shown_long_front in omega (arith, l, e))),
+        map-append slot_shown front (with_gone s g ∷ after) ∙ ap (λ b. map slot_shown front ++ (b, property_in s) ∷ map slot_shown after) counts.1
+            ∙ sym (ap (λ es. set es k (leaves, property_in s)) parted ∙ set-mid (map slot_shown front) (slot_shown s) (map slot_shown after) k (leaves, property_in s) (let l = shown_long_front in omega (arith, l, e))),
       )
 
   -- it is after the middle
@@ -219,6 +219,6 @@ module _ (size : ℕ) (slots front : List Slot) (s : Slot) (after : List Slot) (
       → Turns size slots (front ++ s ∷ later_after) k leaves q
   behind_turned later_after k j leaves q e turned = (
     tree-join size front s later_after some (tree-whole size slots tree) long before count turned.0,
-    map-append shown front (s ∷ later_after) ∙ ap (λ es. map shown front ++ shown s ∷ es) turned.1
-        ∙ sym (ap (λ es. set es k (leaves, q)) parted ∙ set-back (map shown front) (shown s) (map shown after) k j (leaves, q) (let l = shown_long_front in omega (arith, l, e))),
+    map-append slot_shown front (s ∷ later_after) ∙ ap (λ es. map slot_shown front ++ slot_shown s ∷ es) turned.1
+        ∙ sym (ap (λ es. set es k (leaves, q)) parted ∙ set-back (map slot_shown front) (slot_shown s) (map slot_shown after) k j (leaves, q) (let l = shown_long_front in omega (arith, l, e))),
   )

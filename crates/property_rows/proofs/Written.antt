@@ -13,7 +13,7 @@ use Rattle.std.proofs.Math.Seq.{take-append_seam}
 use Rattle.std.proofs.lemmas.List.{length-map, length_push}
 use Rattle.property_rows.specs.declared.slot.Slot.{Slot}
 use Rattle.property_rows.specs.declared.property.NumberedProperty.{NumberedProperty}
-use Rattle.property_rows.specs.Slots.{is_gone, property_in, there, slot_at, shown, blank, no_property, most_slots, IsTree, IsSlots, uncounted, packed}
+use Rattle.property_rows.specs.Slots.{is_gone, property_in, there, slot_at, slot_shown, blank, no_property, most_slots, IsTree, IsSlots, uncounted_slot, slots_there}
 use Rattle.property_rows.specs.Vacant.{IsVacant}
 use Rattle.property_rows.proofs.Counted.{there-append}
 use Rattle.property_rows.proofs.Turned.{Shown, there_of, there_shown, shown-length}
@@ -25,8 +25,8 @@ module _ (slots : List Slot) (index at : ℕ) (le : index < length (there slots)
   pub within : at < length slots
   within = let e = slot_at-within slots index le in omega (arith, e, is)
 
-  pub here : shown (get_or slots at blank) ≡ (false, get_or (there slots) index no_property)
-  here = ap (λ k. shown (get_or slots k blank)) is ∙ slot_at-shown slots index le
+  pub here : slot_shown (get_or slots at blank) ≡ (false, get_or (there slots) index no_property)
+  here = ap (λ k. slot_shown (get_or slots k blank)) is ∙ slot_at-shown slots index le
 
   pub is_there : is_gone (get_or slots at blank) ≡ false
   is_there = ap (λ (e : Shown). e.0) here
@@ -42,17 +42,17 @@ module _ (slots : List Slot) (index at : ℕ) (le : index < length (there slots)
   pub exchanged : (s t : Slot) → s ≡ get_or slots at s → t.gone ≡ s.gone → there (set slots at t) ≡ set (there slots) index (property_in t)
   exchanged s t e same =
       let not_gone : is_gone t ≡ false = ap (λ n. n % 2 == 1) same ∙ ap is_gone (got_same slots at s within e) ∙ is_there in
-      there_shown (set slots at t) ∙ ap there_of (shown-set slots at t) ∙ ap (λ b. there_of (set (map shown slots) at (b, property_in t))) not_gone
-      ∙ ap (λ k. there_of (set (map shown slots) k (false, property_in t))) is ∙ replaced slots index (property_in t) le
+      there_shown (set slots at t) ∙ ap there_of (shown-set slots at t) ∙ ap (λ b. there_of (set (map slot_shown slots) at (b, property_in t))) not_gone
+      ∙ ap (λ k. there_of (set (map slot_shown slots) k (false, property_in t))) is ∙ replaced slots index (property_in t) le
 
   -- it left, and was emptied
-  module _ (turned : List Slot) (x : Shown) (gone : x.0 ≡ true) (value : x.1 ≡ property_in (get_or slots at blank)) (shows : map shown turned ≡ set (map shown slots) at x)
+  module _ (turned : List Slot) (x : Shown) (gone : x.0 ≡ true) (value : x.1 ≡ property_in (get_or slots at blank)) (shows : map slot_shown turned ≡ set (map slot_shown slots) at x)
       (s : Slot) (read : s ≡ get_or turned at s) where
     long : at < length turned
     long = let a = within in let b = shown-length slots turned at x shows in omega (arith, a, b)
 
-    now : shown s ≡ x
-    now = ap shown (got_same turned at s long read) ∙ shown-turned slots turned at x within shows
+    now : slot_shown s ≡ x
+    now = ap slot_shown (got_same turned at s long read) ∙ shown-turned slots turned at x within shows
 
     pub left_value : property_in s ≡ get_or (there slots) index no_property
     left_value = ap (λ (e : Shown). e.1) now ∙ value ∙ holds
@@ -60,29 +60,29 @@ module _ (slots : List Slot) (index at : ℕ) (le : index < length (there slots)
     pub left_there : (t : Slot) → t.gone ≡ s.gone → there (set turned at t) ≡ remove (there slots) index
     left_there t same =
         let is_one : is_gone t ≡ true = ap (λ n. n % 2 == 1) same ∙ ap (λ (e : Shown). e.0) now ∙ gone in
-        there_shown (set turned at t) ∙ ap there_of (shown-written slots turned at x t shows) ∙ ap (λ b. there_of (set (map shown slots) at (b, property_in t))) is_one
-        ∙ ap (λ k. there_of (set (map shown slots) k (true, property_in t))) is ∙ removed slots index (property_in t) le
+        there_shown (set turned at t) ∙ ap there_of (shown-written slots turned at x t shows) ∙ ap (λ b. there_of (set (map slot_shown slots) at (b, property_in t))) is_one
+        ∙ ap (λ k. there_of (set (map slot_shown slots) k (true, property_in t))) is ∙ removed slots index (property_in t) le
 
 -- slots of which one is written, whose count stays
 pub written_slots : (slots : List Slot) (at : ℕ) (s t : Slot) → at < length slots → s ≡ get_or slots at s → t.gone ≡ s.gone → IsSlots slots → IsSlots (set slots at t)
 written_slots slots at s t le read same are = slots-same slots (set slots at t) (counts-set slots at s t le read same) are
 
 -- slots of which one was turned
-pub turned_slots : (size : ℕ) (slots turned : List Slot) (at : ℕ) (x : Shown) → map shown turned ≡ set (map shown slots) at x → IsSlots slots → IsTree size turned → IsSlots turned
+pub turned_slots : (size : ℕ) (slots turned : List Slot) (at : ℕ) (x : Shown) → map slot_shown turned ≡ set (map slot_shown slots) at x → IsSlots slots → IsTree size turned → IsSlots turned
 turned_slots size slots turned at x shows are tree =
     let same = shown-length slots turned at x shows in
     let few = are.few in
     tree-slots size turned (omega (arith, same, few)) tree
 
 -- a slot came back, and was filled
-pub back_there : (slots turned : List Slot) (index at : ℕ) (x : Shown) (s t : Slot) → IsVacant slots at index → map shown turned ≡ set (map shown slots) at x → x.0 ≡ false
+pub back_there : (slots turned : List Slot) (index at : ℕ) (x : Shown) (s t : Slot) → IsVacant slots at index → map slot_shown turned ≡ set (map slot_shown slots) at x → x.0 ≡ false
     → s ≡ get_or turned at s → t.gone ≡ s.gone → there (set turned at t) ≡ insert (there slots) index (property_in t)
 back_there slots turned index at x s t is shows here read same =
     let within = is.place in
     let long = shown-length slots turned at x shows in
-    let now : shown s ≡ x = ap shown (got_same turned at s (omega (arith, within, long)) read) ∙ shown-turned slots turned at x within shows in
+    let now : slot_shown s ≡ x = ap slot_shown (got_same turned at s (omega (arith, within, long)) read) ∙ shown-turned slots turned at x within shows in
     let not_gone : is_gone t ≡ false = ap (λ n. n % 2 == 1) same ∙ ap (λ (e : Shown). e.0) now ∙ here in
-    there_shown (set turned at t) ∙ ap there_of (shown-written slots turned at x t shows) ∙ ap (λ b. there_of (set (map shown slots) at (b, property_in t))) not_gone
+    there_shown (set turned at t) ∙ ap there_of (shown-written slots turned at x t shows) ∙ ap (λ b. there_of (set (map slot_shown slots) at (b, property_in t))) not_gone
     ∙ inserted slots at (property_in t) within is.gone ∙ ap (λ n. insert (there slots) n (property_in t)) is.before
 
 -- ---- a slot more
@@ -104,14 +104,14 @@ last_there old new s e is =
 abbrev kept : List Slot → List Slot
 kept slots = filter (λ s. not (is_gone s)) slots
 
-put_is : (slots : List Slot) (i : ℕ) (t : Slot) → t.gone ≡ 0 → insert (packed slots) i t ≡ map uncounted (insert (kept slots) i t)
+put_is : (slots : List Slot) (i : ℕ) (t : Slot) → t.gone ≡ 0 → insert (slots_there slots) i t ≡ map uncounted_slot (insert (kept slots) i t)
 put_is slots i t none =
-    let same : uncounted t ≡ t = λ j. record { indicator = t.indicator; gone = sym none j; order = t.order; value = t.value } in
-    ap (insert (packed slots) i) (sym same) ∙ sym (map-insert uncounted (kept slots) i t)
+    let same : uncounted_slot t ≡ t = λ j. record { indicator = t.indicator; gone = sym none j; order = t.order; value = t.value } in
+    ap (insert (slots_there slots) i) (sym same) ∙ sym (map-insert uncounted_slot (kept slots) i t)
 
-pub put_slots : (slots : List Slot) (i : ℕ) (t : Slot) → t.gone ≡ 0 → length (packed slots) < most_slots → IsSlots (insert (packed slots) i t)
+pub put_slots : (slots : List Slot) (i : ℕ) (t : Slot) → t.gone ≡ 0 → length (slots_there slots) < most_slots → IsSlots (insert (slots_there slots) i t)
 put_slots slots i t none few =
-    let long = length-map (kept slots) uncounted in
+    let long = length-map (kept slots) uncounted_slot in
     let more = long_insert (kept slots) i t in
     subst IsSlots (sym (put_is slots i t none)) (uncounted-slots (insert (kept slots) i t) (omega (arith, long, more, few)))
   where
@@ -120,22 +120,22 @@ put_slots slots i t none few =
     long_insert [] (suc i) x = refl
     long_insert (y ∷ ys) (suc i) x = ap suc (long_insert ys i x)
 
-pub put_there : (slots : List Slot) (i : ℕ) (t : Slot) → t.gone ≡ 0 → there (insert (packed slots) i t) ≡ insert (there slots) i (property_in t)
+pub put_there : (slots : List Slot) (i : ℕ) (t : Slot) → t.gone ≡ 0 → there (insert (slots_there slots) i t) ≡ insert (there slots) i (property_in t)
 put_there slots i t none =
     ap there (put_is slots i t none) ∙ uncounted-there (insert (kept slots) i t) ∙ map-insert property_in (kept slots) i t
     ∙ ap (λ ps. insert ps i (property_in t)) (sym (uncounted-there (kept slots)) ∙ packed-there slots)
 
-pub packed_slots : (slots : List Slot) → IsSlots slots → IsSlots (packed slots)
+pub packed_slots : (slots : List Slot) → IsSlots slots → IsSlots (slots_there slots)
 packed_slots slots are =
-    let long = length-map (kept slots) uncounted in
+    let long = length-map (kept slots) uncounted_slot in
     let few = are.few in
     let less = packed_short slots in
     uncounted-slots (kept slots) (omega (arith, long, few, less))
   where
-    packed_short : (slots : List Slot) → length (packed slots) ≤ length slots
+    packed_short : (slots : List Slot) → length (slots_there slots) ≤ length slots
     packed_short [] = omega arith
     packed_short (s ∷ ss) =
-        elim (is_gone s) as (λ g. length (map uncounted (cond (not g) (s ∷ kept ss) (kept ss))) ≤ suc (length ss)) [
+        elim (is_gone s) as (λ g. length (map uncounted_slot (cond (not g) (s ∷ kept ss) (kept ss))) ≤ suc (length ss)) [
           | true ↦ let e = packed_short ss in omega (arith, e)
           | false ↦ let e = packed_short ss in omega (arith, e)
         ]

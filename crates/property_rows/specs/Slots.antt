@@ -57,8 +57,8 @@ pub record IsTreeSize (size : ℕ) : Type 0 where
   pub whole : size ≡ full depth
 
 -- whether nothing is there any more, and the property
-abbrev pub shown : Slot → Bool × NumberedProperty
-shown s = (is_gone s, property_in s)
+abbrev pub slot_shown : Slot → Bool × NumberedProperty
+slot_shown s = (is_gone s, property_in s)
 
 -- what stands for a slot, where there is none
 abbrev pub blank : Slot
@@ -78,12 +78,12 @@ pub record IsSlots (slots : List Slot) : Type 0 where
   pub few : length slots ≤ most_slots
 
 -- a slot that is there, and counts nothing
-abbrev pub uncounted : Slot → Slot
-uncounted s = record { indicator = s.indicator; gone = 0; order = s.order; value = s.value }
+abbrev pub uncounted_slot : Slot → Slot
+uncounted_slot s = record { indicator = s.indicator; gone = 0; order = s.order; value = s.value }
 
 -- the slots of what is there, and no others
-abbrev pub packed : List Slot → List Slot
-packed slots = map uncounted (filter (λ s. not (is_gone s)) slots)
+abbrev pub slots_there : List Slot → List Slot
+slots_there slots = map uncounted_slot (filter (λ s. not (is_gone s)) slots)
 
 -- a property with another value
 abbrev pub with_value : NumberedProperty → Datum → NumberedProperty

@@ -2,7 +2,7 @@
 ghost use Rattle.std.specs.Prelude.{◌≡◌, ◌+◌, ◌-◌, ◌<◌, ◌≤◌, ◌==◌, true, false, not, [], ◌∷◌, ◌++◌, map, length, take, is_ok, if◌then◌else◌, IfSome, IsOk, slice_index_or, slice_set, vec_capacity};
 ghost use Rattle.std.specs.List.{filter, position, insert, remove};
 ghost use Rattle.property_rows.specs.Vacant.{IsVacant};
-ghost use Rattle.property_rows.specs.Slots.{IsSlots, gone_in, slot_at, is_gone, property_in, there, uncounted, packed, blank, no_property, has, with_value, most_slots};
+ghost use Rattle.property_rows.specs.Slots.{IsSlots, gone_in, slot_at, is_gone, property_in, there, uncounted_slot, slots_there, blank, no_property, has, with_value, most_slots};
 
 use crate::NumberedProperty;
 use crate::slot::Slot;
@@ -49,7 +49,7 @@ fn drop_gone(slots: &mut Vec<Slot>)
 
 // No slot counts any more.
 fn forget_counts(slots: &mut [Slot])
-    ensures { slots.new ≡ map uncounted slots.old }
+    ensures { slots.new ≡ map uncounted_slot slots.old }
 {
     for slot in slots.iter_mut() {
         slot.gone = 0;
@@ -58,7 +58,7 @@ fn forget_counts(slots: &mut [Slot])
 
 /// Moves those that are there together.
 pub(crate) fn pack(slots: &mut Vec<Slot>)
-    ensures items { slots.new.items ≡ packed slots.old.items }
+    ensures items { slots.new.items ≡ slots_there slots.old.items }
     ensures capacity { vec_capacity slots.new ≡ vec_capacity slots.old }
 {
     drop_gone(slots);

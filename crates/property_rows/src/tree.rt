@@ -2,7 +2,7 @@
 //! gone in the tree before it.
 ghost use Rattle.std.specs.Prelude.{◌≡◌, ◌+◌, ◌*◌, ◌<◌, ◌≤◌, true, false, not, [], ◌∷◌, ◌++◌, map, length, take, slice_index_or, slice_set};
 ghost use Rattle.property_rows.specs.declared.slot.Slot.{Slot as Kept};
-ghost use Rattle.property_rows.specs.Slots.{IsTree, IsTreeSize, gone_in, slot_at, is_gone, property_in, shown, blank, most_slots};
+ghost use Rattle.property_rows.specs.Slots.{IsTree, IsTreeSize, gone_in, slot_at, is_gone, property_in, slot_shown, blank, most_slots};
 
 use crate::slot::Slot;
 
@@ -112,8 +112,8 @@ pub(crate) fn turn(slots: &mut [Slot], size: usize, place: usize, leaves: bool)
     requires few { length slots.old ≤ most_slots }
     requires here { is_gone (slice_index_or slots.old place blank) ≡ not leaves }
     ensures tree { IsTree size slots.new }
-    ensures shown { map shown slots.new
-        ≡ slice_set (map shown slots.old) place (leaves, property_in (slice_index_or slots.old place blank)) }
+    ensures shown { map slot_shown slots.new
+        ≡ slice_set (map slot_shown slots.old) place (leaves, property_in (slice_index_or slots.old place blank)) }
 {
     let half = size / 2;
     if slots.len() <= half {

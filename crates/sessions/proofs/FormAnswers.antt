@@ -9,7 +9,7 @@ use Rattle.form_eval.specs.Acceptance.{accept}
 use Rattle.form_eval.specs.Laws.{MayEvaluate}
 use Rattle.form_eval.specs.declared.read_form.ReadForm.{ReadForm}
 use Rattle.lisp_operators.specs.Evaluation.{Done, Evaluation}
-use Rattle.lisp_operators.specs.Evaluated.{done as done_of}
+use Rattle.lisp_operators.specs.EvaluationAnswers.{done as done_of}
 use Rattle.lisp_operators.specs.declared.evaluated.Evaluated.{Evaluated}
 use Rattle.canon_printer.specs.Printed.{printed}
 use Rattle.lisp_reading.specs.Reading.{form}
@@ -20,10 +20,10 @@ use Rattle.prevalence_store.specs.declared.failure.Unlogged.TheVariants as unlog
 use Rattle.sessions.specs.declared.answer.Answered.{Answered}
 use Rattle.session_words.specs.declared.mode.Mode.{Mode}
 use Rattle.sessions.specs.declared.ending.Ending.TheVariants.{Store}
-use Rattle.prevalence_store.specs.meaning.Acceptance.{after, between, logged, read_in, records_of, transacted}
+use Rattle.prevalence_store.specs.meaning.Acceptance.{after, between, accepted_record, read_in, records_of, transaction_value}
 use Rattle.prevalence_store.specs.steps.Failure.{failure_number}
 use Rattle.prevalence_store.specs.calls.Execute.{Stores, SurvivesAs}
-use Rattle.sessions.specs.Answers.{Progress, after_forms, first_progress, evaluated, last_line, one_form, refusal_line, value_line}
+use Rattle.sessions.specs.Answers.{Progress, after_forms, first_progress, form_progress, last_line, one_form, refusal_line, value_line}
 use Rattle.sessions.specs.Pace.{fill_of}
 use Rattle.sessions.specs.Serve.{Ends, IsAfter, IsOver}
 use Rattle.prevalence_store.specs.calls.Store.{StoreView}
@@ -57,23 +57,23 @@ module _ (functions : Functions) where
 
   module _ {D R : Type 0} (state : D → State) (sound : (d : D) → IsHonest (state d) → IsSoundDisk (state d)) (old new : StoreView D R) (w : WorldState) (mode : Mode) (text : List ℕ) (held written : Option (List ℕ))
       (known : old.world ≡ Some w) (start stop next : ℕ) (x : Object) (is : read_in functions w mode text ≡ form x start stop next) (own : List ℕ) (own_is : own ≡ between start stop text) where
-    one_read : (given : Evaluation Object) → transacted functions.names w x ≡ given
-        → one_form functions w mode text (read_in functions w mode text) ≡ Some (evaluated w mode own (drop next text) given)
+    one_read : (given : Evaluation Object) → transaction_value functions.names w x ≡ given
+        → one_form functions w mode text (read_in functions w mode text) ≡ Some (form_progress w mode own (drop next text) given)
     one_read given valued = ap (one_form functions w mode text) is
-        ∙ (λ i. Some (evaluated w mode (sym own_is i) (drop next text) (valued i)))
+        ∙ (λ i. Some (form_progress w mode (sym own_is i) (drop next text) (valued i)))
 
-    one_is : (given : Evaluation Object) → transacted functions.names w x ≡ given → after_forms functions 1 w mode text ≡ Some (evaluated w mode own (drop next text) given)
+    one_is : (given : Evaluation Object) → transaction_value functions.names w x ≡ given → after_forms functions 1 w mode text ≡ Some (form_progress w mode own (drop next text) given)
     one_is given valued = after_one_form functions w mode text _ (one_read given valued)
 
     -- its record makes the world that it left
-    record_makes : (d : Done Object) → transacted functions.names w x ≡ Ok d → after functions w (logged mode own ∷ []) ≡ Some d.state
+    record_makes : (d : Done Object) → transaction_value functions.names w x ≡ Ok d → after functions w (accepted_record mode own ∷ []) ≡ Some d.state
     record_makes d valued =
         let whole : read_in functions w mode own ≡ form x 0 (length own) (length own) =
         subst (λ t. read_in functions w mode t ≡ form x 0 (length t) (length t)) (sym own_is) (own_whole functions w mode text x start stop next is) in
         ap (stepped functions []) (accepts-logged functions w mode own x d whole valued)
 
-    after_stores : (e : Evaluated) (given : WorldState) → transacted functions.names w x ≡ Ok (done_of e given) → Stores state old new e.wrote mode own given
-        → IsAfter functions state old new w (evaluated w mode own (drop next text) (Ok (done_of e given)))
+    after_stores : (e : Evaluated) (given : WorldState) → transaction_value functions.names w x ≡ Ok (done_of e given) → Stores state old new e.wrote mode own given
+        → IsAfter functions state old new w (form_progress w mode own (drop next text) (Ok (done_of e given)))
     after_stores e given valued stores = by_wrote e.wrote stores where
       by_wrote : (wrote : Bool) → Stores state old new wrote mode own given
           → IsAfter functions state old new w (record { world = given; rest = drop next text; taken = records_of wrote mode own; lines = value_line given (object_of e.value); refused = [] })
@@ -108,7 +108,7 @@ module _ (functions : Functions) where
     leaves true given logs =
         let size = logs.size in
         let fits = logs.fits in
-        inr (refl, (logged mode own, refl, (omega arith, λ i. record { generation = logs.generation i; record_count = logs.record_count i; size = logs.size i; first_size = logs.first_size i })))
+        inr (refl, (accepted_record mode own, refl, (omega arith, λ i. record { generation = logs.generation i; record_count = logs.record_count i; size = logs.size i; first_size = logs.first_size i })))
     leaves false given same = inl (refl, refl, ap (λ (s : StoreView D R). fill_of s) same.0)
 
     refused_leaves : new ≡ old → LeavesRecord (LogsAtOnce old.limit (fill_of old) (fill_of new)) [] (fill_of old) (fill_of new) false
@@ -119,7 +119,7 @@ module _ (functions : Functions) where
         → Writes held written line → TriesForm functions state old new w mode text held written (Ok (answered_of answer))
     form_is_answered (Ok e) line of is_line writes =
         let given = of.accepted w known in (
-          evaluated w mode own (drop next text) (Ok (done_of e given.0)),
+          form_progress w mode own (drop next text) (Ok (done_of e given.0)),
           record {
             far_is = one_is (Ok (done_of e given.0)) given.1;
             lines = subst (λ l. Writes held written l) (value_lines new e line given.0 (stores_left state old new e.wrote mode own given.0 given.2) is_line) writes;
@@ -131,7 +131,7 @@ module _ (functions : Functions) where
         )
     form_is_answered (Err (Refused number)) line of is_line writes =
         let same = of.unchanged refl in (
-          evaluated w mode own (drop next text) (Err number),
+          form_progress w mode own (drop next text) (Err number),
           record {
             far_is = one_is (Err number) (of.cause w known);
             lines = subst (λ l. Writes held written l) is_line.line_of writes;
@@ -190,7 +190,7 @@ module _ (functions : Functions) where
         let given = of.accepted w known in
         let same_line = value_lines new e line given.0 (stores_left state old new e.wrote mode own given.0 given.2) is_line in
         let part = part_of held written line (some_line (value_line given.0 (object_of e.value)) line same_line (some_last (printed given.0.packages given.0.current_package (object_of e.value)) 10)) writes in
-        let far : Progress = evaluated w mode own (drop next text) (Ok (done_of e given.0)) in (
+        let far : Progress = form_progress w mode own (drop next text) (Ok (done_of e given.0)) in (
           taken_only far part.0 OUTPUT (λ input. absurd (omega (arith, input))) (length (records_of e.wrote mode own)) (one_is (Ok (done_of e given.0)) given.1) part.4 (of.survives w)
               (inr (inr (inr (inr (inr (inl (record {
                 output = refl;
@@ -205,7 +205,7 @@ module _ (functions : Functions) where
     line_unwritten (Err (Refused number)) line of is_line writes =
         let same = of.unchanged refl in
         let part = part_of held written line (some_line (refusal_line number) line is_line.line_of (λ none. absurd (cc))) writes in
-        let far : Progress = evaluated w mode own (drop next text) (Err number) in (
+        let far : Progress = form_progress w mode own (drop next text) (Err number) in (
           taken_only far part.0 OUTPUT (λ input. absurd (omega (arith, input))) 0 (one_is (Err number) (of.cause w known)) part.4 (unchanged_survives functions state sound old new w same)
               (inr (inr (inr (inr (inr (inl (record {
                 output = refl;
@@ -236,7 +236,7 @@ module _ (functions : Functions) where
       inl (memory, refl, ap (λ (s : StoreView D R). fill_of s) same),
     )
 
-    records_written : (wrote : Bool) → wrote ≡ true → records_of wrote mode own ≡ logged mode own ∷ []
+    records_written : (wrote : Bool) → wrote ≡ true → records_of wrote mode own ≡ accepted_record mode own ∷ []
     records_written wrote wrote_is = ap (λ b. records_of b mode own) wrote_is
 
     stops_in : (cause : Unlogged) (number : ℕ) → IsLeft functions state old new mode own x cause → number ≡ failure_number cause → number ≢ LOG_FULL → written ≡ held
@@ -248,7 +248,7 @@ module _ (functions : Functions) where
         let why = of.cause w known in
         let failed = of.fault refl in
         let taken = records_written why.0.0.wrote why.0.2 in (
-          taken_only (evaluated w mode own (drop next text) (Ok why.0.0)) [] number (λ input. absurd (omega (arith, stop, input))) 0 (one_is (Ok why.0.0) why.0.1) (writes_nothing held written quiet)
+          taken_only (form_progress w mode own (drop next text) (Ok why.0.0)) [] number (λ input. absurd (omega (arith, stop, input))) 0 (one_is (Ok why.0.0) why.0.1) (writes_nothing held written quiet)
               (subst (λ (es : List LogRecord). SurvivesAs functions state old new w es 0) (sym taken) (of.survives w))
               (inl (record {
                 device = stop;
@@ -256,14 +256,14 @@ module _ (functions : Functions) where
                 no_part = refl;
                 mid = old;
                 before = after_none functions state sound old old w mode text held held known text [] [] refl;
-                entries = logged mode own ∷ [];
+                entries = accepted_record mode own ∷ [];
                 some = omega arith;
                 one_open = λ none. (refl, refl);
                 were_accepted = taken;
                 fits = let fits = why.1 in omega arith;
                 failed = failed;
                 all_or_none = λ here claims keeps.
-                    all_or_none_of_one functions (state old.disk) (state new.disk) w (logged mode own)
+                    all_or_none_of_one functions (state old.disk) (state new.disk) w (accepted_record mode own)
                     (of.survives w here claims keeps).any_moment;
               })),
           inr (inr (stop, refl, refl, λ i. record { generation = failed.generation i; record_count = failed.record_count i; size = failed.size i; first_size = failed.first_size i })),
@@ -275,9 +275,9 @@ module _ (functions : Functions) where
     over_in unlogged.Full number of stop full =
         let why = of.cause w known in
         record {
-          next = evaluated w mode own (drop next text) (Ok why.0.0);
+          next = form_progress w mode own (drop next text) (Ok why.0.0);
           next_is = one_read (Ok why.0.0) why.0.1;
-          record_ = logged mode own;
+          record_ = accepted_record mode own;
           is_taken = records_written why.0.0.wrote why.0.2;
           over = why.1;
         }

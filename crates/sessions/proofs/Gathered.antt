@@ -16,8 +16,8 @@ use Rattle.sessions.specs.declared.ending.Ended.TheVariants as ways
 use Rattle.session_words.specs.declared.wanted.Wanted.{Wanted}
 use Rattle.sessions.specs.declared.gather.GatheredForms.{GatheredForms}
 use Rattle.sessions.specs.declared.group.Grouped.TheVariants as grouped
-use Rattle.prevalence_store.specs.meaning.Acceptance.{after, between, read_in, transacted}
-use Rattle.sessions.specs.Answers.{Progress, after_forms, first_progress, evaluated, last_line, one_form, onward}
+use Rattle.prevalence_store.specs.meaning.Acceptance.{after, between, read_in, transaction_value}
+use Rattle.sessions.specs.Answers.{Progress, after_forms, first_progress, form_progress, last_line, one_form, onward}
 use Rattle.prevalence_store.specs.calls.ExecuteAll.{LogsAll}
 use Rattle.sessions.specs.Pace.{Paces, fill_of}
 use Rattle.sessions.specs.Serve.{IsAfter, room_of}
@@ -61,14 +61,14 @@ none_before [] ys is = refl
 none_before (x ∷ xs) ys is = absurd (cc)
 
 module _ (functions : Functions) where
-  some_line : (w : WorldState) (mode : Mode) (own rest : List ℕ) (given : Evaluation Object) → (evaluated w mode own rest given).lines ≢ []
+  some_line : (w : WorldState) (mode : Mode) (own rest : List ℕ) (given : Evaluation Object) → (form_progress w mode own rest given).lines ≢ []
   some_line w mode own rest (Ok done) = some_last (printed done.state.packages done.state.current_package done.value) 10
   some_line w mode own rest (Err number) = λ none. absurd (cc)
 
   some_of_one : (w : WorldState) (mode : Mode) (text : List ℕ) (r : Reading) (s : Progress) → one_form functions w mode text r ≡ Some s → s.lines ≢ []
   some_of_one w mode text (form x start stop next) s is =
-      let same : evaluated w mode (between start stop text) (drop next text) (transacted functions.names w x) ≡ s = cc in
-      subst (λ (p : Progress). p.lines ≢ []) same (some_line w mode (between start stop text) (drop next text) (transacted functions.names w x))
+      let same : form_progress w mode (between start stop text) (drop next text) (transaction_value functions.names w x) ≡ s = cc in
+      subst (λ (p : Progress). p.lines ≢ []) same (some_line w mode (between start stop text) (drop next text) (transaction_value functions.names w x))
   some_of_one w mode text empty s is = absurd (cc)
   some_of_one w mode text (refused number at) s is = absurd (cc)
 

@@ -8,7 +8,7 @@ use Rattle.lisp_object.specs.Object.{Object, IsSound}
 use Rattle.lisp_object.specs.Datum.{object_of, is_proper}
 use Rattle.form_eval.specs.declared.read_form.ReadForm.{ReadForm}
 use Rattle.package_table.specs.Symbols.{are_there}
-use Rattle.lisp_operators.specs.Evaluated.{done}
+use Rattle.lisp_operators.specs.EvaluationAnswers.{done}
 use Rattle.lisp_operators.specs.Evaluation.{Evaluation}
 use Rattle.lisp_reading.specs.Reading.{form}
 use Rattle.plist_state.specs.Sound as world
@@ -19,8 +19,8 @@ use Rattle.session_words.specs.declared.wanted.Wanted.{Wanted}
 use Rattle.sessions.specs.declared.gather.GatheredForms.{GatheredForms}
 use Rattle.sessions.specs.declared.gather.GroupLimit.{GroupLimit}
 use Rattle.sessions.specs.declared.input.Pending.{Pending}
-use Rattle.prevalence_store.specs.meaning.Acceptance.{acceptance_of, after, between, read_in, records_of, transacted}
-use Rattle.sessions.specs.Answers.{Progress, after_forms, first_progress, evaluated, one_form, onward}
+use Rattle.prevalence_store.specs.meaning.Acceptance.{acceptance_of, after, between, read_in, records_of, transaction_value}
+use Rattle.sessions.specs.Answers.{Progress, after_forms, first_progress, form_progress, one_form, onward}
 use Rattle.sessions.specs.steps.Answer.{BeginsWith}
 use Rattle.form_eval.specs.Laws.{MayEvaluate}
 use Rattle.prevalence_store.specs.steps.Batch.{entries_in, IsEmpty}
@@ -37,7 +37,7 @@ use Rattle.user_macros.specs.Functions.{Functions}
 use Rattle.prevalence_store.proofs.steps.Taking.{none_in}
 
 -- what comes of a form, by what is left after it
-any_rest : (w : WorldState) (mode : Mode) (own rest : List ℕ) (given : Evaluation Object) → evaluated w mode own rest given ≡ record (evaluated w mode own [] given) { rest = rest }
+any_rest : (w : WorldState) (mode : Mode) (own rest : List ℕ) (given : Evaluation Object) → form_progress w mode own rest given ≡ record (form_progress w mode own [] given) { rest = rest }
 any_rest w mode own rest (Ok done) = refl
 any_rest w mode own rest (Err number) = refl
 
@@ -54,22 +54,22 @@ module _ (functions : Functions) (mode : Mode) (w : WorldState) (text : List ℕ
       between_more begins.start begins.stop text more (omega (arith, places.0)) (omega (arith, places.1, begins.within)) ∙ sym begins.is_own
 
   -- one form of it was evaluated, whatever follows it
-  pub one_stays : (given : Evaluation Object) → transacted functions.names w x ≡ given → (more : List ℕ)
-      → after_forms functions 1 w mode (text ++ more) ≡ Some (longer (record (evaluated w mode own [] given) { rest = drop next text }) more)
+  pub one_stays : (given : Evaluation Object) → transaction_value functions.names w x ≡ given → (more : List ℕ)
+      → after_forms functions 1 w mode (text ++ more) ≡ Some (longer (record (form_progress w mode own [] given) { rest = drop next text }) more)
   one_stays given valued more =
       after_one_form functions w mode (text ++ more) _ (ap (one_form functions w mode (text ++ more)) (begins.reads more))
-      ∙ (λ i. Some (evaluated w mode (own_longer more i) (drop-append-le next text more begins.within i) (valued i)))
+      ∙ (λ i. Some (form_progress w mode (own_longer more i) (drop-append-le next text more begins.within i) (valued i)))
       ∙ ap (λ p. Some p) (longer_evaluated w mode own (drop next text) more given ∙ ap (λ p. longer p more) (any_rest w mode own (drop next text) given))
 
   -- its record makes the world that it left, and fits the log
-  pub one_again : (given : Evaluation Object) → transacted functions.names w x ≡ given
-      → (after functions w (evaluated w mode own [] given).taken ≡ Some (evaluated w mode own [] given).world) × AllByRecursion IsLogRecord (evaluated w mode own [] given).taken
+  pub one_again : (given : Evaluation Object) → transaction_value functions.names w x ≡ given
+      → (after functions w (form_progress w mode own [] given).taken ≡ Some (form_progress w mode own [] given).world) × AllByRecursion IsLogRecord (form_progress w mode own [] given).taken
   one_again given valued = by_given given (of_value functions mode w own x given valued whole) where
     whole : read_in functions w mode own ≡ form x 0 (length own) (length own)
     whole = subst (λ t. read_in functions w mode t ≡ form x 0 (length t) (length t)) (sym begins.is_own) (own_whole functions w mode text x begins.start begins.stop next reads_alone)
 
     by_given : (e : Evaluation Object) → IsReplayed functions mode w (acceptance_of own e)
-        → (after functions w (evaluated w mode own [] e).taken ≡ Some (evaluated w mode own [] e).world) × AllByRecursion IsLogRecord (evaluated w mode own [] e).taken
+        → (after functions w (form_progress w mode own [] e).taken ≡ Some (form_progress w mode own [] e).world) × AllByRecursion IsLogRecord (form_progress w mode own [] e).taken
     by_given (Ok done) is = (is.again, is.fit)
     by_given (Err number) is = (is.again, is.fit)
 
@@ -116,7 +116,7 @@ module _ (functions : Functions) (wanted : Wanted) (w : WorldState) (text : List
       let begins = after_it.begins in
       let added = after_it.added in
       let given = added.given in
-      let one : Progress = evaluated u wanted.mode after_it.own [] given in
+      let one : Progress = form_progress u wanted.mode after_it.own [] given in
       let q : Progress = record one { rest = drop count piece } in
       let here : p.rest ≡ piece = is.rest ∙ piece_is in
       let again = one_again functions wanted.mode u piece after_it.object after_it.own count begins given added.valued in
@@ -157,7 +157,7 @@ record_at_most : (wrote : Bool) (mode : Mode) (own : List ℕ) → length (recor
 record_at_most true mode own = omega arith
 record_at_most false mode own = omega arith
 
-taken_at_most : (w : WorldState) (mode : Mode) (own : List ℕ) (given : Evaluation Object) → length (evaluated w mode own [] given).taken ≤ 1
+taken_at_most : (w : WorldState) (mode : Mode) (own : List ℕ) (given : Evaluation Object) → length (form_progress w mode own [] given).taken ≤ 1
 taken_at_most w mode own (Ok done) = record_at_most done.wrote mode own
 taken_at_most w mode own (Err number) = omega arith
 
@@ -166,5 +166,5 @@ module _ (functions : Functions) (wanted : Wanted) where
   pub text_at_most : (x : Object) (own : List ℕ) (bytes : ℕ) (w v : WorldState) (had has : Batch) (old new : GatheredForms) → IsAdded functions wanted x own bytes w v had has old new
       → length (entries_in has) ≤ length (entries_in had) + 1
   text_at_most x own bytes w v had has old new added =
-      let taken : List LogRecord = (evaluated w wanted.mode own [] added.given).taken in
+      let taken : List LogRecord = (form_progress w wanted.mode own [] added.given).taken in
       omega (arith, ap length added.taken, length-append (entries_in had) taken, taken_at_most w wanted.mode own added.given)

@@ -10,7 +10,7 @@ use Rattle.prevalence_store.specs.declared.failure.Unlogged.TheVariants.{DeviceF
 use Rattle.sessions.specs.declared.gather.GatheredForms.{GatheredForms}
 use Rattle.sessions.specs.declared.whole_forms.WholeForms.{WholeForms}
 use Rattle.session_words.specs.declared.wanted.Wanted.{Wanted}
-use Rattle.prevalence_store.specs.meaning.Acceptance.{after, logged}
+use Rattle.prevalence_store.specs.meaning.Acceptance.{after, accepted_record}
 use Rattle.prevalence_store.specs.calls.Store.{StoreView}
 use Rattle.prevalence_store.specs.steps.Batch.{FailsBatch, StoresBatch}
 use Rattle.sessions.specs.steps.Gather.{AreTaken, BeginsWhole, FailsForms, IsGathered, MayBeTaken, TakesForms, TakesGroup}

@@ -21,7 +21,7 @@ use Rattle.prevalence_store.specs.calls.ExecuteAll.{AllOrNone, MeansAllOrNone}
 use Rattle.sessions.specs.Pace.{Fill, Pace, fill_of}
 use Rattle.prevalence_store.specs.calls.Store.{StoreView}
 use Rattle.sessions.specs.Streams.{Writes}
-use Rattle.prevalence_store.specs.meaning.Acceptance.{after, logged, read_in}
+use Rattle.prevalence_store.specs.meaning.Acceptance.{after, accepted_record, read_in}
 use Rattle.prevalence_store.specs.meaning.Files.{MeansWorld}
 use Rattle.sessions.specs.Answers.{Progress, after_forms, first_progress, last_line, onward, refusal_line}
 use Rattle.sessions.specs.steps.Answer.{LeavesRecord, TriesForm, was_logged}
@@ -317,8 +317,8 @@ module _ (functions : Functions) {D R : Type 0} (state : D → State) (sound : (
   none_of_form told old new w mode bytes own x failures.Full known stands of = none_further told old new w known (λ kept is. (stands kept is).0.at_rest) (of.survives w)
   none_of_form told old new w mode bytes own x failures.OutOfMemory known stands of = none_further told old new w known (λ kept is. (stands kept is).0.at_rest) (of.survives w)
   none_of_form told old new w mode bytes own x failures.DeviceFault known stands of =
-      acknowledges_none told old new w (logged mode own ∷ []) known (λ kept is. (stands kept is).0.at_rest) (of.survives w)
-      (λ here honest keeps. all_or_none_of_one functions (state old.disk) (state new.disk) w (logged mode own) (of.survives w here honest keeps).any_moment)
+      acknowledges_none told old new w (accepted_record mode own ∷ []) known (λ kept is. (stands kept is).0.at_rest) (of.survives w)
+      (λ here honest keeps. all_or_none_of_one functions (state old.disk) (state new.disk) w (accepted_record mode own) (of.survives w here honest keeps).any_moment)
 
   -- the forms of a group
   pub none_of_group : (told : Option (Account D)) (old new : StoreView D R) (w : WorldState) (mode : Mode) (bytes text : List ℕ) (wanted : Wanted) → old.world ≡ Some w → StandsBefore functions state told old w mode bytes

@@ -11,9 +11,9 @@ use Rattle.lisp_reading.specs.Reading.{form}
 use Rattle.sessions.specs.declared.input.Pending.{Pending}
 use Rattle.session_words.specs.declared.mode.Mode.{Mode}
 use Rattle.sessions.specs.declared.ending.Ending.TheVariants.{End}
-use Rattle.prevalence_store.specs.meaning.Acceptance.{between, read_in, setting_in, transacted}
+use Rattle.prevalence_store.specs.meaning.Acceptance.{between, read_in, setting_in, transaction_value}
 use Rattle.user_macros.specs.Functions.{Functions}
-use Rattle.sessions.specs.Answers.{Progress, after_forms, evaluated, one_form}
+use Rattle.sessions.specs.Answers.{Progress, after_forms, form_progress, one_form}
 use Rattle.sessions.specs.steps.Gather.{BeginsWhole}
 use Rattle.sessions.specs.steps.Input.{HasForm, IsLastForm, IsPending}
 use Rattle.sessions.specs.Serve.{Advances}
@@ -37,11 +37,11 @@ between_more start stop text more order within =
     let room : stop - start ≤ length (drop start text) = rw (length-drop start text) (omega arith) in
     ap (take (stop - start)) (drop-append-le start text more (omega arith)) ∙ take-append-le (stop - start) (drop start text) more room
 
-pub longer_evaluated : (w : WorldState) (mode : Mode) (own rest more : List ℕ) (given : Evaluation Object) → evaluated w mode own (rest ++ more) given ≡ longer (evaluated w mode own rest given) more
+pub longer_evaluated : (w : WorldState) (mode : Mode) (own rest more : List ℕ) (given : Evaluation Object) → form_progress w mode own (rest ++ more) given ≡ longer (form_progress w mode own rest given) more
 longer_evaluated w mode own rest more (Ok done) = refl
 longer_evaluated w mode own rest more (Err number) = refl
 
-rest_evaluated : (w : WorldState) (mode : Mode) (own rest : List ℕ) (given : Evaluation Object) → (evaluated w mode own rest given).rest ≡ rest
+rest_evaluated : (w : WorldState) (mode : Mode) (own rest : List ℕ) (given : Evaluation Object) → (form_progress w mode own rest given).rest ≡ rest
 rest_evaluated w mode own rest (Ok done) = refl
 rest_evaluated w mode own rest (Err number) = refl
 
@@ -100,7 +100,7 @@ module _ (functions : Functions) (w : WorldState) (mode : Mode) (pending : Pendi
   stop_within = let places = form_places functions w mode text x has.start has.stop has.next reads_here in (places.0, places.1)
 
   abbrev given : Evaluation Object
-  given = transacted functions.names w x
+  given = transaction_value functions.names w x
 
   own_again : (more : List ℕ) → between has.start has.stop (text ++ more) ≡ between has.start has.stop text
   own_again more = between_more has.start has.stop text more (let a = stop_within.0 in omega arith) (let a = stop_within.1 in let b = next_within in omega arith)
@@ -126,23 +126,23 @@ module _ (functions : Functions) (w : WorldState) (mode : Mode) (pending : Pendi
   begins_here_start slice same = refl
 
   one_form_of : (t : List ℕ) → read_in functions w mode t ≡ form x has.start has.stop has.next
-      → after_forms functions 1 w mode t ≡ Some (evaluated w mode (between has.start has.stop t) (drop has.next t) given)
+      → after_forms functions 1 w mode t ≡ Some (form_progress w mode (between has.start has.stop t) (drop has.next t) given)
   one_form_of t reads = after_one_form functions w mode t _ (ap (one_form functions w mode t) reads)
 
-  far_is_one : (far : Progress) → after_forms functions 1 w mode text ≡ Some far → far ≡ evaluated w mode (between has.start has.stop text) (drop has.next text) given
+  far_is_one : (far : Progress) → after_forms functions 1 w mode text ≡ Some far → far ≡ form_progress w mode (between has.start has.stop text) (drop has.next text) given
   far_is_one far is = let same = sym is ∙ one_form_of text reads_here in cc
 
   one_stays : (far : Progress) → after_forms functions 1 w mode text ≡ Some far → (more : List ℕ) → after_forms functions 1 w mode (text ++ more) ≡ Some (longer far more)
   one_stays far is more =
       one_form_of (text ++ more) (has.reads more)
-      ∙ (λ i. Some (evaluated w mode (own_again more i) (drop-append-le has.next text more next_within i) given))
+      ∙ (λ i. Some (form_progress w mode (own_again more i) (drop-append-le has.next text more next_within i) given))
       ∙ ap (λ p. Some p) (longer_evaluated w mode (between has.start has.stop text) (drop has.next text) more given)
       ∙ ap (λ p. Some (longer p more)) (sym (far_is_one far is))
 
   -- nor does more after it make a difference
   pub text_stays : (more : List ℕ) (far : Progress) → after_forms functions 1 w mode (text ++ more) ≡ Some far → (others : List ℕ) → after_forms functions 1 w mode ((text ++ more) ++ others) ≡ Some (longer far others)
   text_stays more far is others =
-      let base : Progress = evaluated w mode (between has.start has.stop text) (drop has.next text) given in
+      let base : Progress = form_progress w mode (between has.start has.stop text) (drop has.next text) given in
       let whole : after_forms functions 1 w mode text ≡ Some base = one_form_of text reads_here in
       let same : far ≡ longer base more = let here = one_stays base whole more in cc in
       ap (after_forms functions 1 w mode) (append_assoc text more others) ∙ one_stays base whole (more ++ others)
@@ -220,9 +220,9 @@ module _ (functions : Functions) (w : WorldState) (mode : Mode) (text : List ℕ
 
   last_rest : (far : Progress) → after_forms functions 1 w mode text ≡ Some far → far.rest ≡ []
   last_rest far is =
-      let given = transacted functions.names w x in
+      let given = transaction_value functions.names w x in
       let one = after_one_form functions w mode text _ (ap (one_form functions w mode text) last.reads) in
-      let same : far ≡ evaluated w mode (between last.start last.stop text) (drop (length text) text) given = let both = sym is ∙ one in cc in
+      let same : far ≡ form_progress w mode (between last.start last.stop text) (drop (length text) text) given = let both = sym is ∙ one in cc in
       ap (λ (p : Progress). p.rest) same ∙ rest_evaluated w mode (between last.start last.stop text) (drop (length text) text) given ∙ drop_all (length text) text (omega arith)
 
   -- it was answered, and nothing is left

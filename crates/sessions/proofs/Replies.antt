@@ -4,7 +4,7 @@ use Rattle.std.specs.List.{AllByRecursion}
 use Rattle.disk_trait.specs.Disk.{State, IsHonest, IsSoundDisk}
 use Rattle.gate_log.specs.Layout.{IsLogRecord, LogRecord}
 use Rattle.lisp_object.specs.Object.{Object}
-use Rattle.lisp_operators.specs.Evaluated.{done}
+use Rattle.lisp_operators.specs.EvaluationAnswers.{done}
 use Rattle.lisp_operators.specs.declared.evaluated.Evaluated.{Evaluated}
 use Rattle.lisp_reading.specs.Reading.{form}
 use Rattle.plist_state.specs.State.{WorldState}
@@ -14,7 +14,7 @@ use Rattle.prevalence_store.specs.declared.failure.Unlogged.{Unlogged}
 use Rattle.prevalence_store.specs.declared.failure.Unlogged.TheVariants as unlogged
 use Rattle.session_words.specs.declared.mode.Mode.{Mode}
 use Rattle.sessions.specs.declared.answer.Reply.{Reply}
-use Rattle.prevalence_store.specs.meaning.Acceptance.{after, read_in, records_of, transacted}
+use Rattle.prevalence_store.specs.meaning.Acceptance.{after, read_in, records_of, transaction_value}
 use Rattle.prevalence_store.specs.calls.Execute.{SurvivesAs}
 use Rattle.prevalence_store.specs.calls.Store.{StoreView}
 use Rattle.sessions.specs.steps.Answer.{IsLeft, IsReplyTo, TakesReply, IsReplied}
@@ -65,7 +65,7 @@ module _ (functions : Functions) where
         nothing_survives DeviceFault is same u = absurd (cc)
 
         pub takes_nothing : (failure : Failure) → is_device failure ≡ false → new ≡ old
-            → ((u : WorldState) → old.world ≡ Some u → IsCause (transacted functions.names u x) old.size old.limit (length text) failure) → TakesForm functions state old new mode text x (Err failure)
+            → ((u : WorldState) → old.world ≡ Some u → IsCause (transaction_value functions.names u x) old.size old.limit (length text) failure) → TakesForm functions state old new mode text x (Err failure)
         takes_nothing failure calm same cause = record {
           accepted = λ u known. tt;
           cause = cause;
@@ -75,13 +75,13 @@ module _ (functions : Functions) where
         }
 
         -- which was evaluated in the world of the store
-        module _ (w v : WorldState) (known : old.world ≡ Some w) (e : Evaluated) (valued : transacted functions.names w x ≡ Ok (done e v)) where
+        module _ (w v : WorldState) (known : old.world ≡ Some w) (e : Evaluated) (valued : transaction_value functions.names w x ≡ Ok (done e v)) where
           here : (u : WorldState) → old.world ≡ Some u → w ≡ u
           here u is = cc
 
           takes_value : StoresBatch functions state old new w v (records_of e.wrote mode text) → TakesForm functions state old new mode text x (Ok e)
           takes_value stores = record {
-            accepted = λ u is. (v, ap (λ a. transacted functions.names a x) (sym (here u is)) ∙ valued, stored_one functions state sound old new mode text e.wrote v stores.logs);
+            accepted = λ u is. (v, ap (λ a. transaction_value functions.names a x) (sym (here u is)) ∙ valued, stored_one functions state sound old new mode text e.wrote v stores.logs);
             cause = λ u is. tt;
             unchanged = tt;
             fault = tt;
@@ -90,7 +90,7 @@ module _ (functions : Functions) where
 
           -- and whose record was not logged
           by_wrote : (wrote : Bool) → e.wrote ≡ wrote → (cause : Unlogged) {T : Type 0} → TakesBatch functions state old new w v (records_of wrote mode text) {T = T} (Err cause)
-              → IsCause (transacted functions.names w x) old.size old.limit (length text) (of_unlogged cause) × SurvivesAs functions state old new w (taken_in mode text (Err (of_unlogged cause))) 0
+              → IsCause (transaction_value functions.names w x) old.size old.limit (length text) (of_unlogged cause) × SurvivesAs functions state old new w (taken_in mode text (Err (of_unlogged cause))) 0
           by_wrote wrote is unlogged.OutOfMemory took = (tt, nothing_survives OutOfMemory refl (took.unchanged refl) w)
           by_wrote true is unlogged.Full took =
               let over = took.full refl in
@@ -105,7 +105,7 @@ module _ (functions : Functions) where
           takes_failure cause took =
               let told = by_wrote e.wrote refl cause took in record {
                 accepted = λ u is. tt;
-                cause = λ u is. subst (λ a. IsCause (transacted functions.names a x) old.size old.limit (length text) (of_unlogged cause)) (here u is) told.0;
+                cause = λ u is. subst (λ a. IsCause (transaction_value functions.names a x) old.size old.limit (length text) (of_unlogged cause)) (here u is) told.0;
                 unchanged = λ calm. took.unchanged (device_same cause ∙ calm);
                 fault = λ device. (took.stopped (device_same cause ∙ device)).failed;
                 survives = λ u is. subst (λ a. SurvivesAs functions state old new a (taken_in mode text (Err (of_unlogged cause))) 0) (here u is) told.1 is;
@@ -125,7 +125,7 @@ module _ (functions : Functions) where
               let same = stores.logs.nothing refl in
               record {
                 answer = Err (Refused number);
-                takes = takes_nothing (Refused number) refl same (λ u left. let both : Some w ≡ Some u = sym known ∙ left in let one : w ≡ u = cc in subst (λ a. transacted functions.names a x ≡ Err number) one is.0);
+                takes = takes_nothing (Refused number) refl same (λ u left. let both : Some w ≡ Some u = sym known ∙ left in let one : w ≡ u = cc in subst (λ a. transaction_value functions.names a x ≡ Err number) one is.0);
                 line = record { world = w; one = λ u left. let both : Some w ≡ Some u = sym known ∙ sym (ap (λ (s : StoreView D R). s.world) same) ∙ left in cc; line_of = is.3 };
                 told = is.4;
               }

@@ -7,7 +7,7 @@ use Rattle.lisp_object.specs.Object.{Object}
 use Rattle.lisp_object.specs.Refusal.{name_of}
 use Rattle.session_words.specs.declared.mode.Mode.{Mode}
 use Rattle.plist_state.specs.State.{WorldState}
-use Rattle.prevalence_store.specs.meaning.Acceptance.{between, read_in, records_of, transacted}
+use Rattle.prevalence_store.specs.meaning.Acceptance.{between, read_in, records_of, transaction_value}
 use Rattle.lisp_reading.specs.Reading.{Outcome as Reading, form, empty, refused}
 use Rattle.lisp_operators.specs.Evaluation.{Evaluation}
 use Rattle.canon_printer.specs.Printed.{printed}
@@ -40,20 +40,20 @@ onward p q = record { world = q.world; rest = q.rest; taken = p.taken ++ q.taken
 
 -- What comes of a form with this text of its own, after which this is left, by what its evaluation gave. A form that is refused
 -- leaves no record, nor does one that writes nothing.
-abbrev pub evaluated : WorldState → Mode → List ℕ → List ℕ → Evaluation Object → Progress
-evaluated world mode own rest (Ok done) = record {
+abbrev pub form_progress : WorldState → Mode → List ℕ → List ℕ → Evaluation Object → Progress
+form_progress world mode own rest (Ok done) = record {
   world = done.state;
   rest = rest;
   taken = records_of done.wrote mode own;
   lines = value_line done.state done.value;
   refused = [];
 }
-evaluated world mode own rest (Err number) = record { world = world; rest = rest; taken = []; lines = refusal_line number; refused = number ∷ [] }
+form_progress world mode own rest (Err number) = record { world = world; rest = rest; taken = []; lines = refusal_line number; refused = number ∷ [] }
 
 -- of what the text begins with, if that is a form
 abbrev pub one_form : Functions → WorldState → Mode → List ℕ → Reading → Option Progress
 one_form functions world mode text (form object start end next) =
-    Some (evaluated world mode (between start end text) (drop next text) (transacted functions.names world object))
+    Some (form_progress world mode (between start end text) (drop next text) (transaction_value functions.names world object))
 one_form functions world mode text empty = None
 one_form functions world mode text (refused number at) = None
 

@@ -19,7 +19,7 @@ use Rattle.sessions.specs.declared.ending.Place.{Place}
 use Rattle.session_words.specs.declared.wanted.Wanted.{Wanted}
 use Rattle.sessions.specs.declared.ending.Ending.{Ending}
 use Rattle.sessions.specs.declared.ending.Ending.TheVariants.{End, Reader, Store}
-use Rattle.prevalence_store.specs.meaning.Acceptance.{after, read_in, setting_in, table_in, transacted}
+use Rattle.prevalence_store.specs.meaning.Acceptance.{after, read_in, setting_in, table_in, transaction_value}
 use Rattle.lisp_reading.specs.Deciding.{decided_from}
 use Rattle.prevalence_store.specs.calls.Execute.{DeviceFails, SurvivesAs}
 use Rattle.prevalence_store.specs.calls.ExecuteAll.{AllOrNone}
@@ -286,7 +286,7 @@ pub record IsUnaccepted (functions : Functions) (world : WorldState) (mode : Mod
   pub stop : ℕ
   pub next : ℕ
   pub reads : read_in functions world mode text ≡ form object start stop next
-  pub refused : transacted functions.names world object ≡ Err number
+  pub refused : transaction_value functions.names world object ≡ Err number
 
 -- In a text of which so many forms were answered and this is left, before which came so many other forms and bytes: the place
 -- that is at these offsets in what is left.

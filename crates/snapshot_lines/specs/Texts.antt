@@ -32,13 +32,13 @@ items_rest [] = codes ")"
 items_rest (x ∷ xs) = codes " " ++ (x ++ items_rest xs)
 
 -- a list of items that are written so
-abbrev pub items_text : List (List ℕ) → List ℕ
-items_text [] = codes "NIL"
-items_text (x ∷ xs) = codes "(" ++ (x ++ items_rest xs)
+abbrev pub text_of_items : List (List ℕ) → List ℕ
+text_of_items [] = codes "NIL"
+text_of_items (x ∷ xs) = codes "(" ++ (x ++ items_rest xs)
 
 -- a list of texts
 abbrev pub texts_text : List Name → List ℕ
-texts_text names = items_text (map printed_text names)
+texts_text names = text_of_items (map printed_text names)
 
 -- a pair of texts
 abbrev pub pair_text : Name × Name → List ℕ
@@ -46,11 +46,11 @@ pair_text pair = codes "(" ++ (printed_text pair.0 ++ (codes " " ++ (printed_tex
 
 -- a list of pairs
 abbrev pub pairs_text : List (Name × Name) → List ℕ
-pairs_text pairs = items_text (map pair_text pairs)
+pairs_text pairs = text_of_items (map pair_text pairs)
 
 -- where a list begins, or after one of its items: these are still to come, and then what stands after the list
 abbrev pub IsAtItems : List (List ℕ) → List ℕ → List ℕ → Type 0
-IsAtItems items after bytes = (bytes ≡ items_text items ++ after) ⊎ (bytes ≡ items_rest items ++ after)
+IsAtItems items after bytes = (bytes ≡ text_of_items items ++ after) ⊎ (bytes ≡ items_rest items ++ after)
 
 -- the first of these items comes next, or what stands after the list
 abbrev pub IsComing : List (List ℕ) → List ℕ → Coming → Type 0

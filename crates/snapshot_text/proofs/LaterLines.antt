@@ -7,7 +7,7 @@ use Rattle.canon_printer.specs.Printed.{printed}
 use Rattle.lisp_reading.specs.Setting.{setting_of}
 use Rattle.plist_state.specs.State.{WorldState}
 use Rattle.plist_state.specs.Sound.{IsSoundWorldState}
-use Rattle.snapshot_text.specs.Built.{with_packages_of, with_properties_of}
+use Rattle.snapshot_text.specs.BuiltWorlds.{with_packages_of, with_properties_of}
 use Rattle.world_text.specs.Lines.{snapshot_limits, IsLineRead}
 use Rattle.world_text.specs.Snapshot.{properties_object, tables_object_in}
 use Rattle.world_text.proofs.LinesRead.{second_read, third_read}

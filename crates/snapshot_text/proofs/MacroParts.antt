@@ -22,7 +22,7 @@ use Rattle.package_table.specs.Table as packages
 use Rattle.plist_state.specs.State.{WorldState}
 use Rattle.plist_state.specs.Sound.{IsSymbol}
 use Rattle.world_text.specs.Snapshot.{number, dispatch_object, dispatch_objects}
-use Rattle.snapshot_text.specs.Built.{with_table, IsWritable, IsSubFunction, IsNamedEntry}
+use Rattle.snapshot_text.specs.BuiltWorlds.{with_table, IsWritable, IsSubFunction, IsNamedEntry}
 use Rattle.snapshot_text.proofs.Filling.{updates, put_all, update_at, update_below, filled, put_next}
 use Rattle.snapshot_text.proofs.ReadRows.{passing_item}
 use Rattle.snapshot_text.proofs.ReadParts.{item_at, item_count}

@@ -21,7 +21,7 @@ use Rattle.plist_state.specs.Readers.{readtable_names}
 use Rattle.plist_state.specs.Sound.{IsSoundWorldState, IsNamed, IsSymbol}
 use Rattle.plist_state.proofs.Orders.{name_total, name_exact, one_name, name_tied}
 use Rattle.world_text.specs.Snapshot.{readtable_object, table_named}
-use Rattle.snapshot_text.specs.Built.{with_table, with_properties_of, with_readtables_of, CanBeMade}
+use Rattle.snapshot_text.specs.BuiltWorlds.{with_table, with_properties_of, with_readtables_of, CanBeMade}
 use Rattle.snapshot_text.proofs.KeysSoFar.{at_index}
 use Rattle.snapshot_text.proofs.ReadParts.{item_at, item_count}
 

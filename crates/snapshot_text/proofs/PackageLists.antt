@@ -14,7 +14,7 @@ use Rattle.std.specs.FinMap.Entries.{below_all}
 use Rattle.std.proofs.lemmas.Bool.{and_parts, or_left, or_right, false≢true}
 use Rattle.std.proofs.lemmas.List.Elements.{All-nil, All-cons, All-head, All-tail, All-weaker, All-map, All-filter, filter_passes}
 use Rattle.package_table.specs.Table.{Name, name_cmp, Present, Package, Table, entry_at, common_lisp, keyword, IsPackage, IsPresent, IsExternal, Uses}
-use Rattle.package_table.specs.Readers.{package_names, used_names, present, external_names, imports}
+use Rattle.package_table.specs.Readers.{package_names, used_names, present_symbols, external_names, imports}
 use Rattle.package_table.proofs.Names.{same_some, none_some, tied_same, same_tied}
 use Rattle.package_table.proofs.Frames.{not_equal, unequal_names, equal_itself}
 use Rattle.world_text.specs.Snapshot.{shown_names}
@@ -66,7 +66,7 @@ all_any (m ∷ ns) =
 
 module _ (s : Table) (p : Name) where
   -- what is present
-  present_are : All (λ (e : Name × Present). entry_at s p e.0 ≡ Some e.1) (present s p)
+  present_are : All (λ (e : Name × Present). entry_at s p e.0 ≡ Some e.1) (present_symbols s p)
   present_are =
       elim (finite.get s p) as (λ o. All (λ (e : Name × Present). option_and_then (λ (k : Package). finite.get k.symbols e.0) o ≡ Some e.1) (option_map_or (λ (k : Package). finite.entries k.symbols) o [])) [
         | None ↦ All-nil (λ (e : Name × Present). ◌≡◌ {A = Option Present} None (Some e.1))
@@ -74,22 +74,22 @@ module _ (s : Table) (p : Name) where
             (λ e found. get-entries k.symbols e.0 ∙ found) (finite.entries k.symbols) (found_in (finite.entries k.symbols) (from_truth (is_sorted name_cmp (finite.entries k.symbols)) (entries_sorted k.symbols)))
       ]
 
-  sorted_present : is_sorted name_cmp (present s p) ≡ true
+  sorted_present : is_sorted name_cmp (present_symbols s p) ≡ true
   sorted_present =
       elim (finite.get s p) as (λ o. is_sorted name_cmp (option_map_or (λ (k : Package). finite.entries k.symbols) o []) ≡ true) [
         | None ↦ refl
         | Some k ↦ from_truth (is_sorted name_cmp (finite.entries k.symbols)) (entries_sorted k.symbols)
       ]
 
-  find_present : (n : Name) → find name_cmp n (present s p) ≡ entry_at s p n
+  find_present : (n : Name) → find name_cmp n (present_symbols s p) ≡ entry_at s p n
   find_present n =
       elim (finite.get s p) as (λ o. find name_cmp n (option_map_or (λ (k : Package). finite.entries k.symbols) o []) ≡ option_and_then (λ (k : Package). finite.get k.symbols n) o) [
         | None ↦ refl
         | Some k ↦ sym (get-entries k.symbols n)
       ]
 
-  present_so : (g : Name × Present → Bool) → All (λ (e : Name × Present). (entry_at s p e.0 ≡ Some e.1) × (g e ≡ true)) (filter g (present s p))
-  present_so g = λ k d lt. (All-filter g (λ (e : Name × Present). entry_at s p e.0 ≡ Some e.1) (present s p) present_are k d lt, filter_passes g (present s p) k d lt)
+  present_so : (g : Name × Present → Bool) → All (λ (e : Name × Present). (entry_at s p e.0 ≡ Some e.1) × (g e ≡ true)) (filter g (present_symbols s p))
+  present_so g = λ k d lt. (All-filter g (λ (e : Name × Present). entry_at s p e.0 ≡ Some e.1) (present_symbols s p) present_are k d lt, filter_passes g (present_symbols s p) k d lt)
 
   -- ---- imports
 
@@ -98,15 +98,15 @@ module _ (s : Table) (p : Name) where
 
   pub imports_are : All IsImport (imports s p)
   imports_are =
-      All-map IsImport (λ (e : Name × Present). (e.0, e.1.home)) (filter (λ (e : Name × Present). not (bytes_eq e.1.home p)) (present s p))
+      All-map IsImport (λ (e : Name × Present). (e.0, e.1.home)) (filter (λ (e : Name × Present). not (bytes_eq e.1.home p)) (present_symbols s p))
       (All-weaker (λ (e : Name × Present). (entry_at s p e.0 ≡ Some e.1) × (not (bytes_eq e.1.home p) ≡ true)) (λ (e : Name × Present). IsImport (e.0, e.1.home))
       (λ e both. (ap (option_map (λ (e : Present). e.home)) both.0, unequal_names e.1.home p (turned (bytes_eq e.1.home p) both.1)))
-      (filter (λ (e : Name × Present). not (bytes_eq e.1.home p)) (present s p)) (present_so (λ (e : Name × Present). not (bytes_eq e.1.home p))))
+      (filter (λ (e : Name × Present). not (bytes_eq e.1.home p)) (present_symbols s p)) (present_so (λ (e : Name × Present). not (bytes_eq e.1.home p))))
 
   pub import_among : (P : Name × Name → Type 0) → All P (imports s p) → (n h : Name) → IsPresent s p n h → h ≢ p → P (n, h)
   import_among P all n h there differ =
       found_all P (imports s p) n h
-      (imported_at p n (present s p) sorted_present ∙ ap (option_and_then (other_home p)) (find_present n)
+      (imported_at p n (present_symbols s p) sorted_present ∙ ap (option_and_then (other_home p)) (find_present n)
       ∙ elim (entry_at s p n) as (λ o. option_map (λ (e : Present). e.home) o ≡ Some h → option_and_then (other_home p) o ≡ Some h) [
         | None ↦ λ no. absurd (none_some h no)
         | Some e ↦ λ is.
@@ -119,15 +119,15 @@ module _ (s : Table) (p : Name) where
 
   pub externals_are : All (IsExternal s p) (external_names s p)
   externals_are =
-      All-map (IsExternal s p) (λ (e : Name × Present). e.0) (filter (λ (e : Name × Present). e.1.external) (present s p))
+      All-map (IsExternal s p) (λ (e : Name × Present). e.0) (filter (λ (e : Name × Present). e.1.external) (present_symbols s p))
       (All-weaker (λ (e : Name × Present). (entry_at s p e.0 ≡ Some e.1) × (e.1.external ≡ true)) (λ (e : Name × Present). IsExternal s p e.0)
       (λ e both. ap (option_map (λ (e : Present). e.external)) both.0 ∙ ap (λ b. Some b) both.1)
-      (filter (λ (e : Name × Present). e.1.external) (present s p)) (present_so (λ (e : Name × Present). e.1.external)))
+      (filter (λ (e : Name × Present). e.1.external) (present_symbols s p)) (present_so (λ (e : Name × Present). e.1.external)))
 
   pub external_among : (P : Name → Type 0) → All P (external_names s p) → (n : Name) → IsExternal s p n → P n
   external_among P all n shown =
       any_all P (external_names s p) n
-      (names_passing n (λ e. e.external) (present s p) sorted_present ∙ ap (λ o. option_map_or (λ (e : Present). e.external) o false) (find_present n)
+      (names_passing n (λ e. e.external) (present_symbols s p) sorted_present ∙ ap (λ o. option_map_or (λ (e : Present). e.external) o false) (find_present n)
       ∙ elim (entry_at s p n) as (λ o. option_map (λ (e : Present). e.external) o ≡ Some true → option_map_or (λ (e : Present). e.external) o false ≡ true) [
         | None ↦ λ no. absurd (none_some true no)
         | Some e ↦ λ is. same_some e.external true is

@@ -10,7 +10,7 @@ use Rattle.canon_printer.specs.Printed.{printed_prefix}
 use Rattle.world_text.specs.Snapshot.{made_names, shown_names, imported_name, package_object}
 use Rattle.world_text.specs.Texts.{object_text}
 use Rattle.world_text.proofs.PlainObjects.{no_prefix}
-use Rattle.snapshot_lines.specs.Texts.{items_text, items_rest, texts_text, pairs_text}
+use Rattle.snapshot_lines.specs.Texts.{text_of_items, items_rest, texts_text, pairs_text}
 
 -- ---- lists
 
@@ -20,7 +20,7 @@ module _ (s : Table) where
   rest_is f (x ∷ xs) = ap (λ r. 32 ∷ (object_text s (f x) ++ r)) (rest_is f xs)
 
   -- objects in a list
-  pub listed_are : AreSoundPackages s → {A : Type 0} (f : A → Object) (xs : List A) → object_text s (list_of (map f xs)) ≡ items_text (map (λ x. object_text s (f x)) xs)
+  pub listed_are : AreSoundPackages s → {A : Type 0} (f : A → Object) (xs : List A) → object_text s (list_of (map f xs)) ≡ text_of_items (map (λ x. object_text s (f x)) xs)
   listed_are sound f [] = ap (λ prefix. prefix ++ codes "NIL") (no_prefix s sound)
   listed_are sound f (x ∷ xs) = ap (λ r. 40 ∷ (object_text s (f x) ++ r)) (rest_is f xs)
 

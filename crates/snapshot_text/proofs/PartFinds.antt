@@ -6,7 +6,7 @@ use Rattle.std.proofs.Common.{◌≡◌, Bool, true, false, not, None, Some, IsT
 use Rattle.std.specs.Option.{option_map, option_map_or, option_and_then}
 use Rattle.std.specs.FinMap as finite
 use Rattle.package_table.specs.Table.{Name, Present, Package, Table, entry_at, IsPackage, IsPresent, IsExternal, Uses, Finds, IsJoined, AreSoundPackages}
-use Rattle.package_table.specs.Lookup.{found}
+use Rattle.package_table.specs.Lookup.{home_by_name}
 use Rattle.package_table.specs.Changes.{finds_other, user_finds_other, finds_other_than_shown}
 use Rattle.package_table.proofs.Names.{same_some, none_some}
 use Rattle.package_table.proofs.Frames.{equal_itself}
@@ -58,17 +58,17 @@ module _ (t s : Table) (part : IsPartOf t s) where
   finds_more p n h (inl here) = inl (present_more p n h here)
   finds_more p n h (inr used) = inr (used.0, part.uses p used.0 used.1, external_more used.0 n used.2, present_more used.0 n h used.3)
 
-  pub found_more : (p n h : Name) → found t p n ≡ Some h → Finds s p n h
+  pub found_more : (p n h : Name) → home_by_name t p n ≡ Some h → Finds s p n h
   found_more p n h is = finds_more p n h (found_finds t n p h is)
 
   module _ (joined : IsJoined s) where
     -- where a symbol is found there, it is the one that is found here, if any is
-    pub only_found : (p n g h : Name) → found t p n ≡ Some g → Finds s p n h → g ≡ h
+    pub only_found : (p n g h : Name) → home_by_name t p n ≡ Some g → Finds s p n h → g ≡ h
     only_found p n g h is finds = joined.one p n g h (found_more p n g is) finds
 
     pub none_other : (p h n : Name) → Finds s p n h → finds_other t p h n ≡ false
     none_other p h n finds =
-        elim (found t p n) as (λ o. found t p n ≡ o → option_map_or (λ g. not (bytes_eq g h)) o false ≡ false) [
+        elim (home_by_name t p n) as (λ o. home_by_name t p n ≡ o → option_map_or (λ g. not (bytes_eq g h)) o false ≡ false) [
           | None ↦ λ _. refl
           | Some g ↦ λ is. ap not (ap (λ x. bytes_eq x h) (only_found p n g h is finds) ∙ equal_itself h)
         ] refl

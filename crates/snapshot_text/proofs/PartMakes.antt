@@ -12,7 +12,7 @@ use Rattle.package_table.specs.declared.error.PackageError.{PackageError}
 use Rattle.package_table.specs.declared.error.PackageError.TheVariants.{EmptyName, NoSuchPackage, PackageExists, PackageIsLocked, Limit, OutOfMemory}
 use Rattle.package_table.specs.Limits.{most_packages, most_symbols, longest_package_name, longest_symbol_name}
 use Rattle.package_table.specs.Table.{Name, Present, Table, entry_at, common_lisp, keyword, package_named, IsPackage, IsPresent, IsExternal, AreSoundPackages, IsPackageName, symbol_count, with_new_package, empty_package}
-use Rattle.package_table.specs.Lookup.{found}
+use Rattle.package_table.specs.Lookup.{home_by_name}
 use Rattle.package_table.specs.Changes.{after_make, after_intern, with_new_symbol, AnswersPackages}
 use Rattle.package_table.proofs.Names.{same_some}
 use Rattle.package_table.proofs.Frames.{equal_names, not_equal, get_inserted}
@@ -77,10 +77,10 @@ module _ (t s : Table) (part : IsPartOf t s) (sound : AreSoundPackages s) where
 
   pub intern_goes : AreSoundPackages t → (p n : Name) → IsPackage t p → p ≢ common_lisp → IsPresent s p n p → (u : Table) × Owns t s p n u
   intern_goes sound_t p n here lisp there =
-      elim (found t p n) as (λ o. found t p n ≡ o → (u : Table) × Owns t s p n u) [
+      elim (home_by_name t p n) as (λ o. home_by_name t p n ≡ o → (u : Table) × Owns t s p n u) [
         | Some h ↦ λ is.
             let same : h ≡ p = only_found t s part sound.joined p n h p is (inl there) in
-            let found_p : found t p n ≡ Some p = is ∙ ap (λ x. Some x) same in (
+            let found_p : home_by_name t p n ≡ Some p = is ∙ ap (λ x. Some x) same in (
               t,
               record {
                 goes = λ i. if not (here i) then Err NoSuchPackage

@@ -16,7 +16,7 @@ use Rattle.plist_state.specs.Properties.{Symbol}
 use Rattle.plist_state.specs.State.{WorldState}
 use Rattle.plist_state.specs.Readers.{symbols_with_properties}
 use Rattle.plist_state.specs.Sound.{IsSoundWorldState}
-use Rattle.snapshot_text.specs.Built.{with_properties_of}
+use Rattle.snapshot_text.specs.BuiltWorlds.{with_properties_of}
 use Rattle.world_text.specs.Lines.{snapshot_limits}
 use Rattle.world_text.specs.Texts.{row_of}
 use Rattle.snapshot_text.specs.Rows.{row_symbol_at, row_text, text_after, IsUpTo}

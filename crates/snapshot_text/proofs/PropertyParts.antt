@@ -23,7 +23,7 @@ use Rattle.plist_state.specs.Sound.{IsSoundWorldState, IsSymbol, IsPlist, IsValu
 use Rattle.plist_state.proofs.Orders.{symbol_total, symbol_exact, one_symbol}
 use Rattle.plist_state.proofs.Lists.{kept, get-with_list, list-with_list, with_list_twice}
 use Rattle.world_text.specs.Snapshot.{symbol_object}
-use Rattle.snapshot_text.specs.Built.{with_properties, with_each, with_packages_of, with_properties_of}
+use Rattle.snapshot_text.specs.BuiltWorlds.{with_properties, with_each, with_packages_of, with_properties_of}
 use Rattle.snapshot_text.specs.Rows.{row_symbol_at, IsUpTo}
 use Rattle.snapshot_text.proofs.KeysSoFar.{keys_apart, next_is_new, at_index}
 

@@ -25,7 +25,7 @@ use Rattle.plist_state.specs.Changes.{with_copy, in_state}
 use Rattle.plist_state.specs.Sound.{IsNamed}
 use Rattle.plist_state.proofs.Orders.{name_total, name_exact, one_name}
 use Rattle.world_text.specs.Snapshot.{entry_object, entry_objects}
-use Rattle.snapshot_text.specs.Built.{with_table, CanBeMade, IsWritable, IsNamedEntry}
+use Rattle.snapshot_text.specs.BuiltWorlds.{with_table, CanBeMade, IsWritable, IsNamedEntry}
 use Rattle.snapshot_text.proofs.Filling.{updates, put_all, update_at, update_below, filled, put_next}
 use Rattle.snapshot_text.proofs.ReadParts.{item_at, item_count}
 use Rattle.snapshot_text.proofs.TableParts.{table_twice, made_writable, still_writable}

@@ -23,10 +23,10 @@ use Rattle.package_table.proofs.Frames.{equal_names}
 use Rattle.plist_state.specs.declared.error.ReadtableError.{ReadtableError}
 use Rattle.plist_state.specs.declared.error.ReadtableError.TheVariants.{NoReadtable, StandardReadtable, NotDispatching, DigitSubcharacter, Limit, OutOfMemory}
 use Rattle.plist_state.specs.State.{Readtables, WorldState, standard_name}
-use Rattle.plist_state.specs.Changes.{writable, put_changed, with_changed, changed_readtable, in_state, with_sub_function, refused_as, Refused}
+use Rattle.plist_state.specs.Changes.{writable, put_changed, with_changed, changed_readtable, in_state, with_sub_function, readtable_error_of, Refused}
 use Rattle.plist_state.specs.Sound.{IsSymbol}
 use Rattle.plist_state.proofs.Orders.{name_total, name_exact, name_tied}
-use Rattle.snapshot_text.specs.Built.{with_table, IsWritable, IsSubFunction}
+use Rattle.snapshot_text.specs.BuiltWorlds.{with_table, IsWritable, IsSubFunction}
 
 -- where it is not refused
 pub same_ok : (new made : WorldState) (said : Result WorldState ReadtableError) → said ≡ Ok new → said ≡ Ok made → new ≡ made
@@ -52,7 +52,7 @@ pub dispatched_is : (p : packages.Table) (t : Table) (c sub : ℕ) (f : Name) �
     → with_sub_function t c sub f ≡ Ok (with_character_entry t c (with_function (entry_at t c) sub f))
 dispatched_is p t c sub f may dispatching =
     let digit : is_digit sub ≡ false = (neither (is_lower_case sub) (is_digit sub) may.upper).1 in
-    ap (λ o. option_map_or (λ r. Err (refused_as r)) o (Ok (with_character_entry t c (with_function (entry_at t c) sub f))))
+    ap (λ o. option_map_or (λ r. Err (readtable_error_of r)) o (Ok (with_character_entry t c (with_function (entry_at t c) sub f))))
     (ap (λ b. if not b then Some NoDispatch else (if is_digit sub then Some Digit else None)) dispatching ∙ ap (λ b. if b then Some Digit else None) digit)
 
 pub upper_same : (p : packages.Table) (sub : ℕ) (f : Name) → IsSubFunction p sub f → upper_case sub ≡ sub

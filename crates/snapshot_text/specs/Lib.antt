@@ -1,5 +1,5 @@
-pub mod Built
-pub mod Covered
+pub mod BuiltWorlds
+pub mod NamedFunctions
 pub mod Part
 pub mod Phases
 pub mod SnapshotRefusals

@@ -11,7 +11,7 @@ use Rattle.plist_state.specs.Properties.{Symbol, symbol_cmp}
 use Rattle.plist_state.specs.State.{WorldState}
 use Rattle.plist_state.specs.Readers.{symbols_with_properties}
 use Rattle.world_text.specs.Texts.{row_of}
-use Rattle.snapshot_text.specs.Built.{with_properties, with_packages_of}
+use Rattle.snapshot_text.specs.BuiltWorlds.{with_properties, with_packages_of}
 
 -- the symbol of the row at an index
 abbrev pub row_symbol_at : WorldState → ℕ → Symbol

@@ -3,7 +3,7 @@
 //! The text of a world is three printed objects: its packages, its property lists and its readtables (`snapshot` of
 //! world_text, whose `write` gives it). There are two versions of it, and `read` is told which one the bytes are of
 //! (`snapshot_in`). It gives a world whose text the bytes are, with no function missing, or says why not: what it refuses is the
-//! text of no sound state, or of one that names a missing function, but where memory runs out (specs/Covered.antt). The law
+//! text of no sound state, or of one that names a missing function, but where memory runs out (specs/NamedFunctions.antt). The law
 //! `one_text_one_state` of world_text says that no other sound state has that text.
 //!
 //! - `reader`: `read`, and `read_with_seed`, which hashes the names of the world by a seed; `property_lines`: the line of

@@ -5,7 +5,7 @@ ghost use Rattle.readtable_core.specs.Tables.{standard};
 ghost use Rattle.plist_state.specs.State.{WorldState};
 ghost use Rattle.plist_state.specs.Readers.{symbols_with_properties};
 ghost use Rattle.plist_state.specs.Sound.{IsSoundWorldState as IsSoundState};
-ghost use Rattle.snapshot_text.specs.Built.{with_packages_of, with_properties_of};
+ghost use Rattle.snapshot_text.specs.BuiltWorlds.{with_packages_of, with_properties_of};
 ghost use Rattle.snapshot_text.specs.Rows.{IsUpTo, row_text, text_after};
 ghost use Rattle.world_text.specs.Snapshot.{snapshot_line, properties_object};
 ghost use Rattle.snapshot_lines.specs.Answers.{IsOfMade};

@@ -2,9 +2,9 @@
 ghost use Rattle.std.specs.Prelude.{◌≡◌, ◌≤◌, ℕ, List, [], ◌++◌, Some, true, length, drop, IfOk, IfErr, OnOk};
 ghost use Rattle.readtable_core.specs.Tables.{standard};
 ghost use Rattle.plist_state.specs.State.{WorldState, initial};
-ghost use Rattle.snapshot_text.specs.Built.{with_packages_of, with_properties_of};
+ghost use Rattle.snapshot_text.specs.BuiltWorlds.{with_packages_of, with_properties_of};
 ghost use Rattle.plist_state.specs.Sound.{IsSoundWorldState as IsSoundState};
-ghost use Rattle.snapshot_text.specs.Covered.{are_covered, IsRefused};
+ghost use Rattle.snapshot_text.specs.NamedFunctions.{are_covered, IsRefused};
 ghost use Rattle.world_text.specs.Snapshot.{packages_object, tables_object_in, snapshot_line, snapshot_in};
 ghost use Rattle.lisp_object.specs.Object.{Object};
 ghost use Rattle.snapshot_lines.specs.Answers.{IsOfMade, OrNoMemory};

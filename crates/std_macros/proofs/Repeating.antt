@@ -17,7 +17,7 @@ use Rattle.lisp_object.proofs.Properness.{is_proper-Vector}
 use Rattle.lisp_object.proofs.Sizes.{size_object}
 use Rattle.std_macros.specs.declared.refusal.StdRefusal.TheVariants.{VectorLength}
 use Rattle.std_macros.specs.declared.vectors.TheConstants.{LARGEST_REPEATED_VECTOR}
-use Rattle.std_macros.specs.Values.{given, last_of, bounded, vector_with, vector_of}
+use Rattle.std_macros.specs.Values.{gives_one, last_of, bounded_value, vector_with, vector_of}
 
 -- ---- the last one
 
@@ -42,19 +42,19 @@ vector_long n xs lt = by (last_of xs) refl
     by None e = let none : length xs ≡ 0 = ap length (no_last xs e) in absurd (omega arith)
     by (Some y) e = rw (lt-ltb n (length xs) lt) refl
 
-pub vector_even : (n : ℕ) (xs : List Object) → n ≡ length xs → vector_of (Some n) xs ≡ given (vector (list_of xs))
+pub vector_even : (n : ℕ) (xs : List Object) → n ≡ length xs → vector_of (Some n) xs ≡ gives_one (vector (list_of xs))
 vector_even n xs same = by (last_of xs) refl
   where
-    by : (o : Option Object) → last_of xs ≡ o → vector_with n xs o ≡ given (vector (list_of xs))
+    by : (o : Option Object) → last_of xs ≡ o → vector_with n xs o ≡ gives_one (vector (list_of xs))
     by None e =
         let none : xs ≡ [] = no_last xs e in
         let zero_length : n ≡ 0 = same ∙ ap length none in
-        rw zero_length (ap (λ (ys : List Object). given (vector (list_of ys))) (sym none))
+        rw zero_length (ap (λ (ys : List Object). gives_one (vector (list_of ys))) (sym none))
     by (Some y) e =
         let first : nat_lt n (length xs) ≡ false = le-ltb n (length xs) (omega arith) in
         let second : nat_lt (length xs) n ≡ false = le-ltb (length xs) n (omega arith) in
         let none : n - length xs ≡ 0 = omega arith in
-        rw (first, second, none) (ap (λ (ys : List Object). given (vector (list_of ys))) (append-nil xs))
+        rw (first, second, none) (ap (λ (ys : List Object). gives_one (vector (list_of ys))) (append-nil xs))
 
 pub vector_none : (n : ℕ) → 0 < n → vector_of (Some n) [] ≡ Err VectorLength
 unfolding last_of
@@ -112,7 +112,7 @@ objects_repeated front last k =
     ∙ sym (map-append object_of (front ++ last ∷ []) (replicate k last)) ∙ ap (map object_of) (sym (once_more front last k))
 
 bounded_by : (x : Object) (n : ℕ) (b : Bool) → object_size x ≡ n → nat_le n LARGEST_REPEATED_VECTOR ≡ b
-    → bounded true x ≡ (if b then given x else Err VectorLength)
+    → bounded_value true x ≡ (if b then gives_one x else Err VectorLength)
 bounded_by x n true e below =
     let large : nat_lt LARGEST_REPEATED_VECTOR (object_size x) ≡ false = le-ltb LARGEST_REPEATED_VECTOR (object_size x) (omega (arith, leb-true n LARGEST_REPEATED_VECTOR below)) in
     rw large refl
@@ -124,7 +124,7 @@ pub vector_repeats : (front : List Datum) (last : Datum) (n copies : ℕ) (b : B
     → n ≡ length (front ++ last ∷ []) + copies → 0 < copies
     → nat_le (sum (map size front) + (copies + 1) * size last + 1) LARGEST_REPEATED_VECTOR ≡ b
     → vector_of (Some n) (map object_of (front ++ last ∷ []))
-    ≡ (if b then given (vector (list_of (map object_of (front ++ replicate (copies + 1) last)))) else Err VectorLength)
+    ≡ (if b then gives_one (vector (list_of (map object_of (front ++ replicate (copies + 1) last)))) else Err VectorLength)
 vector_repeats front last n copies b proper count some e =
     let xs = map object_of (front ++ last ∷ []) in
     let ys = map object_of (front ++ replicate (copies + 1) last) in
@@ -133,9 +133,9 @@ vector_repeats front last n copies b proper count some e =
     let first : nat_lt n (length xs) ≡ false = le-ltb n (length xs) (omega arith) in
     let second : nat_lt (length xs) n ≡ true = lt-ltb (length xs) n (omega arith) in
     let missing : n - length xs ≡ copies = omega arith in
-    let rest : vector_with n xs (Some (object_of last)) ≡ bounded true (vector (list_of (xs ++ replicate copies (object_of last)))) = rw (first, second, missing) refl in
+    let rest : vector_with n xs (Some (object_of last)) ≡ bounded_value true (vector (list_of (xs ++ replicate copies (object_of last)))) = rw (first, second, missing) refl in
     ap (vector_with n xs) there ∙ rest
-    ∙ ap (λ (zs : List Object). bounded true (vector (list_of zs))) (objects_repeated front last copies)
+    ∙ ap (λ (zs : List Object). bounded_value true (vector (list_of zs))) (objects_repeated front last copies)
     ∙ bounded_by (vector (list_of ys)) _ b (size_repeated front last copies proper) e
 
 -- ---- the room for them

@@ -8,7 +8,7 @@ use Rattle.readtable_core.specs.declared.table.Case.{Case}
 use Rattle.token_scan.specs.declared.mark.Mark.{Mark}
 use Rattle.token_scan.specs.Marks.{characters}
 use Rattle.token_meaning.specs.declared.refusal.MeaningRefusal.{MeaningRefusal}
-use Rattle.token_meaning.specs.Folding.{folded}
+use Rattle.token_meaning.specs.Folding.{folded_marks}
 use Rattle.token_meaning.specs.Meanings.{is_package_marker, rational_of}
 use Rattle.std_macros.specs.declared.kind.Standard.{Standard}
 use Rattle.std_macros.specs.declared.kind.Standard.TheVariants.{List as AList, Close, Quote, Comment, String, Out, Char, Function, Vector, Uninterned, Block, Binary, Octal, Hex, Radix}
@@ -31,8 +31,8 @@ abbrev pub Value : Type 0
 Value = Result (Option Object) StdRefusal
 
 -- a call that gives one object
-abbrev pub given : Object → Value
-given x = Ok (Some x)
+abbrev pub gives_one : Object → Value
+gives_one x = Ok (Some x)
 
 -- a call that gives nothing
 abbrev pub no_value : Value
@@ -46,20 +46,20 @@ headed name x = list_of (symbol (codes "COMMON-LISP") name ∷ x ∷ [])
 
 -- a list of this name and the object that was gathered, as `'X` gives
 abbrev pub headed_value : List ℕ → Material → Value
-headed_value name (one x) = given (headed name x)
+headed_value name (one x) = gives_one (headed name x)
 headed_value name _ = no_value
 
 -- ---- lists and texts
 
 -- the list of what was gathered
 abbrev pub list_value : Material → Value
-list_value (many xs) = given (list_of xs)
-list_value (dotted xs tail) = given (pairs xs tail)
+list_value (many xs) = gives_one (list_of xs)
+list_value (dotted xs tail) = gives_one (pairs xs tail)
 list_value _ = no_value
 
 -- the text of what was gathered
 abbrev pub text_value : Material → Value
-text_value (letters cs) = given (text cs)
+text_value (letters cs) = gives_one (text cs)
 text_value _ = no_value
 
 -- ---- characters
@@ -83,12 +83,12 @@ code_named name =
 
 -- the character, or the refusal where no character has the name
 abbrev pub character_or_refused : Option ℕ → Value
-character_or_refused (Some c) = given (character c)
+character_or_refused (Some c) = gives_one (character c)
 character_or_refused None = Err CharacterName
 
 -- one character alone is itself, and all else a name
 abbrev pub character_of : List ℕ → Value
-character_of (c ∷ []) = given (character c)
+character_of (c ∷ []) = gives_one (character c)
 character_of name = character_or_refused (code_named name)
 
 -- the character that a token names
@@ -105,19 +105,19 @@ last_of (x ∷ []) = Some x
 last_of (x ∷ y ∷ ys) = last_of (y ∷ ys)
 
 -- what is repeated may be of size 1,000,000 at most
-abbrev pub bounded : Bool → Object → Value
-bounded repeated x = if repeated && nat_lt 1000000 (object_size x) then Err VectorLength else given x
+abbrev pub bounded_value : Bool → Object → Value
+bounded_value repeated x = if repeated && nat_lt 1000000 (object_size x) then Err VectorLength else gives_one x
 
 -- A vector of this length: the last object is repeated where they are fewer.
 abbrev pub vector_with : ℕ → List Object → Option Object → Value
-vector_with n xs None = if n == 0 then given (vector (list_of [])) else Err VectorLength
+vector_with n xs None = if n == 0 then gives_one (vector (list_of [])) else Err VectorLength
 vector_with n xs (Some last) =
     if nat_lt n (length xs) then Err VectorLength
-    else bounded (nat_lt (length xs) n) (vector (list_of (xs ++ replicate (n - length xs) last)))
+    else bounded_value (nat_lt (length xs) n) (vector (list_of (xs ++ replicate (n - length xs) last)))
 
 -- a vector, of the length that was written if one was
 abbrev pub vector_of : Option ℕ → List Object → Value
-vector_of None xs = given (vector (list_of xs))
+vector_of None xs = gives_one (vector (list_of xs))
 vector_of (Some n) xs = vector_with n xs (last_of xs)
 
 -- the vector of what was gathered
@@ -135,7 +135,7 @@ is_own_name (m ∷ ms) = not (list_any is_package_marker (m ∷ ms))
 -- the symbol of no package with this name
 abbrev pub uninterned_of : Case → List Mark → Value
 uninterned_of case marks =
-    if is_own_name marks then given (uninterned (characters (folded case marks))) else Err UninternedToken
+    if is_own_name marks then gives_one (uninterned (characters (folded_marks case marks))) else Err UninternedToken
 
 -- the symbol of no package that a token names
 abbrev pub uninterned_value : Case → Material → Value
@@ -147,7 +147,7 @@ uninterned_value case _ = no_value
 -- the number, or the refusal where the token is none in its base
 abbrev pub rational_or_refused : Option (Result Object MeaningRefusal) → Value
 rational_or_refused None = Err RadixToken
-rational_or_refused (Some (Ok x)) = given x
+rational_or_refused (Some (Ok x)) = gives_one x
 rational_or_refused (Some (Err refusal)) = Err (Rational refusal)
 
 -- the number that a token is in this base

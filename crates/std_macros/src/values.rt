@@ -4,7 +4,7 @@ ghost use Rattle.std.specs.List.{list_all, list_any};
 ghost use Rattle.lisp_object.specs.Ascii.{is_ascii};
 ghost use Rattle.lisp_object.specs.Datum.{is_proper, object_of};
 ghost use Rattle.token_scan.specs.Marks.{are_ascii};
-ghost use Rattle.token_meaning.specs.Folding.{folded};
+ghost use Rattle.token_meaning.specs.Folding.{folded_marks};
 ghost use Rattle.token_meaning.specs.Meanings.{is_package_marker};
 ghost use Rattle.token_meaning.specs.Results.{view_number};
 ghost use Rattle.std_macros.specs.Values.{headed, headed_value, list_value, text_value, character_value, vector_value, is_own_name, uninterned_of, uninterned_value, rational_or_refused, rational_value, value_of};
@@ -166,7 +166,7 @@ fn uninterned_symbol(alloc: Global, case: Case, marks: Marks) -> Result<Finished
 }
 
 fn folded(case: Case, mut marks: Marks) -> Marks
-    ensures { result.items ≡ folded case marks.items }
+    ensures { result.items ≡ folded_marks case marks.items }
 {
     fold_case(case, marks.as_mut_slice());
     marks

@@ -5,7 +5,7 @@ ghost use Rattle.std.specs.Option.{SomeIff};
 ghost use Rattle.lisp_object.specs.Datum.{object_of, is_proper, size};
 ghost use Rattle.lisp_object.specs.Object.{vector as vector_object, list_of};
 ghost use Rattle.std_macros.specs.declared.refusal.StdRefusal.TheVariants.{VectorLength};
-ghost use Rattle.std_macros.specs.Values.{given, vector_of};
+ghost use Rattle.std_macros.specs.Values.{gives_one, vector_of};
 ghost use Rattle.std_macros.specs.Results.{AreSoundData, AnswersWithValue, IsProperFinished};
 
 use crate::{FinishError, Finished, StdRefusal};
@@ -52,7 +52,7 @@ fn repeating(
     requires proper { AreSoundData (front.items ++ replicate (copies + 1) last) }
     ensures value { AnswersWithValue result
         (if nat_le (sum (map size front.items) + (copies + 1) * size last + 1) LARGEST_REPEATED_VECTOR
-        then given (vector_object (list_of (map object_of (front.items ++ replicate (copies + 1) last)))) else Err VectorLength) }
+        then gives_one (vector_object (list_of (map object_of (front.items ++ replicate (copies + 1) last)))) else Err VectorLength) }
     ensures proper { IfOk result IsProperFinished }
 {
     // Nothing is copied for a vector that is too large.

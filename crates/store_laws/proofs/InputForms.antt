@@ -8,8 +8,8 @@ use Rattle.lisp_object.specs.Object.{Object}
 use Rattle.lisp_operators.specs.Evaluation.{Evaluation}
 use Rattle.plist_state.specs.State.{WorldState}
 use Rattle.session_words.specs.declared.mode.Mode.{Mode}
-use Rattle.prevalence_store.specs.meaning.Acceptance.{between, read_in, transacted}
-use Rattle.sessions.specs.Answers.{Progress, after_forms, first_progress, evaluated, last_line, one_form, one_form_more, onward}
+use Rattle.prevalence_store.specs.meaning.Acceptance.{between, read_in, transaction_value}
+use Rattle.sessions.specs.Answers.{Progress, after_forms, first_progress, form_progress, last_line, one_form, one_form_more, onward}
 use Rattle.sessions.specs.Serve.{IsUnaccepted}
 use Rattle.store_laws.specs.Outcomes.{EndsAtRefusal, HasForms, answers}
 use Rattle.user_macros.specs.Functions.{Functions}
@@ -54,7 +54,7 @@ module _ (functions : Functions) (world : WorldState) (mode : Mode) where
   abbrev pub TakesBytes : Type 0
   TakesBytes = (left : WorldState) (text : List ℕ) (object : Object) (start stop next : ℕ) → read_in functions left mode text ≡ form object start stop next → (0 < next) × (next ≤ length text)
 
-  rest_after : (left : WorldState) (own rest : List ℕ) (given : Evaluation Object) → (evaluated left mode own rest given).rest ≡ rest
+  rest_after : (left : WorldState) (own rest : List ℕ) (given : Evaluation Object) → (form_progress left mode own rest given).rest ≡ rest
   rest_after left own rest (Ok done) = refl
   rest_after left own rest (Err number) = refl
 
@@ -66,9 +66,9 @@ module _ (functions : Functions) (world : WorldState) (mode : Mode) where
       → ((next : Progress) → after (suc n) text ≡ Some next → length next.rest < length far.rest → Counted text) → Counted text
   one_more takes text n far far_is (form object start stop next) read goes_on =
       let some = takes far.world far.rest object start stop next read in
-      let given : Evaluation Object = transacted functions.names far.world object in
+      let given : Evaluation Object = transaction_value functions.names far.world object in
       let left = drop next far.rest in
-      let one : Progress = evaluated far.world mode (between start stop far.rest) left given in
+      let one : Progress = form_progress far.world mode (between start stop far.rest) left given in
       let there : after (suc n) text ≡ Some (onward far one) =
       ap (option_and_then (one_form_more functions mode)) far_is ∙ ap (λ r. option_map (onward far) (one_form functions far.world mode far.rest r)) read in
       let fewer : length left < length far.rest = omega (arith, some.0, some.1, length-drop next far.rest) in
@@ -161,10 +161,10 @@ module _ (functions : Functions) (world : WorldState) (mode : Mode) where
   pub refused_last : (text : List ℕ) (n m : ℕ) (far before : Progress) (number start : ℕ) → n ≡ m + 1 → after n text ≡ Some far → after m text ≡ Some before
       → IsUnaccepted functions before.world mode before.rest number start → far.refused ≡ before.refused ++ number ∷ []
   refused_last text n m far before number start one_more far_is before_is refuses =
-      let one : Progress = evaluated before.world mode (between start refuses.stop before.rest) (drop refuses.next before.rest) (Err number) in
+      let one : Progress = form_progress before.world mode (between start refuses.stop before.rest) (drop refuses.next before.rest) (Err number) in
       let reads : one_form functions before.world mode before.rest (read_in functions before.world mode before.rest) ≡ Some one =
       ap (one_form functions before.world mode before.rest) refuses.reads
-      ∙ (λ i. Some (evaluated before.world mode (between start refuses.stop before.rest) (drop refuses.next before.rest) (refuses.refused i))) in
+      ∙ (λ i. Some (form_progress before.world mode (between start refuses.stop before.rest) (drop refuses.next before.rest) (refuses.refused i))) in
       let there : after (suc m) text ≡ Some (onward before one) = ap (option_and_then (one_form_more functions mode)) before_is ∙ ap (option_map (onward before)) reads in
       let same : suc m ≡ n = omega (arith, one_more) in
       let both : ◌≡◌ {A = Option Progress} (Some far) (Some (onward before one)) = sym far_is ∙ sym (ap (λ k. after k text) same) ∙ there in

@@ -10,7 +10,7 @@ use Rattle.diagnostics.specs.Refusals.{form_of, line_of}
 use Rattle.diagnostics.specs.Texts.{WritesFront}
 use Rattle.diagnostics.specs.declared.refusal.Refusal.{Refusal}
 use Rattle.diagnostics.specs.declared.refusal.Spots.{Spots}
-use Rattle.form_check.specs.Checking.{Checking, checked, setting_under}
+use Rattle.form_check.specs.Checking.{Checking, check_of_text, setting_under}
 use Rattle.form_check.specs.declared.checking.Unreadable.{Unreadable}
 use Rattle.lisp_object.specs.Refusal.{name_of}
 use Rattle.lisp_object.specs.declared.refusal.TheConstants.{OUTPUT}
@@ -101,7 +101,7 @@ EndsSo all_are_readable held written text statuses.LeftOut = ⊥
 unfoldable pub FindsIn : Functions → WorldState → List ℕ → Checking → Type 0
 FindsIn functions world text found =
     IfSome (finite.get world.readtables world.current_readtable)
-    (λ table. found ≡ checked (setting_under table world.read_base world.packages world.current_package functions) text)
+    (λ table. found ≡ check_of_text (setting_under table world.read_base world.packages world.current_package functions) text)
 
 -- that of a new store, or that which a store in a folder had
 unfoldable pub IsWorldOfFolder : Functions → {R : Type 0} → R → Option Text → WorldState → Type 0

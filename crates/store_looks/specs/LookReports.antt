@@ -37,7 +37,7 @@ use Rattle.store_reports.specs.Backup.{IsBackupMade, IsUnmade}
 use Rattle.store_reports.specs.Figures.{AreFiguresOf, file_info_text, info_text, verified_text}
 use Rattle.store_reports.specs.Log.{IsLogText, least_records}
 use Rattle.store_reports.specs.Places.{Deed}
-use Rattle.store_reports.specs.Counted.{IsCountText, IsNoCount}
+use Rattle.store_reports.specs.PropertyCounts.{IsCountText, IsNoCount}
 use Rattle.store_reports.specs.ShownProperties.{IsShown, IsUnshown}
 use Rattle.store_reports.specs.declared.backups.BackupError.{BackupError}
 use Rattle.store_reports.specs.declared.figures.HalfFigures.{HalfFigures}

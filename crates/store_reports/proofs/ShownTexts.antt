@@ -3,7 +3,7 @@ use Rattle.std.proofs.Common.{◌≡◌, ◌≢◌, ◌∙◌, ℕ, true, false,
 use Rattle.std.specs.Global.{Vec}
 use Rattle.std.specs.Prelude.{IfErr, IfOk, is_some, Result, Ok, Err}
 use Rattle.plist_state.specs.State.{WorldState}
-use Rattle.store_reports.specs.Counted.{IsCountText, IsNoCount, count_text, shown_properties, shown_symbols}
+use Rattle.store_reports.specs.PropertyCounts.{IsCountText, IsNoCount, count_text, shown_properties, shown_symbols}
 use Rattle.store_reports.specs.Figures.{told_number}
 use Rattle.store_reports.specs.ShownProperties.{IsShown, GivesSome, IsUnshown, asked_text, has_wanted}
 use Rattle.store_reports.specs.declared.numbers.Notation.{Notation}

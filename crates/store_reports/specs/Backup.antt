@@ -5,7 +5,7 @@ use Rattle.disk_trait.specs.declared.host.HostError.{HostError}
 use Rattle.disk_trait.specs.declared.host.IfMissing.TheVariants.{Make, Refuse}
 use Rattle.gate_log.specs.Failures.{is_open_fault, is_read_fault, is_start_fault}
 use Rattle.gate_log.specs.Layout.{Contents, written_version}
-use Rattle.gate_log.specs.Log.{FilesMean, started}
+use Rattle.gate_log.specs.Log.{FilesMean, new_contents}
 use Rattle.gate_log.specs.Opening.{Refuses}
 use Rattle.gate_log.specs.Step.{WritesNothing}
 use Rattle.gate_log.specs.declared.error.OpenRefusal.{OpenRefusal}
@@ -25,7 +25,7 @@ use Rattle.store_reports.specs.declared.backups.BackupError.TheVariants as error
 
 -- the log holds the text of this world, and no record, and a crash leaves it so
 pub record HoldsWorld (world : WorldState) (disk : State) : Type 0 where
-  pub holds : FilesMean (Some (started None (snapshot world))) disk.reads
+  pub holds : FilesMean (Some (new_contents None (snapshot world))) disk.reads
   pub durable : IsDurable disk
 
 -- a half is open, of the version that is written, and has no record
@@ -47,7 +47,7 @@ pub record IsLeft (old new : State) : Type 0 where
 -- ---- why a log is refused, with this number
 
 -- it was not opened
-pub record IsStoreUnopened (number : ℕ) (old new : State) : Type 0 where
+pub record IsBackupUnopened (number : ℕ) (old new : State) : Type 0 where
   pub refusal : OpenRefusal
   pub number_is : number ≡ open_number refusal
   pub told : Told (is_open_fault refusal) old new
@@ -73,7 +73,7 @@ IsNotBegun limit world old new errors.Exists = IsHonest old → IsLeft old new
 IsNotBegun limit world old new errors.OutOfMemory = Unit {0}
 IsNotBegun limit world old new (errors.Unfinished name) = ⊥
 IsNotBegun limit world old new (errors.Host error) = ⊥
-IsNotBegun limit world old new (errors.Refused number) = IsStoreUnopened number old new ⊎ IsUnstarted limit (snapshot world) number old new
+IsNotBegun limit world old new (errors.Refused number) = IsBackupUnopened number old new ⊎ IsUnstarted limit (snapshot world) number old new
 IsNotBegun limit world old new errors.Differs = ⊥
 
 -- ---- a backup at a place, by what was done
@@ -116,7 +116,7 @@ module _ {D : Type 0} (state : D → State) (does : Deed D → Type 0) (limit : 
       ⊎ ((again : D) × does (opened dir Refuse (Ok again))
       × (((error ≡ errors.Differs) × HoldsOther again)
       ⊎ ((number : ℕ) × (last : D) × (error ≡ errors.Refused number)
-      × (IsStoreUnopened number (state again) (state last) ⊎ IsHalfUnread number (state again) (state last))))))
+      × (IsBackupUnopened number (state again) (state last) ⊎ IsHalfUnread number (state again) (state last))))))
 
   -- the new store was written, opened again and compared, and then got its name
   pub record HasItsName : Type 0 where

@@ -1,5 +1,5 @@
 pub mod Backup
-pub mod Counted
+pub mod PropertyCounts
 pub mod EscapedText
 pub mod Figures
 pub mod Json

@@ -5,7 +5,7 @@ ghost use Rattle.gate_log.specs.Failures.{is_read_fault};
 ghost use Rattle.gate_log.specs.HalfInUse.{IsAt, Shows};
 ghost use Rattle.gate_log.specs.Layout.{Contents};
 ghost use Rattle.gate_log.specs.Log.{FilesMean};
-ghost use Rattle.store_reports.specs.Backup.{HoldsWorld, IsAlone, IsBare, IsCompared, IsBackupMade, IsNotBegun, HasItsName, IsToldAs, IsUncompared, IsUnmade, IsStoreUnopened, IsUnplaced, IsHalfUnread, IsCopyUnwritten, IsWritten};
+ghost use Rattle.store_reports.specs.Backup.{HoldsWorld, IsAlone, IsBare, IsCompared, IsBackupMade, IsNotBegun, HasItsName, IsToldAs, IsUncompared, IsUnmade, IsBackupUnopened, IsUnplaced, IsHalfUnread, IsCopyUnwritten, IsWritten};
 ghost use Rattle.store_reports.specs.Numbers.{open_number, read_number, start_number};
 ghost use Rattle.store_reports.specs.declared.backups.BackupError.TheVariants as errors;
 
@@ -280,7 +280,7 @@ fn holds_text<D: Disk + Drop>(
     ensures answer { IfOk result (λ same. IsHonest (D.state disk)
         → (k : Option Contents) × FilesMean k (D.state disk).reads × Decides same (IsBare text.now k)) }
     ensures refused { IfErr result
-        (λ refused. IsStoreUnopened refused.number (D.state disk) (D.state refused.disk)
+        (λ refused. IsBackupUnopened refused.number (D.state disk) (D.state refused.disk)
         ⊎ IsHalfUnread refused.number (D.state disk) (D.state refused.disk)) }
 {
     shown_is_meant();

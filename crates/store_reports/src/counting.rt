@@ -3,7 +3,7 @@ ghost use Rattle.std.specs.List.{count_by, sum_by};
 ghost use Rattle.std.specs.Prelude.{◌≡◌, ◌+◌, ◌++◌, IfErr, IfOk, MatchResult, OnOk, min};
 ghost use Rattle.package_table.specs.Readers.{names_of, own_names};
 ghost use Rattle.plist_state.specs.Readers.{borrowed_symbols};
-ghost use Rattle.store_reports.specs.Counted.{count_text, shown_properties, shown_symbols, taken_properties, IsCountText, IsNoCount, printed_properties, printed_symbols, sum_at_home};
+ghost use Rattle.store_reports.specs.PropertyCounts.{count_text, shown_properties, shown_symbols, taken_properties, IsCountText, IsNoCount, printed_properties, printed_symbols, sum_at_home};
 ghost use Rattle.store_reports.specs.Figures.{told_number};
 ghost use Rattle.store_reports.specs.ShownProperties.{is_wanted_name};
 ghost use Rattle.store_reports.specs.declared.showing.ShowError.TheVariants as showing;
@@ -115,7 +115,7 @@ fn tally_owners(world: &World, selection: &Selection<'_>, owners: &[(&[u8], &[u8
 }
 
 // How many properties of a symbol are asked for.
-#[tactic(auto, unfolding(crate::specs::Counted::taken_properties))]
+#[tactic(auto, unfolding(crate::specs::PropertyCounts::taken_properties))]
 fn taken_properties(world: &World, selection: &Selection<'_>, home: &[u8], name: &[u8]) -> u64
     ensures { result ≡ taken_properties selection.now world.now.0 (home.now, name.now) }
 {
@@ -165,7 +165,7 @@ fn tally_homes(
 }
 
 // The same in this package.
-#[tactic(auto, unfolding(crate::specs::Counted::sum_at_home))]
+#[tactic(auto, unfolding(crate::specs::PropertyCounts::sum_at_home))]
 fn tally_home(
     alloc: Global,
     world: &World,
@@ -208,7 +208,7 @@ fn tally_named(
 }
 
 // Of the symbol of this home and this name, if it is the one that is asked for.
-#[tactic(auto, unfolding(crate::specs::Counted::printed_properties, crate::specs::Counted::printed_symbols, crate::specs::Counted::is_printed))]
+#[tactic(auto, unfolding(crate::specs::PropertyCounts::printed_properties, crate::specs::PropertyCounts::printed_symbols, crate::specs::PropertyCounts::is_printed))]
 fn tally_symbol(
     alloc: Global,
     world: &World,

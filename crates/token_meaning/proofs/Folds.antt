@@ -9,7 +9,7 @@ use Rattle.readtable_core.specs.declared.table.Case.TheVariants.{Upcase, Downcas
 use Rattle.token_scan.specs.declared.mark.Mark.{Mark}
 use Rattle.token_scan.specs.declared.mark.Mark.TheVariants.{Plain, Quoted, Bar}
 use Rattle.token_scan.specs.Marks.{is_ascii_mark, are_ascii}
-use Rattle.token_meaning.specs.Folding.{lower_case, on_plain, in_upper_case, in_lower_case, has_upper_case, has_lower_case, inverted, folded}
+use Rattle.token_meaning.specs.Folding.{lower_case, on_plain, in_upper_case, in_lower_case, has_upper_case, has_lower_case, inverted_marks, folded_marks}
 
 upper_below : (c : ℕ) → nat_lt c 128 ≡ true → nat_lt (upper_case c) 128 ≡ true
 upper_below c e =
@@ -40,7 +40,7 @@ chosen : (b : Bool) (xs ys : List Mark) → are_ascii xs ≡ true → are_ascii 
 chosen true xs ys e f = e
 chosen false xs ys e f = f
 
-pub folded_ascii : (letters : Case) (marks : List Mark) → are_ascii marks ≡ true → are_ascii (folded letters marks) ≡ true
+pub folded_ascii : (letters : Case) (marks : List Mark) → are_ascii marks ≡ true → are_ascii (folded_marks letters marks) ≡ true
 folded_ascii Upcase marks e = upper_ascii marks e
 folded_ascii Downcase marks e = lower_ascii marks e
 folded_ascii Preserve marks e = e

@@ -8,7 +8,7 @@ use Rattle.token_meaning.specs.declared.refusal.MeaningRefusal.{MeaningRefusal}
 use Rattle.token_meaning.specs.declared.refusal.MeaningRefusal.TheVariants.{FloatToken}
 use Rattle.token_meaning.specs.Numerals.{is_empty, is_numeral, are_digits, numeral_value, without_sign, is_negative, cut_at_first}
 use Rattle.token_meaning.specs.Numbers.{is_point, is_slash, is_exponent_marker, integer_of, ratio_of, decimal_form, ratio_form, is_pointed, is_mantissa, is_scaled, is_float, number_in_base, rational_number}
-use Rattle.token_meaning.specs.Grammar.{spelled, IsDigits, IsDecimal, IsRatio, IsExponent, IsFloat, IsRational, GivesNumber}
+use Rattle.token_meaning.specs.Grammar.{sign_bytes, IsDigits, IsDecimal, IsRatio, IsExponent, IsFloat, IsRational, GivesNumber}
 use Rattle.token_meaning.proofs.Parts.{IsCut, CutAt, cut_parts}
 use Rattle.token_meaning.proofs.Signs.{has_sign}
 
@@ -33,7 +33,7 @@ decimal_is text parts at e =
       sign = sign.sign;
       digits = parts.0;
       numeral = both.0;
-      parts = sign.joined ∙ ap (λ (xs : List ℕ). spelled sign.sign ++ xs) (at.joined ∙ ap (λ (n : ℕ). parts.0 ++ n ∷ parts.1) mark ∙ ap (λ (xs : List ℕ). parts.0 ++ 46 ∷ xs) rest);
+      parts = sign.joined ∙ ap (λ (xs : List ℕ). sign_bytes sign.sign ++ xs) (at.joined ∙ ap (λ (n : ℕ). parts.0 ++ n ∷ parts.1) mark ∙ ap (λ (xs : List ℕ). parts.0 ++ 46 ∷ xs) rest);
       below_zero = sign.below_zero;
       worth = refl;
     }
@@ -52,7 +52,7 @@ ratio_is base text parts at e =
       below = parts.1;
       numeral_above = both.0;
       numeral_below = both.1;
-      parts = sign.joined ∙ ap (λ (xs : List ℕ). spelled sign.sign ++ xs) (at.joined ∙ ap (λ (n : ℕ). parts.0 ++ n ∷ parts.1) mark);
+      parts = sign.joined ∙ ap (λ (xs : List ℕ). sign_bytes sign.sign ++ xs) (at.joined ∙ ap (λ (n : ℕ). parts.0 ++ n ∷ parts.1) mark);
       below_zero = sign.below_zero;
       worth_above = refl;
       worth_below = refl;
@@ -74,7 +74,7 @@ pointed_is text (Some parts) at e =
       digits = both.0;
       numeral = both.1;
       scale = inl refl;
-      parts = sign.joined ∙ ap (λ (xs : List ℕ). spelled sign.sign ++ xs) (at.joined ∙ ap (λ (n : ℕ). parts.0 ++ n ∷ parts.1) mark ∙ ap (λ (xs : List ℕ). parts.0 ++ 46 ∷ xs) (sym (append-nil parts.1)));
+      parts = sign.joined ∙ ap (λ (xs : List ℕ). sign_bytes sign.sign ++ xs) (at.joined ∙ ap (λ (n : ℕ). parts.0 ++ n ∷ parts.1) mark ∙ ap (λ (xs : List ℕ). parts.0 ++ 46 ∷ xs) (sym (append-nil parts.1)));
     })
 
 -- what comes after a mantissa, with the exponent marker
@@ -95,7 +95,7 @@ whole_scaled text mantissa exponent joined scale e =
       numeral = e;
       rest = inl refl;
       scale = scale;
-      parts = sign.joined ∙ ap (λ (xs : List ℕ). spelled sign.sign ++ xs) joined;
+      parts = sign.joined ∙ ap (λ (xs : List ℕ). sign_bytes sign.sign ++ xs) joined;
     })
 
 cut_scaled : (text whole fraction exponent : List ℕ) → without_sign text ≡ whole ++ 46 ∷ (fraction ++ exponent) → IsExponent exponent
@@ -111,7 +111,7 @@ cut_scaled text [] (d ∷ ds) exponent joined scale e f some =
       digits = refl;
       numeral = f;
       scale = inr scale;
-      parts = sign.joined ∙ ap (λ (xs : List ℕ). spelled sign.sign ++ xs) joined;
+      parts = sign.joined ∙ ap (λ (xs : List ℕ). sign_bytes sign.sign ++ xs) joined;
     })
 cut_scaled text (w ∷ ws) fraction exponent joined scale e f some =
     let sign = has_sign text in
@@ -123,7 +123,7 @@ cut_scaled text (w ∷ ws) fraction exponent joined scale e f some =
       numeral = e;
       rest = inr (record { fraction = fraction; digits = f; parts = refl });
       scale = scale;
-      parts = sign.joined ∙ ap (λ (xs : List ℕ). spelled sign.sign ++ xs) joined;
+      parts = sign.joined ∙ ap (λ (xs : List ℕ). sign_bytes sign.sign ++ xs) joined;
     })
 
 mantissa_is : (text mantissa exponent : List ℕ) (o : Option (List ℕ × List ℕ)) → CutAt is_point mantissa o → without_sign text ≡ mantissa ++ exponent → IsExponent exponent → is_mantissa mantissa o ≡ true → IsFloat text

@@ -5,7 +5,7 @@ use Rattle.lisp_object.specs.Object.{Object}
 use Rattle.token_meaning.specs.declared.refusal.MeaningRefusal.{MeaningRefusal}
 use Rattle.token_meaning.specs.Numerals.{is_digit_in, is_sign, is_numeral, are_digits}
 use Rattle.token_meaning.specs.Numbers.{is_point, number_in_base}
-use Rattle.token_meaning.specs.Grammar.{Sign, absent, plus, minus, spelled, GivesNumber}
+use Rattle.token_meaning.specs.Grammar.{Sign, absent, plus, minus, sign_bytes, GivesNumber}
 use Rattle.token_meaning.proofs.Forms.{found}
 
 abbrev pub begins_number : ℕ → Bool
@@ -15,7 +15,7 @@ abbrev pub begins : List ℕ → Bool
 begins [] = false
 begins (c ∷ cs) = begins_number c
 
-signed_begins : (sign : Sign) (body : List ℕ) → begins body ≡ true → begins (spelled sign ++ body) ≡ true
+signed_begins : (sign : Sign) (body : List ℕ) → begins body ≡ true → begins (sign_bytes sign ++ body) ≡ true
 signed_begins absent body e = e
 signed_begins plus body e = refl
 signed_begins minus body e = refl

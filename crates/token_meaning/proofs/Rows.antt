@@ -10,7 +10,7 @@ use Rattle.token_scan.specs.declared.mark.Mark.TheVariants.{Plain, Quoted, Bar}
 use Rattle.token_meaning.specs.declared.refusal.MeaningRefusal.{MeaningRefusal}
 use Rattle.token_meaning.specs.declared.refusal.MeaningRefusal.TheVariants.{DotsOnly, FloatToken, NumberRange, ZeroDenominator, PackageMarkers}
 use Rattle.token_meaning.specs.declared.token.TokenName.TheVariants.{Unqualified, Keyword, External, Internal}
-use Rattle.token_meaning.specs.Folding.{folded}
+use Rattle.token_meaning.specs.Folding.{folded_marks}
 use Rattle.token_meaning.specs.Numerals.{numeral_value}
 use Rattle.token_meaning.specs.Meanings.{Meaning, number, dot, name, meaning_of, rational_of}
 
@@ -124,6 +124,6 @@ cases =
     -- inverted beside escapes
     (Invert, (Plain 97 ∷ Quoted 66 ∷ [], Plain 65 ∷ Quoted 66 ∷ [])) ∷ []
 
-marks_fold : map (λ r. folded r.0 r.1.0) cases ≡ map (λ r. r.1.1) cases
+marks_fold : map (λ r. folded_marks r.0 r.1.0) cases ≡ map (λ r. r.1.1) cases
 unfolding cases
 marks_fold = refl

@@ -3,7 +3,7 @@ use Rattle.std.proofs.Common.{◌≡◌, ℕ, Bool, true, false, ◌||◌, List,
 use Rattle.std.specs.Prelude.{◌==◌}
 use Rattle.std.proofs.lemmas.Bool.{eqb-true}
 use Rattle.token_meaning.specs.Numerals.{is_sign, without_sign, is_negative}
-use Rattle.token_meaning.specs.Grammar.{Sign, absent, plus, minus, spelled, is_minus}
+use Rattle.token_meaning.specs.Grammar.{Sign, absent, plus, minus, sign_bytes, is_minus}
 
 abbrev pub is_signed : List ℕ → Bool
 is_signed [] = false
@@ -17,14 +17,14 @@ unsigned : (body : List ℕ) → is_signed body ≡ false → (without_sign body
 unsigned [] e = (refl, refl)
 unsigned (c ∷ cs) e = (rw e refl, second (c == 43) (c == 45) e)
 
-pub behind_sign : (sign : Sign) (body : List ℕ) → is_signed body ≡ false → (without_sign (spelled sign ++ body) ≡ body) × (is_negative (spelled sign ++ body) ≡ is_minus sign)
+pub behind_sign : (sign : Sign) (body : List ℕ) → is_signed body ≡ false → (without_sign (sign_bytes sign ++ body) ≡ body) × (is_negative (sign_bytes sign ++ body) ≡ is_minus sign)
 behind_sign absent body e = unsigned body e
 behind_sign plus body e = (refl, refl)
 behind_sign minus body e = (refl, refl)
 
 pub record HasSign (text : List ℕ) : Type 0 where
   pub sign : Sign
-  pub joined : text ≡ spelled sign ++ without_sign text
+  pub joined : text ≡ sign_bytes sign ++ without_sign text
   pub below_zero : is_negative text ≡ is_minus sign
 
 at_front : (c : ℕ) (cs : List ℕ) (is_plus is_dash : Bool) → (c == 43) ≡ is_plus → (c == 45) ≡ is_dash → HasSign (c ∷ cs)

@@ -10,7 +10,7 @@ use Rattle.token_meaning.specs.declared.refusal.MeaningRefusal.{MeaningRefusal}
 use Rattle.token_meaning.specs.declared.refusal.MeaningRefusal.TheVariants.{FloatToken}
 use Rattle.token_meaning.specs.Numerals.{is_empty, is_numeral, are_digits, numeral_value, without_sign, is_negative, cut_at_first}
 use Rattle.token_meaning.specs.Numbers.{is_point, is_slash, is_exponent_marker, integer_of, ratio_of, decimal_form, ratio_form, is_pointed, is_mantissa, is_scaled, is_float, rational_form, unsigned_number, number_in_base, rational_number}
-use Rattle.token_meaning.specs.Grammar.{Sign, absent, plus, minus, spelled, is_minus, IsDigits, IsDecimal, IsInteger, IsRatio, IsExponent, IsPointed, IsScaled, IsFloat}
+use Rattle.token_meaning.specs.Grammar.{Sign, absent, plus, minus, sign_bytes, is_minus, IsDigits, IsDecimal, IsInteger, IsRatio, IsExponent, IsPointed, IsScaled, IsFloat}
 use Rattle.token_meaning.proofs.Parts.{cut_with, cut_without, CutAt, cut_parts}
 use Rattle.token_meaning.proofs.Signs.{is_signed, behind_sign}
 use Rattle.token_meaning.proofs.Digits.{point_no_digit, slash_no_digit, marker_no_digit, marker_no_slash, none_among, mixed, numeral_digits, numeral_some, numeral_unsigned, digits_unsigned}
@@ -18,7 +18,7 @@ use Rattle.token_meaning.proofs.Forms.{digits_form, decimal_is}
 
 -- ---- the forms in turn
 
-at_body : (base : ℕ) (text : List ℕ) (sign : Sign) (body : List ℕ) (negative : Bool) → text ≡ spelled sign ++ body → is_signed body ≡ false → negative ≡ is_minus sign
+at_body : (base : ℕ) (text : List ℕ) (sign : Sign) (body : List ℕ) (negative : Bool) → text ≡ sign_bytes sign ++ body → is_signed body ≡ false → negative ≡ is_minus sign
     → number_in_base base text ≡ unsigned_number base negative body
 at_body base text sign body negative parts first below =
     let both = behind_sign sign body first in
@@ -26,7 +26,7 @@ at_body base text sign body negative parts first below =
     let body_there : without_sign text ≡ body = ap without_sign parts ∙ both.0 in
     ap (λ (b : Bool). unsigned_number base b (without_sign text)) minus_there ∙ ap (λ (xs : List ℕ). unsigned_number base negative xs) body_there
 
-rational_body : (base : ℕ) (text : List ℕ) (sign : Sign) (body : List ℕ) (negative : Bool) → text ≡ spelled sign ++ body → is_signed body ≡ false → negative ≡ is_minus sign
+rational_body : (base : ℕ) (text : List ℕ) (sign : Sign) (body : List ℕ) (negative : Bool) → text ≡ sign_bytes sign ++ body → is_signed body ≡ false → negative ≡ is_minus sign
     → rational_number base text ≡ rational_form base negative body
 rational_body base text sign body negative parts first below =
     let both = behind_sign sign body first in
@@ -140,7 +140,7 @@ record IsFloating (body : List ℕ) : Type 0 where
   slash : list_any is_slash body ≡ false
   float : is_float body ≡ true
 
-float_body : (base : ℕ) (text : List ℕ) (sign : Sign) (body : List ℕ) → text ≡ spelled sign ++ body → NoInteger base text → IsFloating body
+float_body : (base : ℕ) (text : List ℕ) (sign : Sign) (body : List ℕ) → text ≡ sign_bytes sign ++ body → NoInteger base text → IsFloating body
     → number_in_base base text ≡ Some (Err FloatToken)
 float_body base text sign body parts none h =
     let there : without_sign text ≡ body = ap without_sign parts ∙ (behind_sign sign body h.first).0 in
@@ -196,20 +196,20 @@ cut_mantissa whole fraction e f some =
       form = ap (is_mantissa (whole ++ 46 ∷ fraction)) there ∙ and_from _ _ (and_from (are_digits 10 whole) (are_digits 10 fraction) e f) kept;
     }
 
-no_slash_signed : (sign : Sign) (ds : List ℕ) → list_any is_slash ds ≡ false → list_any is_slash (spelled sign ++ ds) ≡ false
+no_slash_signed : (sign : Sign) (ds : List ℕ) → list_any is_slash ds ≡ false → list_any is_slash (sign_bytes sign ++ ds) ≡ false
 no_slash_signed absent ds e = e
 no_slash_signed plus ds e = e
 no_slash_signed minus ds e = e
 
-behind_marker : (sign : Sign) (digits : List ℕ) → is_numeral 10 digits ≡ true → is_numeral 10 (without_sign (spelled sign ++ digits)) ≡ true
+behind_marker : (sign : Sign) (digits : List ℕ) → is_numeral 10 digits ≡ true → is_numeral 10 (without_sign (sign_bytes sign ++ digits)) ≡ true
 behind_marker sign digits e =
     let unsigned : is_signed digits ≡ false = subst (λ (xs : List ℕ). is_signed xs ≡ false) (append-nil digits) (numeral_unsigned 10 digits [] (lit≤ tt) e) in
     ap (is_numeral 10) (behind_sign sign digits unsigned).0 ∙ e
 
 marked_floating : (mantissa : List ℕ) (marker : ℕ) (sign : Sign) (digits : List ℕ) → IsMantissa mantissa → is_exponent_marker marker ≡ true → is_numeral 10 digits ≡ true
-    → IsFloating (mantissa ++ marker ∷ (spelled sign ++ digits))
+    → IsFloating (mantissa ++ marker ∷ (sign_bytes sign ++ digits))
 marked_floating mantissa marker sign digits h e f =
-    let tail = spelled sign ++ digits in
+    let tail = sign_bytes sign ++ digits in
     let there : cut_at_first is_exponent_marker (mantissa ++ marker ∷ tail) ≡ Some (mantissa, tail) = cut_with is_exponent_marker mantissa marker tail h.marker e in
     record {
       first = h.first (marker ∷ tail);
@@ -246,7 +246,7 @@ float_given base text (inr p) none = float_body base text p.sign _ p.parts none 
 
 -- ---- a ratio alone has a slash
 
-slash_behind : (text : List ℕ) (sign : Sign) (body : List ℕ) → text ≡ spelled sign ++ body → list_any is_slash text ≡ list_any is_slash body
+slash_behind : (text : List ℕ) (sign : Sign) (body : List ℕ) → text ≡ sign_bytes sign ++ body → list_any is_slash text ≡ list_any is_slash body
 slash_behind text absent body e = ap (list_any is_slash) e
 slash_behind text plus body e = ap (list_any is_slash) e
 slash_behind text minus body e = ap (list_any is_slash) e

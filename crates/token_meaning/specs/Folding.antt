@@ -26,28 +26,28 @@ abbrev pub in_lower_case : List Mark → List Mark
 in_lower_case marks = map (on_plain lower_case) marks
 
 -- whether it is a character that passes and was not escaped
-abbrev pub is_plain_and : (ℕ → Bool) → Mark → Bool
-is_plain_and test (Plain c) = test c
-is_plain_and test (Quoted c) = false
-is_plain_and test Bar = false
+abbrev pub is_unescaped_and : (ℕ → Bool) → Mark → Bool
+is_unescaped_and test (Plain c) = test c
+is_unescaped_and test (Quoted c) = false
+is_unescaped_and test Bar = false
 
 -- whether a letter that is not escaped is in upper case
 abbrev pub has_upper_case : List Mark → Bool
-has_upper_case marks = list_any (is_plain_and is_upper_case) marks
+has_upper_case marks = list_any (is_unescaped_and is_upper_case) marks
 
 -- whether a letter that is not escaped is in lower case
 abbrev pub has_lower_case : List Mark → Bool
-has_lower_case marks = list_any (is_plain_and is_lower_case) marks
+has_lower_case marks = list_any (is_unescaped_and is_lower_case) marks
 
 -- all the letters in the other case where they have one case, and as they are where they have both
-abbrev pub inverted : List Mark → List Mark
-inverted marks =
+abbrev pub inverted_marks : List Mark → List Mark
+inverted_marks marks =
     if not (has_upper_case marks) then in_upper_case marks
     else (if not (has_lower_case marks) then in_lower_case marks else marks)
 
 -- the marks of a whole token, its package prefix included, by the case of the readtable
-abbrev pub folded : Case → List Mark → List Mark
-folded Upcase marks = in_upper_case marks
-folded Downcase marks = in_lower_case marks
-folded Preserve marks = marks
-folded Invert marks = inverted marks
+abbrev pub folded_marks : Case → List Mark → List Mark
+folded_marks Upcase marks = in_upper_case marks
+folded_marks Downcase marks = in_lower_case marks
+folded_marks Preserve marks = marks
+folded_marks Invert marks = inverted_marks marks

@@ -14,10 +14,10 @@ pub data Sign : Type 0 where
   minus : Sign
 
 -- 43 is plus, 45 minus
-abbrev pub spelled : Sign → List ℕ
-spelled absent = []
-spelled plus = 43 ∷ []
-spelled minus = 45 ∷ []
+abbrev pub sign_bytes : Sign → List ℕ
+sign_bytes absent = []
+sign_bytes plus = 43 ∷ []
+sign_bytes minus = 45 ∷ []
 
 abbrev pub is_minus : Sign → Bool
 is_minus absent = false
@@ -29,7 +29,7 @@ pub record IsDigits (base : ℕ) (text : List ℕ) (negative : Bool) (size : ℕ
   pub sign : Sign
   pub digits : List ℕ
   pub numeral : is_numeral base digits ≡ true
-  pub parts : text ≡ spelled sign ++ digits
+  pub parts : text ≡ sign_bytes sign ++ digits
   pub below_zero : negative ≡ is_minus sign
   pub worth : size ≡ numeral_value base digits
 
@@ -38,7 +38,7 @@ pub record IsDecimal (text : List ℕ) (negative : Bool) (size : ℕ) : Type 0 w
   pub sign : Sign
   pub digits : List ℕ
   pub numeral : is_numeral 10 digits ≡ true
-  pub parts : text ≡ spelled sign ++ (digits ++ 46 ∷ [])
+  pub parts : text ≡ sign_bytes sign ++ (digits ++ 46 ∷ [])
   pub below_zero : negative ≡ is_minus sign
   pub worth : size ≡ numeral_value 10 digits
 
@@ -53,7 +53,7 @@ pub record IsRatio (base : ℕ) (text : List ℕ) (negative : Bool) (numerator d
   pub below : List ℕ
   pub numeral_above : is_numeral base above ≡ true
   pub numeral_below : is_numeral base below ≡ true
-  pub parts : text ≡ spelled sign ++ (above ++ 47 ∷ below)
+  pub parts : text ≡ sign_bytes sign ++ (above ++ 47 ∷ below)
   pub below_zero : negative ≡ is_minus sign
   pub worth_above : numerator ≡ numeral_value base above
   pub worth_below : denominator ≡ numeral_value base below
@@ -65,7 +65,7 @@ pub record IsExponent (text : List ℕ) : Type 0 where
   pub digits : List ℕ
   pub marks : is_exponent_marker marker ≡ true
   pub numeral : is_numeral 10 digits ≡ true
-  pub parts : text ≡ marker ∷ spelled sign ++ digits
+  pub parts : text ≡ marker ∷ sign_bytes sign ++ digits
 
 -- [sign] decimal-digit* decimal-point decimal-digit+ [exponent]
 pub record IsPointed (text : List ℕ) : Type 0 where
@@ -76,7 +76,7 @@ pub record IsPointed (text : List ℕ) : Type 0 where
   pub digits : are_digits 10 whole ≡ true
   pub numeral : is_numeral 10 fraction ≡ true
   pub scale : (exponent ≡ []) ⊎ IsExponent exponent
-  pub parts : text ≡ spelled sign ++ (whole ++ 46 ∷ (fraction ++ exponent))
+  pub parts : text ≡ sign_bytes sign ++ (whole ++ 46 ∷ (fraction ++ exponent))
 
 -- a decimal point and decimal-digit*
 pub record IsFraction (text : List ℕ) : Type 0 where
@@ -93,7 +93,7 @@ pub record IsScaled (text : List ℕ) : Type 0 where
   pub numeral : is_numeral 10 whole ≡ true
   pub rest : (fraction ≡ []) ⊎ IsFraction fraction
   pub scale : IsExponent exponent
-  pub parts : text ≡ spelled sign ++ (whole ++ (fraction ++ exponent))
+  pub parts : text ≡ sign_bytes sign ++ (whole ++ (fraction ++ exponent))
 
 -- a float of either form (standard 2.3.2.2)
 abbrev pub IsFloat : List ℕ → Type 0

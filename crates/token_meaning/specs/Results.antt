@@ -79,10 +79,10 @@ is_ascii_name (External prefix own) = list_all is_ascii prefix && list_all is_as
 is_ascii_name (Internal prefix own) = list_all is_ascii prefix && list_all is_ascii own
 
 -- if it is a name, its bytes are below 128
-abbrev pub IsAsciiName : TokenMeaning → Type 0
-IsAsciiName (Number datum) = Unit {0}
-IsAsciiName Dot = Unit {0}
-IsAsciiName (Name own) = is_ascii_name own ≡ true
+abbrev pub HasAsciiName : TokenMeaning → Type 0
+HasAsciiName (Number datum) = Unit {0}
+HasAsciiName Dot = Unit {0}
+HasAsciiName (Name own) = is_ascii_name own ≡ true
 
 -- ---- numbers
 

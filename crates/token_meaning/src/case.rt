@@ -2,7 +2,7 @@
 ghost use Rattle.std.specs.Prelude.{◌≡◌, IsTrue};
 ghost use Rattle.readtable_core.specs.Characters.{upper_case};
 ghost use Rattle.token_scan.specs.Marks.{are_ascii};
-ghost use Rattle.token_meaning.specs.Folding.{lower_case, on_plain, in_upper_case, in_lower_case, has_upper_case, has_lower_case, inverted, folded};
+ghost use Rattle.token_meaning.specs.Folding.{lower_case, on_plain, in_upper_case, in_lower_case, has_upper_case, has_lower_case, inverted_marks, folded_marks};
 
 use readtable_core::Case;
 use token_scan::Mark;
@@ -11,14 +11,14 @@ use token_scan::Mark;
 /// included. Letters that were escaped stay as they are. `Invert` turns all the letters to the other case where they have
 /// one case, and else none. Takes no memory.
 pub fn fold_case(case: Case, marks: &mut [Mark])
-    ensures value { marks.new ≡ folded case marks.old }
+    ensures value { marks.new ≡ folded_marks case marks.old }
     ensures ascii { IsTrue (are_ascii marks.old) → IsTrue (are_ascii marks.new) }
 {
     fold(case, marks);
 }
 
 fn fold(case: Case, marks: &mut [Mark])
-    ensures { marks.new ≡ folded case marks.old }
+    ensures { marks.new ≡ folded_marks case marks.old }
 {
     match case {
         Case::Upcase => upcase(marks),
@@ -29,7 +29,7 @@ fn fold(case: Case, marks: &mut [Mark])
 }
 
 fn invert(marks: &mut [Mark])
-    ensures { marks.new ≡ inverted marks.old }
+    ensures { marks.new ≡ inverted_marks marks.old }
 {
     if !has_upper_case(marks) {
         upcase(marks);

@@ -5,7 +5,7 @@ ghost use Rattle.lisp_object.specs.Datum.{is_proper};
 ghost use Rattle.token_scan.specs.Marks.{are_ascii};
 ghost use Rattle.token_meaning.specs.Meanings.{is_unescaped, name_of_marks, dots_of, number_meaning, meaning_of, rational_of};
 ghost use Rattle.token_meaning.specs.Leading.{codes_of, is_dot};
-ghost use Rattle.token_meaning.specs.Results.{AnswersMeaning, view_number, IsProperNumber, IsAsciiName};
+ghost use Rattle.token_meaning.specs.Results.{AnswersMeaning, view_number, IsProperNumber, HasAsciiName};
 
 use crate::names::name;
 use crate::numbers::{number, rational_number};
@@ -51,7 +51,7 @@ pub fn meaning(alloc: Global, marks: &[Mark], base: u8) -> Result<TokenMeaning, 
     requires highest_base { base ≤ 36 }
     ensures gives { AnswersMeaning result (meaning_of base marks.now) }
     ensures proper { IfOk result IsProperNumber }
-    ensures ascii { IsTrue (are_ascii marks.now) → IfOk result IsAsciiName }
+    ensures ascii { IsTrue (are_ascii marks.now) → IfOk result HasAsciiName }
 {
     if !are_plain(marks) {
         return named(alloc, marks);
@@ -101,7 +101,7 @@ fn numbered(given: Result<Datum, MeaningRefusal>) -> Result<TokenMeaning, Meanin
     requires { IfOk given (λ datum. is_proper datum ≡ true) }
     ensures gives { AnswersMeaning result (number_meaning (view_number given)) }
     ensures proper { IfOk result IsProperNumber }
-    ensures ascii { IfOk result IsAsciiName }
+    ensures ascii { IfOk result HasAsciiName }
 {
     match given {
         Ok(datum) => Ok(TokenMeaning::Number(datum)),
@@ -112,7 +112,7 @@ fn numbered(given: Result<Datum, MeaningRefusal>) -> Result<TokenMeaning, Meanin
 fn named(alloc: Global, marks: &[Mark]) -> Result<TokenMeaning, MeaningError>
     ensures gives { AnswersMeaning result (name_of_marks marks.now) }
     ensures proper { IfOk result IsProperNumber }
-    ensures ascii { IsTrue (are_ascii marks.now) → IfOk result IsAsciiName }
+    ensures ascii { IsTrue (are_ascii marks.now) → IfOk result HasAsciiName }
 {
     match name(alloc, marks) {
         Ok(own) => Ok(TokenMeaning::Name(own)),
@@ -124,7 +124,7 @@ fn named(alloc: Global, marks: &[Mark]) -> Result<TokenMeaning, MeaningError>
 fn dots(marks: &[Mark]) -> Result<TokenMeaning, MeaningError>
     ensures gives { AnswersMeaning result (dots_of (codes_of marks.now)) }
     ensures proper { IfOk result IsProperNumber }
-    ensures ascii { IfOk result IsAsciiName }
+    ensures ascii { IfOk result HasAsciiName }
 {
     if marks.len() == 1 {
         Ok(TokenMeaning::Dot)

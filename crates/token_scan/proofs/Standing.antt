@@ -3,7 +3,7 @@ use Rattle.std.proofs.Common.{◌≡◌, ◌≤◌, ◌+◌, ℕ, false, List, [
 use Rattle.std.proofs.lemmas.List.{length-map, map-append}
 use Rattle.readtable_core.specs.Tables.{Table}
 use Rattle.token_scan.specs.declared.mark.Mark.{Mark}
-use Rattle.token_scan.specs.Tokens.{TypedByte, Scanned, typed, typed_text, in_bytes, token, token_in, escaped_token, escaped_token_in}
+use Rattle.token_scan.specs.Tokens.{TypedByte, Scanned, typed_byte, typed_text, in_bytes, token, token_in, escaped_token, escaped_token_in}
 use Rattle.token_scan.specs.Marks.{character_count}
 use Rattle.token_scan.specs.Spelling.{Spells, SpellsEscaped, IsSpelledAt, may_end}
 use Rattle.token_scan.proofs.Spelled.{spelled_gives, escaped_gives}
@@ -31,9 +31,9 @@ typed_again table text [] rest e = record {
 }
 typed_again table [] (x ∷ front) rest e = absurd cc
 typed_again table (c ∷ cs) (x ∷ front) rest e =
-    let same : typed table c ≡ x = cc in
+    let same : typed_byte table c ≡ x = cc in
     let others : typed_text table cs ≡ front ++ rest = cc in
-    let again : typed table x.byte ≡ x = ap (λ (y : TypedByte). typed table y.byte) (sym same) ∙ same in
+    let again : typed_byte table x.byte ≡ x = ap (λ (y : TypedByte). typed_byte table y.byte) (sym same) ∙ same in
     let both = typed_again table cs front rest others in
     record { of_front = λ i. again i ∷ both.of_front i; of_rest = both.of_rest }
 
@@ -50,7 +50,7 @@ given_again : (spells : List TypedByte → List Mark → Type 0) (scanned : List
     → in_bytes (scanned (typed_text table (bytes taken ++ other))) ≡ Ok (marks, at + length taken, other)
 given_again spells scanned table limit at taken marks other gives again spelled fits ends =
     let joined : typed_text table (bytes taken ++ other) ≡ taken ++ typed_text table other
-    = map-append (typed table) (bytes taken) other ∙ ap (λ (xs : List TypedByte). xs ++ typed_text table other) again in
+    = map-append (typed_byte table) (bytes taken) other ∙ ap (λ (xs : List TypedByte). xs ++ typed_text table other) again in
     ap (λ (xs : List TypedByte). in_bytes (scanned xs)) joined
     ∙ ap in_bytes (gives taken marks (typed_text table other) spelled fits ends)
     ∙ (λ i. Ok (marks, at + length taken, bytes_typed table other i))

@@ -47,8 +47,8 @@ is_empty_token _ _ = false
 abbrev pub has_begun : Scan → Bool
 has_begun scan = not (is_empty_token scan.marks scan.stage)
 
-abbrev pub refused : Scan → ScanRefusal → Scan
-refused scan refusal = record scan { stage = Refused refusal }
+abbrev pub refused_scan : Scan → ScanRefusal → Scan
+refused_scan scan refusal = record scan { stage = Refused refusal }
 
 -- ---- what a byte does
 
@@ -76,7 +76,7 @@ fed_gives (FedRefused refusal) new at x more = fault_of_scan refusal at
 abbrev pub LeavesBy : List Mark → Bool → FedByte → Scan → Scan → Type 0
 LeavesBy marks ends More old new = (new.marks ≡ old.marks ++ marks) × IsTrue (has_begun new)
 LeavesBy marks ends Ended old new = (new ≡ old) × (old.stage ≡ Outside) × IsTrue ends
-LeavesBy marks ends (FedRefused refusal) old new = new ≡ refused old refusal
+LeavesBy marks ends (FedRefused refusal) old new = new ≡ refused_scan old refusal
 
 -- what a byte leaves of a scan
 abbrev pub ScanLeaves : FedByte → Scan → TypedByte → Scan → Type 0

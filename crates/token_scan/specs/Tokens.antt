@@ -113,11 +113,11 @@ escaped_token limit at text = escaped_outside limit at text
 -- ---- the same of a text of bytes under a readtable
 
 -- a byte with its syntax type in this readtable
-abbrev pub typed : Table → ℕ → TypedByte
-typed table c = met (entry_at table c).syntax c
+abbrev pub typed_byte : Table → ℕ → TypedByte
+typed_byte table c = met (entry_at table c).syntax c
 
 abbrev pub typed_text : Table → List ℕ → List TypedByte
-typed_text table text = map (typed table) text
+typed_text table text = map (typed_byte table) text
 
 -- the marks, the offset after the token and the rest of the bytes, or the first fault
 abbrev pub ScannedBytes : Type 0

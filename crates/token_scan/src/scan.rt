@@ -47,7 +47,7 @@ impl Model for TokenScan {
 
 impl TokenScan {
     ghost use Rattle.token_scan.specs.declared.scan.FedByte.TheVariants.{More, Refused as FedRefused};
-    ghost use Rattle.token_scan.specs.ByteByByte.{first_scan, begun_escaped, refused, from_stage, token_from, fed_gives, LeavesBy, ScanLeaves};
+    ghost use Rattle.token_scan.specs.ByteByByte.{first_scan, begun_escaped, refused_scan, from_stage, token_from, fed_gives, LeavesBy, ScanLeaves};
 
     /// An empty token of at most `limit` characters, which bars and escapes are not. It keeps `alloc` for its marks.
     pub fn begin(alloc: Global, limit: usize) -> TokenScan
@@ -113,7 +113,7 @@ impl TokenScan {
             (λ refusal. token_from self.old at [] ≡ fault_of_scan refusal at) }
         ensures leaves { MatchResult result
             (λ _. (self.new ≡ self.old) × (self.old.stage ≡ Outside))
-            (λ refusal. self.new ≡ refused self.old refusal) }
+            (λ refusal. self.new ≡ refused_scan self.old refusal) }
         ensures repeats { (refusal : ScanRefusal) → self.old.stage ≡ Refused refusal
             → result ≡ Err refusal }
     {
@@ -256,7 +256,7 @@ impl TokenScan {
 
     fn refuse(&mut self, refusal: ScanRefusal) -> FedByte
         ensures value { result ≡ FedRefused refusal }
-        ensures after { self.new ≡ refused self.old refusal }
+        ensures after { self.new ≡ refused_scan self.old refusal }
     {
         self.stage = Stage::Refused(refusal);
         FedByte::Refused(refusal)

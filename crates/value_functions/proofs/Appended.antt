@@ -7,10 +7,10 @@ use Rattle.lisp_object.specs.declared.refusal.TheConstants.{ARGUMENT_KIND}
 use Rattle.lisp_object.specs.declared.datum.Datum.{Datum}
 use Rattle.lisp_object.specs.Datum.{object_of}
 use Rattle.lisp_object.proofs.ProperLists.{nil_symbol}
-use Rattle.lisp_operators.specs.Evaluated.{objects}
+use Rattle.lisp_operators.specs.EvaluationAnswers.{objects}
 use Rattle.value_functions.specs.FunctionAnswers.{then_value}
 use Rattle.value_functions.specs.Sequences.{items_of}
-use Rattle.value_functions.specs.Building.{appended}
+use Rattle.value_functions.specs.Building.{appended_lists}
 use Rattle.value_functions.proofs.Joins.{joined_more, not_joined}
 
 pair_list : (a b : Object) (xs : List Object) (o : Option (List Object)) → ((ys : List Object) → o ≡ Some ys → b ≡ list_of ys) → option_map (λ ys. a ∷ ys) o ≡ Some xs → pair a b ≡ list_of xs
@@ -38,14 +38,14 @@ not_proper (symbol h n) is = elim (is_nil h n) as (λ t. cond {A = Option (List 
 not_proper _ is = refl
 
 pub append_next : (ds : List Datum) (at : ℕ) (d : Datum) (front xs : List Object) → at + 1 < length ds → items_of (object_of (slice_index_or ds at d)) ≡ Some xs
-    → then_value (appended (objects (drop at ds))) (λ end. Ok (pairs front end)) ≡ then_value (appended (objects (drop (suc at) ds))) (λ end. Ok (pairs (front ++ xs) end))
+    → then_value (appended_lists (objects (drop at ds))) (λ end. Ok (pairs front end)) ≡ then_value (appended_lists (objects (drop (suc at) ds))) (λ end. Ok (pairs (front ++ xs) end))
 append_next [] at d front xs e is = absurd (omega (arith, e))
 append_next (x ∷ []) at d front xs e is = absurd (omega (arith, e))
 append_next (x ∷ y ∷ ys) zero d front xs e is = joined_more front xs (object_of x) (object_of y) (objects ys) (list_of_items (object_of x) xs is)
 append_next (x ∷ y ∷ ys) (suc at) d front xs e is = append_next (y ∷ ys) at d front xs (omega (arith, e)) is
 
 pub append_stops : (ds : List Datum) (at : ℕ) (d : Datum) (front : List Object) → at + 1 < length ds → items_of (object_of (slice_index_or ds at d)) ≡ None
-    → then_value (appended (objects (drop at ds))) (λ end. Ok (pairs front end)) ≡ Err ARGUMENT_KIND
+    → then_value (appended_lists (objects (drop at ds))) (λ end. Ok (pairs front end)) ≡ Err ARGUMENT_KIND
 append_stops [] at d front e is = absurd (omega (arith, e))
 append_stops (x ∷ []) at d front e is = absurd (omega (arith, e))
 append_stops (x ∷ y ∷ ys) zero d front e is = not_joined front (object_of x) (object_of y) (objects ys) (not_proper (object_of x) is)

@@ -2,7 +2,7 @@
 use Rattle.std.proofs.Common.{pos, List, [], ◌∷◌, map, length, ◌≤◌, ◌<◌, Result, arith}
 use Rattle.lisp_object.specs.declared.datum.Datum.{Datum}
 use Rattle.lisp_operators.specs.declared.error.EvaluationError.{EvaluationError}
-use Rattle.lisp_operators.specs.Evaluated.{objects}
+use Rattle.lisp_operators.specs.EvaluationAnswers.{objects}
 use Rattle.value_functions.specs.declared.functions.Arithmetic.TheVariants.{Minus}
 use Rattle.value_functions.specs.Arithmetic.{integer_in, from_left, result_of}
 use Rattle.value_functions.specs.FunctionAnswers.{AnswersValue}

@@ -17,12 +17,12 @@ use Rattle.lisp_object.proofs.ProperLists.{proper_list_items, proper_vector_item
 use Rattle.lisp_object.proofs.Properness.{is_proper-Vector}
 use Rattle.std.specs.List.{list_all}
 use Rattle.std.proofs.lemmas.List.Sums.{AllPass-from_list_all, list_all-from_AllPass}
-use Rattle.lisp_operators.specs.Evaluated.{objects, AreProper}
+use Rattle.lisp_operators.specs.EvaluationAnswers.{objects, AreProper}
 use Rattle.lisp_operators.proofs.Shapes.{pair_at, dotted_pair}
 use Rattle.value_functions.specs.FunctionAnswers.{FunctionValue, then_value}
 use Rattle.value_functions.specs.Predicates.{is_vector}
 use Rattle.value_functions.specs.Sequences.{list, items, items_of, a_sequence, a_vector}
-use Rattle.value_functions.specs.Building.{followed_by, appended}
+use Rattle.value_functions.specs.Building.{followed_by, appended_lists}
 
 pub items_of_list : (xs : List Object) → items_of (list_of xs) ≡ Some xs
 items_of_list [] = refl
@@ -111,26 +111,26 @@ followed_kind (uninterned n) end = refl
 followed_kind (pair a b) end = kind_then (followed_by b end) (λ joined. Ok (pair a joined)) (followed_kind b end) (λ _. tt)
 followed_kind (vector xs) end = refl
 
-appended_kind : (xs : List Object) → IsOfKind (appended xs)
+appended_kind : (xs : List Object) → IsOfKind (appended_lists xs)
 appended_kind [] = tt
 appended_kind (x ∷ []) = tt
-appended_kind (x ∷ y ∷ ys) = kind_then (appended (y ∷ ys)) (followed_by x) (appended_kind (y ∷ ys)) (followed_kind x)
+appended_kind (x ∷ y ∷ ys) = kind_then (appended_lists (y ∷ ys)) (followed_by x) (appended_kind (y ∷ ys)) (followed_kind x)
 
 join : (front xs : List Object) (r : FunctionValue) → then_value (then_value r (followed_by (list_of xs))) (λ end. Ok (pairs front end)) ≡ then_value r (λ end. Ok (pairs (front ++ xs) end))
 join front xs (Err code) = refl
 join front xs (Ok end) = ap (λ v. then_value v (λ e. Ok (pairs front e))) (followed_list xs end) ∙ ap Ok (sym (pairs-append front xs end))
 
 pub joined_more : (front xs : List Object) (x y : Object) (ys : List Object) → x ≡ list_of xs
-    → then_value (appended (x ∷ y ∷ ys)) (λ end. Ok (pairs front end)) ≡ then_value (appended (y ∷ ys)) (λ end. Ok (pairs (front ++ xs) end))
-joined_more front xs x y ys is = ap (λ z. then_value (then_value (appended (y ∷ ys)) (followed_by z)) (λ end. Ok (pairs front end))) is ∙ join front xs (appended (y ∷ ys))
+    → then_value (appended_lists (x ∷ y ∷ ys)) (λ end. Ok (pairs front end)) ≡ then_value (appended_lists (y ∷ ys)) (λ end. Ok (pairs (front ++ xs) end))
+joined_more front xs x y ys is = ap (λ z. then_value (then_value (appended_lists (y ∷ ys)) (followed_by z)) (λ end. Ok (pairs front end))) is ∙ join front xs (appended_lists (y ∷ ys))
 
 cut : (front : List Object) (x : Object) (r : FunctionValue) → is_proper_list x ≡ false → IsOfKind r → then_value (then_value r (followed_by x)) (λ end. Ok (pairs front end)) ≡ Err ARGUMENT_KIND
 cut front x (Ok end) other is = ap (λ v. then_value v (λ e. Ok (pairs front e))) (followed_not x end other)
 cut front x (Err code) other is = ap Err is
 
 pub not_joined : (front : List Object) (x y : Object) (ys : List Object) → is_proper_list x ≡ false
-    → then_value (appended (x ∷ y ∷ ys)) (λ end. Ok (pairs front end)) ≡ Err ARGUMENT_KIND
-not_joined front x y ys other = cut front x (appended (y ∷ ys)) other (appended_kind (y ∷ ys))
+    → then_value (appended_lists (x ∷ y ∷ ys)) (λ end. Ok (pairs front end)) ≡ Err ARGUMENT_KIND
+not_joined front x y ys other = cut front x (appended_lists (y ∷ ys)) other (appended_kind (y ∷ ys))
 
 -- ---- proper data
 pub list_items_proper : (d : Datum) (xs ys : List Datum) (tail : Option Datum) → d ≡ Datum.List xs tail → ys ≡ xs → is_proper d ≡ true → AreProper ys

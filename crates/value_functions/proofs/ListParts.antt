@@ -14,7 +14,7 @@ use Rattle.lisp_object.specs.Object.{nil, pairs, object_is_list}
 use Rattle.lisp_object.specs.Datum.{object_of, is_proper, is_list}
 use Rattle.lisp_object.proofs.Objects.{object_of-List, object_of-dotted}
 use Rattle.lisp_object.proofs.ProperLists.{proper_list_items, end_of_proper, proper_list_object}
-use Rattle.lisp_operators.specs.Evaluated.{objects, AreProper, IsProper}
+use Rattle.lisp_operators.specs.EvaluationAnswers.{objects, AreProper, IsProper}
 use Rattle.value_functions.specs.Parts.{IsListEnd}
 
 pub all_proper : (items : List Datum) → list_all is_proper items ≡ true → AreProper items

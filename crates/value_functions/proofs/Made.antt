@@ -16,7 +16,7 @@ use Rattle.lisp_operators.proofs.Storable.{AreValues, nil_value, text_value}
 use Rattle.value_functions.specs.FunctionAnswers.{FunctionValue, then_value}
 use Rattle.value_functions.specs.Equality.{is_eql}
 use Rattle.value_functions.specs.Sequences.{Sequence, list, items, characters, items_of, a_sequence, a_vector, object_of_sequence, reversed, other_characters, without}
-use Rattle.value_functions.specs.Building.{followed_by, appended}
+use Rattle.value_functions.specs.Building.{followed_by, appended_lists}
 
 -- P holds of each element of the list backwards, and of what comes after
 onto_all : {X : Type 0} (P : X → Type 0) (xs ys : List X) → All P xs → All P ys → All P (reverse_aux xs ys)
@@ -173,8 +173,8 @@ module _ (u : packages.Table) where
     sequence_value (items xs) are = vector_value xs (items_values xs are) (omega (arith, along_items xs are))
     sequence_value (characters cs) are = text_value u cs are
 
-    pub appended_built : (xs : List Object) → AreValues u xs → IsBuilt (appended xs)
+    pub appended_built : (xs : List Object) → AreValues u xs → IsBuilt (appended_lists xs)
     appended_built [] are = record { built = made_of nil (nil_value u sound) }
     appended_built (x ∷ []) are = record { built = made_of x (All-head (IsValue u) x [] are) }
     appended_built (x ∷ y ∷ ys) are =
-        then_built x (appended (y ∷ ys)) (made_of x (All-head (IsValue u) x (y ∷ ys) are)) (appended_built (y ∷ ys) (All-tail (IsValue u) x (y ∷ ys) are))
+        then_built x (appended_lists (y ∷ ys)) (made_of x (All-head (IsValue u) x (y ∷ ys) are)) (appended_built (y ∷ ys) (All-tail (IsValue u) x (y ∷ ys) are))

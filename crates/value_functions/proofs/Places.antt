@@ -5,7 +5,7 @@ use Rattle.std.proofs.Common.{◌≡◌, ◌<◌, ◌≤◌, ◌≤ℤ◌, ◌<�
 use Rattle.lisp_object.specs.declared.refusal.TheConstants.{INTEGER_RANGE}
 use Rattle.lisp_object.specs.declared.datum.Datum.{Datum}
 use Rattle.lisp_object.specs.Datum.{object_of}
-use Rattle.lisp_operators.specs.Evaluated.{objects}
+use Rattle.lisp_operators.specs.EvaluationAnswers.{objects}
 use Rattle.value_functions.specs.Sequences.{item_in, item_at}
 
 pub item_there : (ds : List Datum) (at : ℕ) (d : Datum) → at < length ds → item_in at (objects ds) ≡ Ok (object_of (slice_index_or ds at d))

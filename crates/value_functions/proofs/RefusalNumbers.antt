@@ -30,7 +30,7 @@ use Rattle.value_functions.specs.Arithmetic.{integer_in, operation, from_left, r
 use Rattle.value_functions.specs.Texts.{a_symbol_name, a_string, less_at, place_or_nil, on_texts}
 use Rattle.value_functions.specs.Lists.{past_end, car, cdr, nth_in, nth_at, member, assoc, adjoin, on_lists}
 use Rattle.value_functions.specs.Sequences.{a_sequence, a_vector, item_in, item_at, object_of_sequence, length_of, reversed, without, on_sequences}
-use Rattle.value_functions.specs.Building.{followed_by, appended}
+use Rattle.value_functions.specs.Building.{followed_by, appended_lists}
 use Rattle.value_functions.specs.Functions.{most_arguments, function_value, call_value, if_listed}
 
 abbrev IsNumberedValue : FunctionValue → Type 0
@@ -204,10 +204,10 @@ followed_numbered (pair x rest) end = then_numbered (followed_by rest end) _ (fo
 followed_numbered (symbol home name) end = one_of (is_nil home name) (Ok end) (Err 33) (given end) not_of_kind
 followed_numbered _ end = not_of_kind
 
-appended_numbered : (xs : List Object) → IsNumbered (appended xs)
+appended_numbered : (xs : List Object) → IsNumbered (appended_lists xs)
 appended_numbered [] = given nil
 appended_numbered (x ∷ []) = given x
-appended_numbered (x ∷ y ∷ ys) = then_numbered (appended (y ∷ ys)) (followed_by x) (appended_numbered (y ∷ ys)) (followed_numbered x)
+appended_numbered (x ∷ y ∷ ys) = then_numbered (appended_lists (y ∷ ys)) (followed_by x) (appended_numbered (y ∷ ys)) (followed_numbered x)
 
 value_numbered : (f : ValueFunction) (xs : List Object) → IsNumbered (function_value f xs)
 value_numbered (function.Equality test) (x ∷ y ∷ []) = given (truth_value (is_same test x y))
@@ -222,7 +222,7 @@ value_numbered (function.Division f) xs = division_numbered f xs
 value_numbered (function.OnTexts f) xs = texts_numbered f xs
 value_numbered (function.OnLists f) xs = lists_numbered f xs
 value_numbered (function.OnSequences f) xs = sequences_numbered f xs
-value_numbered (function.Building Append) xs = then_numbered (appended xs) if_within (appended_numbered xs) within_numbered
+value_numbered (function.Building Append) xs = then_numbered (appended_lists xs) if_within (appended_numbered xs) within_numbered
 value_numbered (function.Building Vector) xs = within_numbered (vector (list_of xs))
 value_numbered _ _ = not_of_kind
 

@@ -37,7 +37,7 @@ use Rattle.value_functions.specs.Arithmetic.{integer_in, operation, from_left, r
 use Rattle.value_functions.specs.Texts.{a_symbol_name, a_string, less_at, place_or_nil, on_texts}
 use Rattle.value_functions.specs.Lists.{past_end, car, cdr, nth_in, nth_at, member, assoc, on_lists}
 use Rattle.value_functions.specs.Sequences.{a_sequence, a_vector, item_in, item_at, object_of_sequence, length_of, reversed, without, on_sequences}
-use Rattle.value_functions.specs.Building.{appended}
+use Rattle.value_functions.specs.Building.{appended_lists}
 use Rattle.value_functions.specs.Functions.{most_arguments, function_value, call_value, if_listed}
 use Rattle.value_functions.proofs.Made.{IsItem, IsBuilt, made_value, vector_value, sequence_value, sequence_parts, reversed_parts, without_parts, vector_parts, appended_built}
 use Rattle.value_functions.proofs.RefusalNumbers.{where_test, where_kind}
@@ -260,7 +260,7 @@ module _ (u : packages.Table) where
     value_storable (function.OnTexts f) xs are = texts_storable f xs are
     value_storable (function.OnLists f) xs are = lists_storable f xs are
     value_storable (function.OnSequences f) xs are = sequences_storable f xs are
-    value_storable (function.Building Append) xs are = built_storable (appended xs) (appended_built u sound xs are)
+    value_storable (function.Building Append) xs are = built_storable (appended_lists xs) (appended_built u sound xs are)
     value_storable (function.Building Vector) xs are = within_storable (vector (list_of xs)) (vector_value u sound xs are)
     value_storable _ _ are = refused 33
 

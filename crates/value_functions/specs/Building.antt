@@ -13,12 +13,12 @@ followed_by (symbol home name) end = if is_nil home name then Ok end else Err AR
 followed_by _ end = Err ARGUMENT_KIND
 
 -- APPEND: the items of lists that end in NIL, and whatever comes last after them
-abbrev pub appended : List Object → FunctionValue
-appended [] = Ok nil
-appended (x ∷ []) = Ok x
-appended (x ∷ xs) = then_value (appended xs) (followed_by x)
+abbrev pub appended_lists : List Object → FunctionValue
+appended_lists [] = Ok nil
+appended_lists (x ∷ []) = Ok x
+appended_lists (x ∷ xs) = then_value (appended_lists xs) (followed_by x)
 
 -- what APPEND and VECTOR give of their arguments
 abbrev pub building : Building → List Object → FunctionValue
-building Append xs = then_value (appended xs) if_within
+building Append xs = then_value (appended_lists xs) if_within
 building Vector xs = if_within (vector (list_of xs))

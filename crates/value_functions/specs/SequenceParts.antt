@@ -1,5 +1,5 @@
 -- A sequence as the code has it.
-use Rattle.lisp_operators.specs.Evaluated.{objects, AreProper, IsAscii}
+use Rattle.lisp_operators.specs.EvaluationAnswers.{objects, AreProper, IsAscii}
 use Rattle.value_functions.specs.declared.sequences.SequenceParts.{SequenceParts}
 use Rattle.value_functions.specs.declared.sequences.SequenceParts.TheVariants as parts
 use Rattle.value_functions.specs.Sequences.{Sequence, list, items, characters}

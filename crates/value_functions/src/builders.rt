@@ -1,6 +1,6 @@
 //! What is built of any number of objects (standard 14.2, 15.2).
 ghost use Rattle.std.specs.Prelude.{◌≡◌, IfOk};
-ghost use Rattle.lisp_operators.specs.Evaluated.{IsProper, AreProper, objects};
+ghost use Rattle.lisp_operators.specs.EvaluationAnswers.{IsProper, AreProper, objects};
 ghost use Rattle.value_functions.specs.Building.{building};
 ghost use Rattle.value_functions.specs.FunctionAnswers.{AnswersValue};
 

@@ -1,6 +1,6 @@
 //! The value of a function.
 ghost use Rattle.std.specs.Prelude.{IfOk};
-ghost use Rattle.lisp_operators.specs.Evaluated.{IsProper, AreProper, objects};
+ghost use Rattle.lisp_operators.specs.EvaluationAnswers.{IsProper, AreProper, objects};
 ghost use Rattle.value_functions.specs.Functions.{function_value};
 ghost use Rattle.value_functions.specs.FunctionAnswers.{AnswersValue};
 

@@ -2,7 +2,7 @@
 ghost use Rattle.std.specs.Prelude.{◌≡◌, ◌<◌, ◌*◌, nat_lt, IfOk, true};
 ghost use Rattle.std.specs.List.{list_all};
 ghost use Rattle.lisp_object.specs.Datum.{object_of};
-ghost use Rattle.lisp_operators.specs.Evaluated.{IsProper, AreProper, objects};
+ghost use Rattle.lisp_operators.specs.EvaluationAnswers.{IsProper, AreProper, objects};
 ghost use Rattle.value_functions.specs.Comparisons.{is_number, fraction_of, is_less, compares, is_chain, comparison};
 ghost use Rattle.value_functions.specs.FunctionAnswers.{AnswersValue};
 

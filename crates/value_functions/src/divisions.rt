@@ -1,7 +1,7 @@
 //! Division of integers, rounded down (standard 12.2).
 ghost use Rattle.std.specs.Prelude.{◌≡◌, ◌≢◌, pos, [], ◌∷◌, IfOk};
 ghost use Rattle.lisp_object.specs.Datum.{object_of};
-ghost use Rattle.lisp_operators.specs.Evaluated.{IsProper, AreProper, objects};
+ghost use Rattle.lisp_operators.specs.EvaluationAnswers.{IsProper, AreProper, objects};
 ghost use Rattle.value_functions.specs.Arithmetic.{is_cut_up, left_over, division_value, division};
 ghost use Rattle.value_functions.specs.FunctionAnswers.{AnswersValue};
 

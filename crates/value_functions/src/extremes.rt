@@ -1,7 +1,7 @@
 //! The least or the greatest of numbers (standard 12.2).
 ghost use Rattle.std.specs.Prelude.{◌≡◌, IfOk};
 ghost use Rattle.lisp_object.specs.Datum.{object_of};
-ghost use Rattle.lisp_operators.specs.Evaluated.{IsProper, AreProper, objects};
+ghost use Rattle.lisp_operators.specs.EvaluationAnswers.{IsProper, AreProper, objects};
 ghost use Rattle.value_functions.specs.Comparisons.{is_further, furthest, extreme};
 ghost use Rattle.value_functions.specs.FunctionAnswers.{AnswersValue};
 

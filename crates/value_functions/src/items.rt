@@ -1,7 +1,7 @@
 //! The items of lists, and copies of them.
 ghost use Rattle.std.specs.Prelude.{◌≡◌, option_map, IfOk, IfSome};
 ghost use Rattle.lisp_object.specs.Datum.{object_of};
-ghost use Rattle.lisp_operators.specs.Evaluated.{IsProper, AreProper, objects};
+ghost use Rattle.lisp_operators.specs.EvaluationAnswers.{IsProper, AreProper, objects};
 ghost use Rattle.value_functions.specs.Sequences.{items_of};
 
 use lisp_object::Datum;

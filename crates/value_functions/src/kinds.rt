@@ -2,7 +2,7 @@
 ghost use Rattle.std.specs.Prelude.{◌≡◌, option_map};
 ghost use Rattle.lisp_object.specs.Datum.{object_of};
 ghost use Rattle.lisp_operators.specs.Kinds.{a_character, a_text, an_integer};
-ghost use Rattle.lisp_operators.specs.Evaluated.{IsProper};
+ghost use Rattle.lisp_operators.specs.EvaluationAnswers.{IsProper};
 ghost use Rattle.value_functions.specs.Kinds.{a_ratio};
 ghost use Rattle.value_functions.specs.Texts.{a_string, a_symbol_name};
 

@@ -2,7 +2,7 @@
 ghost use Rattle.std.specs.Prelude.{◌≡◌, IfOk, IfSome};
 ghost use Rattle.lisp_object.specs.Object.{pairs};
 ghost use Rattle.lisp_object.specs.Datum.{object_of};
-ghost use Rattle.lisp_operators.specs.Evaluated.{IsProper, AreProper, objects};
+ghost use Rattle.lisp_operators.specs.EvaluationAnswers.{IsProper, AreProper, objects};
 ghost use Rattle.value_functions.specs.Lists.{past_end};
 ghost use Rattle.value_functions.specs.Parts.{end_of, IsListEnd, HasParts};
 ghost use Rattle.value_functions.specs.FunctionAnswers.{AnswersValue, if_within};

@@ -1,7 +1,7 @@
 //! What an object is (standard 4.2, 5.3).
 ghost use Rattle.std.specs.Prelude.{◌≡◌, IfOk};
 ghost use Rattle.lisp_object.specs.Datum.{object_of};
-ghost use Rattle.lisp_operators.specs.Evaluated.{IsProper, AreProper, objects};
+ghost use Rattle.lisp_operators.specs.EvaluationAnswers.{IsProper, AreProper, objects};
 ghost use Rattle.value_functions.specs.Predicates.{is_vector, has_predicate, predicate};
 ghost use Rattle.value_functions.specs.FunctionAnswers.{AnswersValue};
 

@@ -3,7 +3,7 @@ ghost use Rattle.std.specs.Prelude.{◌≡◌, not, reverse, option_map, IfErr, 
 ghost use Rattle.std.specs.List.{filter};
 ghost use Rattle.lisp_object.specs.Datum.{object_of};
 ghost use Rattle.lisp_operators.specs.Kinds.{a_character};
-ghost use Rattle.lisp_operators.specs.Evaluated.{IsProper, AreProper, IsAscii, objects};
+ghost use Rattle.lisp_operators.specs.EvaluationAnswers.{IsProper, AreProper, IsAscii, objects};
 ghost use Rattle.lisp_operators.specs.declared.error.EvaluationError.TheVariants.{OutOfMemory};
 ghost use Rattle.value_functions.specs.Equality.{is_eql};
 ghost use Rattle.value_functions.specs.Sequences.{a_sequence, a_vector, item_in, item_at, items_of, list, object_of_sequence, length_of, other_characters, reversed, without, of_sequence, with_sequence, on_sequences};

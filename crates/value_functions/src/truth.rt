@@ -1,7 +1,7 @@
 //! T and NIL.
 ghost use Rattle.std.specs.Prelude.{◌≡◌, IfOk};
 ghost use Rattle.lisp_object.specs.Datum.{object_of};
-ghost use Rattle.lisp_operators.specs.Evaluated.{IsProper};
+ghost use Rattle.lisp_operators.specs.EvaluationAnswers.{IsProper};
 ghost use Rattle.value_functions.specs.FunctionAnswers.{truth_value};
 
 use lisp_object::{Bytes, Datum};

@@ -22,8 +22,8 @@ use Rattle.plist_state.specs.Readers.{readtable_names}
 use Rattle.plist_state.specs.Sound.{IsNamed, IsReadtables, IsSymbol}
 use Rattle.plist_state.specs.State.{Readtables, WorldState, first_readtables, standard_name, user_name}
 use Rattle.plist_state.proofs.Orders.{name_exact, name_tied, name_total, one_name}
-use Rattle.snapshot_text.specs.Built.{CanBeMade}
-use Rattle.snapshot_text.specs.Covered.{are_covered}
+use Rattle.snapshot_text.specs.BuiltWorlds.{CanBeMade}
+use Rattle.snapshot_text.specs.NamedFunctions.{are_covered}
 use Rattle.snapshot_text.proofs.NamedTables.{put_named}
 use Rattle.world_forms.specs.Readtables.{named_lines, readtable_lines, table_lines}
 use Rattle.world_text.specs.Snapshot.{table_named}

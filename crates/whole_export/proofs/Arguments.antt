@@ -15,7 +15,7 @@ use Rattle.evaluator.specs.Value.{value_by, values_by, value_over}
 use Rattle.form_eval.specs.Acceptance.{accepted_by}
 use Rattle.form_eval.proofs.KnownSymbols.{known_symbols}
 use Rattle.lisp_reading.specs.declared.found.Found.TheVariants.{One as one}
-use Rattle.prevalence_store.specs.meaning.Acceptance.{form_limits, transacted}
+use Rattle.prevalence_store.specs.meaning.Acceptance.{form_limits, transaction_value}
 use Rattle.world_text.proofs.Begun.{begun}
 use Rattle.export_laws.specs.Objects.{call}
 use Rattle.export_laws.proofs.PackageText.{IsOperator, operator_read, room}
@@ -116,6 +116,6 @@ module _ (names : List Name) (s : WorldState) (sound : packages.AreSoundPackages
         (pair_there s.packages (call accessor ys) (list_of xs) (call_there accessor reaches inner ys us subforms) (all_there more xs vs arguments))
 
   -- a form whose symbols are there, by its value
-  pub accepted_so : (x v : Object) (later : WorldState) → is_forgetting x ≡ false → are_there s.packages x ≡ true → value_by true names s x ≡ writes v later → transacted names s x ≡ writes v later
+  pub accepted_so : (x v : Object) (later : WorldState) → is_forgetting x ≡ false → are_there s.packages x ≡ true → value_by true names s x ≡ writes v later → transaction_value names s x ≡ writes v later
   accepted_so x v later other there value =
       not_forgetting names s x other ∙ ap (λ r. accepted_by true names s r x) (known_symbols s.packages (symbols x) there) ∙ ap (also false) value

@@ -18,7 +18,7 @@ use Rattle.plist_state.specs.Sound.{IsApart, IsPlist, IsSoundWorldState, IsSymbo
 use Rattle.plist_state.specs.State.{WorldState}
 use Rattle.plist_state.proofs.Orders.{one_symbol, symbol_tied, symbol_total}
 use Rattle.user_macros.specs.Functions.{Functions}
-use Rattle.snapshot_text.specs.Built.{with_each, with_properties}
+use Rattle.snapshot_text.specs.BuiltWorlds.{with_each, with_properties}
 use Rattle.snapshot_text.proofs.KeysSoFar.{AreApart, keys_apart}
 use Rattle.snapshot_text.proofs.PropertyParts.{each_is_list}
 use Rattle.world_forms.specs.Properties.{is_form, plist_lines, property_form, property_line, property_lines}

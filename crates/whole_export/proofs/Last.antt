@@ -23,7 +23,7 @@ use Rattle.lisp_operators.specs.ReadBase.{is_base}
 use Rattle.lisp_operators.specs.Readtables.{value_after, enter_readtable}
 use Rattle.evaluator.specs.Value.{last, value_by, values_by, value_over}
 use Rattle.lisp_reading.specs.declared.found.Found.TheVariants.{One as one}
-use Rattle.prevalence_store.specs.meaning.Acceptance.{form_limits, transacted}
+use Rattle.prevalence_store.specs.meaning.Acceptance.{form_limits, transaction_value}
 use Rattle.session_words.specs.declared.content.Content.TheVariants.{World}
 use Rattle.world_forms.specs.Forms.{current_form}
 use Rattle.world_forms.specs.Tokens.{value_text}
@@ -173,7 +173,7 @@ module _ (names : List Name) (s : WorldState) (sound : packages.AreSoundPackages
       ∙ (λ i. also true (and_then (also true (and_then (and_then (table_value i) (λ y later. and_then (values_by true names later nil) (λ ys end'. gives (y ∷ ys) end'))) (λ ys end'. gives (v ∷ ys) end'))) (λ ys end'. gives (u ∷ ys) end'))) in
       ap (λ e. and_then e (λ xs later. gives (last xs) later)) whole
 
-  last_accepted : transacted names s (last_object p n r) ≡ writes (symbol keyword r) (with_current s p n r)
+  last_accepted : transaction_value names s (last_object p n r) ≡ writes (symbol keyword r) (with_current s p n r)
   last_accepted = accepted_so names s sound (last_object p n r) (symbol keyword r) (with_current s p n r) refl last_there last_value
 
 -- ---- both, of the state that is exported

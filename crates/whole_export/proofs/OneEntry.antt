@@ -24,7 +24,7 @@ use Rattle.user_macros.specs.Registry.{is_covered}
 use Rattle.plist_state.specs.Sound.{IsSymbol}
 use Rattle.plist_state.specs.State.{WorldState}
 use Rattle.canon_printer.specs.Written.{printed_character}
-use Rattle.snapshot_text.specs.Built.{CanBeMade, IsNamedEntry, IsSubFunction}
+use Rattle.snapshot_text.specs.BuiltWorlds.{CanBeMade, IsNamedEntry, IsSubFunction}
 use Rattle.snapshot_text.proofs.EntryParts.{standard_is}
 use Rattle.snapshot_text.proofs.Filling.{filled, put_all, updates}
 use Rattle.snapshot_text.proofs.MacroParts.{function_name, function_named, function_of, has_function, macro_is_entry, sub_update, with_places}

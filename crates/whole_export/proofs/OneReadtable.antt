@@ -17,7 +17,7 @@ use Rattle.user_macros.specs.Functions.{Functions}
 use Rattle.user_macros.specs.Registry.{is_covered}
 use Rattle.plist_state.specs.Sound.{IsNamed, IsSymbol}
 use Rattle.plist_state.specs.State.{WorldState}
-use Rattle.snapshot_text.specs.Built.{CanBeMade, IsNamedEntry}
+use Rattle.snapshot_text.specs.BuiltWorlds.{CanBeMade, IsNamedEntry}
 use Rattle.snapshot_text.proofs.Filling.{filled, put_all, updates}
 use Rattle.snapshot_text.proofs.ReadtableParts.{entry_update, entry_updates, with_entries}
 use Rattle.world_forms.specs.Readtables.{case_line, changed_lines, entry_lines, table_end, table_lines}

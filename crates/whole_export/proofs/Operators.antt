@@ -24,7 +24,7 @@ use Rattle.lisp_operators.specs.Kinds.{case_named}
 use Rattle.lisp_operators.specs.Properties.{t as t_object}
 use Rattle.lisp_operators.specs.Readtables.{a_function, value_after, copy_readtable, is_function, make_dispatch, set_case, set_dispatch, set_macro, set_syntax, with_readtables}
 use Rattle.evaluator.specs.Value.{value_by, values_by, value_over}
-use Rattle.snapshot_text.specs.Built.{CanBeMade, IsSubFunction, IsWritable, with_table}
+use Rattle.snapshot_text.specs.BuiltWorlds.{CanBeMade, IsSubFunction, IsWritable, with_table}
 use Rattle.snapshot_text.proofs.ReadtableParts.{copied}
 use Rattle.snapshot_text.proofs.TableParts.{changed_to, dispatched_is}
 use Rattle.export_laws.specs.Objects.{call}

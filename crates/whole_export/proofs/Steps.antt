@@ -27,7 +27,7 @@ use Rattle.lisp_operators.specs.Properties.{t as t_object}
 use Rattle.lisp_operators.specs.Readtables.{is_function}
 use Rattle.evaluator.specs.Value.{value_by}
 use Rattle.canon_printer.specs.Written.{printed_character}
-use Rattle.snapshot_text.specs.Built.{CanBeMade, IsSubFunction, IsWritable, with_table}
+use Rattle.snapshot_text.specs.BuiltWorlds.{CanBeMade, IsSubFunction, IsWritable, with_table}
 use Rattle.snapshot_text.proofs.TableParts.{made_writable, table_twice}
 use Rattle.world_forms.specs.Readtables.{like_line, set_case_line, kind_argument, macro_line, sub_line, table_argument, table_end}
 use Rattle.world_forms.specs.Tokens.{character_argument, keyword_argument, line_of_form, symbol_text, value_text}

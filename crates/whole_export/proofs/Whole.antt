@@ -17,7 +17,7 @@ use Rattle.user_macros.specs.Functions.{Functions}
 use Rattle.lisp_operators.specs.Evaluation.{also, and_then, writes}
 use Rattle.lisp_operators.specs.Readtables.{value_after, enter_readtable}
 use Rattle.evaluator.specs.Value.{value_by, value_over}
-use Rattle.snapshot_text.specs.Covered.{are_covered}
+use Rattle.snapshot_text.specs.NamedFunctions.{are_covered}
 use Rattle.session_words.specs.declared.content.Content.TheVariants.{World}
 use Rattle.world_forms.specs.Forms.{current_form, forms, last_newline}
 use Rattle.world_forms.specs.Packages.{package_lines}

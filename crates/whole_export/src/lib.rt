@@ -29,7 +29,7 @@ ghost use Rattle.session_words.specs.declared.mode.Mode.TheVariants.{Current};
 ghost use Rattle.sessions.specs.declared.ending.Ended.{Ended};
 ghost use Rattle.session_words.specs.declared.wanted.Wanted.{Wanted};
 ghost use Rattle.prevalence_store.specs.meaning.Acceptance.{read_in};
-ghost use Rattle.snapshot_text.specs.Covered.{are_covered};
+ghost use Rattle.snapshot_text.specs.NamedFunctions.{are_covered};
 ghost use Rattle.user_macros.specs.Functions.{Functions};
 ghost use Rattle.session_words.specs.declared.content.Content.TheVariants.{World};
 ghost use Rattle.world_forms.specs.Forms.{forms, last_newline};

@@ -32,7 +32,7 @@ use Rattle.evaluator.proofs.EarlierOperators.{before_deciding_among, before_plac
 use Rattle.form_eval.specs.Acceptance.{accept_over}
 use Rattle.form_eval.proofs.Accepted.{accepted_with_more}
 use Rattle.world_text.specs.Snapshot.{table_named}
-use Rattle.snapshot_text.specs.Covered.{are_covered}
+use Rattle.snapshot_text.specs.NamedFunctions.{are_covered}
 use Rattle.session_words.specs.declared.mode.Mode.{Mode}
 use Rattle.prevalence_store.specs.meaning.Acceptance.{Acceptance, Rules, acceptance_of, accepted_reading, accepts_by, after_by, base_in, between, form_limits, mode_of, package_in, read_by, rules_in_force, setting_by, table_in, transacted_by}
 use Rattle.prevalence_store.specs.meaning.Forgetting.{forget_names, forgetting, is_forgetting}

@@ -23,9 +23,9 @@ use Rattle.lisp_reading.specs.declared.way.Function.TheVariants.{Standard as ASt
 use Rattle.lisp_reading.specs.declared.way.Way.{Way}
 use Rattle.lisp_reading.specs.declared.way.Way.TheVariants.{Nothing, Next, List as AList, Until, Text, Line, Block, Token, EscapedToken}
 use Rattle.lisp_reading.specs.InvokedCalls.{InvokedCall, caller}
-use Rattle.lisp_reading.specs.Plans.{Plan, gives, refuses, takes, scans, then_plan, next_byte, character, loop_in, loop, Fault, Read, within, limited, scanned, run}
+use Rattle.lisp_reading.specs.Plans.{Plan, gives, refuses, takes, scans, then_plan, next_byte, character, loop_in, loop, Fault, Read, within, limited_token, token_at_front, run}
 use Rattle.lisp_reading.specs.Setting.{Setting, setting_of, macro_call, user_way, way_in, function_of}
-use Rattle.lisp_reading.specs.Reading.{text_to, line_after, block_after, number_after, Piece, item, dot, closed, is_whitespace, without_space, piece_of, or_closed, next_item_turn, next_item, Items, items_step, items_turn, items_after, undotted, after_tail, after_dot, list_end, one_piece, plan_after_answer, completed, opened, gathering_plan, gathered_by, called, sub_called, sub_there, dispatch_plan, macro_called, stands_alone, alone, token_found, attempt_by, inner, attempt, Outcome, form, outcome, reads_in, reads}
+use Rattle.lisp_reading.specs.Reading.{text_to, line_after, block_after, number_after, Piece, item, dot, closed, is_whitespace, without_space, piece_of, or_closed, next_item_turn, next_item, Items, items_step, items_turn, items_after, undotted_plan, after_tail, after_dot, list_end, one_piece, plan_after_answer, completed_call, opened_plan, gathering_plan, gathered_by, call_plan, sub_called, sub_there, dispatch_plan, macro_called, stands_alone, alone, token_found, attempt_by, inner, attempt, Outcome, form, outcome, reads_in, reads}
 use Rattle.lisp_reading.proofs.Steps.{and_then, run_then}
 use Rattle.wider_functions.specs.Among.{AreAmong}
 
@@ -127,7 +127,7 @@ module _ (limits : Limits) (table : Table) (base : ℕ) (packages : Packages) (c
       → Widens (scans escaped limit on) (scans escaped limit on2)
   unfolding run
   scans_widens escaped limit on on2 all at cs =
-      let r = limited limits.text (scanned escaped table limit at cs) (λ p. p.1) in
+      let r = limited_token limits.text (token_at_front escaped table limit at cs) (λ p. p.1) in
       and_then_too on on2 r r all (itself r)
 
   next_byte_widens : {A : Type 0} (on on2 : ℕ → Plan A) → ((c : ℕ) → Widens (on c) (on2 c)) → Widens (next_byte on) (next_byte on2)
@@ -190,7 +190,7 @@ module _ (limits : Limits) (table : Table) (base : ℕ) (packages : Packages) (c
   abbrev WidensEnd : (Material → Plan Found) → (Material → Plan Found) → Type 0
   WidensEnd on on2 = (m : Material) → Widens (on m) (on2 m)
 
-  undotted_widens : (on on2 : Material → Plan Found) (items : Items) → WidensEnd on on2 → Widens (undotted on items) (undotted on2 items)
+  undotted_widens : (on on2 : Material → Plan Found) (items : Items) → WidensEnd on on2 → Widens (undotted_plan on items) (undotted_plan on2 items)
   undotted_widens on on2 (xs, true) all = all (many_objects xs)
   undotted_widens on on2 (xs, false) all = same_widens (refuses DOT_CONTEXT 0)
 
@@ -228,8 +228,8 @@ module _ (limits : Limits) (table : Table) (base : ℕ) (packages : Packages) (c
   -- ---- calls
 
   opened_widens : (may may2 : Option (Plan Found)) (on on2 : Plan Found → Plan Found) → WidensInner may may2
-      → ((p q : Plan Found) → Widens p q → Widens (on p) (on2 q)) → Widens (opened may on) (opened may2 on2)
-  opened_widens None may2 on on2 h all = refuses_widens TOO_DEEP 1 (opened may2 on2)
+      → ((p q : Plan Found) → Widens p q → Widens (on p) (on2 q)) → Widens (opened_plan may on) (opened_plan may2 on2)
+  opened_widens None may2 on on2 h all = refuses_widens TOO_DEEP 1 (opened_plan may2 on2)
   opened_widens (Some p) None on on2 h all = absurd h
   opened_widens (Some p) (Some q) on on2 h all = all p q h
 
@@ -250,16 +250,16 @@ module _ (limits : Limits) (table : Table) (base : ℕ) (packages : Packages) (c
 
   -- what a call ends with
   abbrev end_of : Setting → ℕ → InvokedCall → Material → Plan Found
-  end_of setting depth call m = completed setting depth call false false m
+  end_of setting depth call m = completed_call setting depth call false false m
 
   module _ (depth : ℕ) (may may2 : Option (Plan Found)) (deeper : WidensInner may may2) where
     -- where the function of the call is one
-    module _ (call : InvokedCall) (ends : (token spaced : Bool) (m : Material) → Widens (completed few depth call token spaced m) (completed many depth call token spaced m)) where
+    module _ (call : InvokedCall) (ends : (token spaced : Bool) (m : Material) → Widens (completed_call few depth call token spaced m) (completed_call many depth call token spaced m)) where
       gathered_widens : (way : Way) → Widens (gathering_plan few depth may call way) (gathering_plan many depth may2 call way)
       gathered_widens Nothing = ends false false no_material
       gathered_widens Next =
-          let on : Piece → Plan Found = one_piece (λ token x. completed few depth call token token (one_object x)) in
-          let on2 : Piece → Plan Found = one_piece (λ token x. completed many depth call token token (one_object x)) in
+          let on : Piece → Plan Found = one_piece (λ token x. completed_call few depth call token token (one_object x)) in
+          let on2 : Piece → Plan Found = one_piece (λ token x. completed_call many depth call token token (one_object x)) in
           opened_widens may may2 (λ p. then_plan (next_item few None p) on) (λ q. then_plan (next_item many None q) on2) deeper
           (λ p q h. then_widens (next_item few None p) (next_item many None q) on on2 (next_item_widens None p q h)
           (λ piece. one_widens _ _ piece (λ token x. ends token token (one_object x))))
@@ -269,9 +269,9 @@ module _ (limits : Limits) (table : Table) (base : ℕ) (packages : Packages) (c
           (λ p q h. then_widens (items_after few 41 p []) (items_after many 41 q []) (list_end few p (end_of few depth call)) (list_end many q (end_of many depth call))
           (items_widen 41 p q [] h) (λ items. end_widens p q (end_of few depth call) (end_of many depth call) items h (ends false false)))
       gathered_widens (Until close) =
-          opened_widens may may2 (λ p. then_plan (items_after few close p []) (undotted (end_of few depth call)))
-          (λ q. then_plan (items_after many close q []) (undotted (end_of many depth call))) deeper
-          (λ p q h. then_widens (items_after few close p []) (items_after many close q []) (undotted (end_of few depth call)) (undotted (end_of many depth call))
+          opened_widens may may2 (λ p. then_plan (items_after few close p []) (undotted_plan (end_of few depth call)))
+          (λ q. then_plan (items_after many close q []) (undotted_plan (end_of many depth call))) deeper
+          (λ p q h. then_widens (items_after few close p []) (items_after many close q []) (undotted_plan (end_of few depth call)) (undotted_plan (end_of many depth call))
           (items_widen close p q [] h) (λ items. undotted_widens (end_of few depth call) (end_of many depth call) items (ends false false)))
       gathered_widens (Text close) =
           then_widens (text_to few close []) (text_to many close []) (λ cs. end_of few depth call (letters cs)) (λ cs. end_of many depth call (letters cs))
@@ -283,10 +283,10 @@ module _ (limits : Limits) (table : Table) (base : ℕ) (packages : Packages) (c
           then_widens (block_after few (0, 0)) (block_after many (0, 0)) (λ u. end_of few depth call no_material) (λ u. end_of many depth call no_material)
           (same_widens (block_after few (0, 0))) (λ u. ends false false no_material)
       gathered_widens Token =
-          scans_widens false limits.token (λ marks. completed few depth call true false (marked marks)) (λ marks. completed many depth call true false (marked marks))
+          scans_widens false limits.token (λ marks. completed_call few depth call true false (marked marks)) (λ marks. completed_call many depth call true false (marked marks))
           (λ marks. ends true false (marked marks))
       gathered_widens EscapedToken =
-          scans_widens true limits.token (λ marks. completed few depth call true false (marked marks)) (λ marks. completed many depth call true false (marked marks))
+          scans_widens true limits.token (λ marks. completed_call few depth call true false (marked marks)) (λ marks. completed_call many depth call true false (marked marks))
           (λ marks. ends true false (marked marks))
 
       way_widens : (way : Option Way) → Widens (gathered_by few depth may call way) (gathered_by many depth may2 call way)
@@ -298,23 +298,23 @@ module _ (limits : Limits) (table : Table) (base : ℕ) (packages : Packages) (c
     of_user name c sub number = record { function = User name; character = c; sub = sub; number = number }
 
     user_widens : (name : List ℕ) (c : ℕ) (sub number : Option ℕ) (b : Bool) → is_among fewer.names name ≡ b
-        → Widens (called few depth may (of_user name c sub number)) (called many depth may2 (of_user name c sub number))
+        → Widens (call_plan few depth may (of_user name c sub number)) (call_plan many depth may2 (of_user name c sub number))
     user_widens name c sub number true is =
         let call = of_user name c sub number in
         let way : way_in many call ≡ way_in few call = ap (option_map (user_way (caller call))) (same_way name is) in
-        subst (λ (w : Option Way). Widens (called few depth may call) (gathered_by many depth may2 call w)) (sym way)
+        subst (λ (w : Option Way). Widens (call_plan few depth may call) (gathered_by many depth may2 call w)) (sym way)
         (way_widens call (λ token spaced m. equal_widens _ _ (ap (plan_after_answer packages limits.nesting depth token spaced) (same_answer name (macro_call call m) is))) (way_in few call))
     user_widens name c sub number false is =
         let call = of_user name c sub number in
         let none : way_in few call ≡ None = ap (λ (b : Bool). option_map (user_way (caller call)) (cond b (fewer.way name) None)) is in
-        subst (λ (w : Option Way). Widens (gathered_by few depth may call w) (called many depth may2 call)) (sym none)
-        (refuses_widens OUT_OF_PROFILE 1 (called many depth may2 call))
+        subst (λ (w : Option Way). Widens (gathered_by few depth may call w) (call_plan many depth may2 call)) (sym none)
+        (refuses_widens OUT_OF_PROFILE 1 (call_plan many depth may2 call))
 
     called_widens : (f : Function) (c : ℕ) (sub number : Option ℕ)
-        → Widens (called few depth may (record { function = f; character = c; sub = sub; number = number })) (called many depth may2 (record { function = f; character = c; sub = sub; number = number }))
+        → Widens (call_plan few depth may (record { function = f; character = c; sub = sub; number = number })) (call_plan many depth may2 (record { function = f; character = c; sub = sub; number = number }))
     called_widens (AStandard kind) c sub number =
         let call : InvokedCall = record { function = AStandard kind; character = c; sub = sub; number = number } in
-        way_widens call (λ token spaced m. same_widens (completed few depth call token spaced m)) (way_in few call)
+        way_widens call (λ token spaced m. same_widens (completed_call few depth call token spaced m)) (way_in few call)
     called_widens (User name) c sub number = user_widens name c sub number (is_among fewer.names name) refl
 
     sub_widens : (c sub : ℕ) (number : Option ℕ) (name : Option (List ℕ))
@@ -332,8 +332,8 @@ module _ (limits : Limits) (table : Table) (base : ℕ) (packages : Packages) (c
     macro_widens c None = same_widens (refuses OUT_OF_PROFILE 1)
     macro_widens c (Some name) =
         let call : InvokedCall = record { function = function_of name; character = c; sub = None; number = None } in
-        if_widens (is_dispatch_name name) (dispatch_plan few depth may c None) (called few depth may call)
-        (dispatch_plan many depth may2 c None) (called many depth may2 call) (dispatched_widens c) (called_widens (function_of name) c None None)
+        if_widens (is_dispatch_name name) (dispatch_plan few depth may c None) (call_plan few depth may call)
+        (dispatch_plan many depth may2 c None) (call_plan many depth may2 call) (dispatched_widens c) (called_widens (function_of name) c None None)
 
     alone_widens : (c : ℕ) (s : Syntax) → Widens (alone few depth may c s) (alone many depth may2 c s)
     alone_widens c Whitespace = same_widens (gives (nothing false))

@@ -14,7 +14,7 @@ use Rattle.lisp_object.specs.Ascii.{is_ascii}
 use Rattle.package_table.specs.Table.{Name, Table, Package, Present, name_cmp, AreSoundPackages, IsPackage, IsPresent, keyword}
 use Rattle.package_table.specs.Table.{initial}
 use Rattle.package_table.specs.Lookup.{is_present}
-use Rattle.package_table.specs.Readers.{package_names, used_names, present, own_names, external_names, imports}
+use Rattle.package_table.specs.Readers.{package_names, used_names, present_symbols, own_names, external_names, imports}
 use Rattle.package_table.proofs.Names.{tied_same, same_tied, none_some}
 use Rattle.canon_printer.proofs.Resolved.{home_there}
 use Rattle.world_text.specs.Snapshot.{made_names, shown_names}
@@ -101,7 +101,7 @@ module _ (t : Table) (sound : AreSoundPackages t) where
       and_from (is_ascii_name n) (is_ascii_name e.home) (ascii_all n (sound.within.symbol_names p n e.home present).ascii)
       (package_ascii e.home (home_there t e.home n sound (sound.joined.homes p n e.home present))))
 
-  present_ascii : (p : Name) → list_all (λ (s : Name × Present). is_ascii_name s.0 && is_ascii_name s.1.home) (present t p) ≡ true
+  present_ascii : (p : Name) → list_all (λ (s : Name × Present). is_ascii_name s.0 && is_ascii_name s.1.home) (present_symbols t p) ≡ true
   present_ascii p =
       elim (finite.get t p) as (λ o. finite.get t p ≡ o → list_all (λ (s : Name × Present). is_ascii_name s.0 && is_ascii_name s.1.home) (option_map_or (λ (k : Package). finite.entries k.symbols) o []) ≡ true) [
         | None ↦ λ _. refl
@@ -116,23 +116,23 @@ module _ (t : Table) (sound : AreSoundPackages t) where
 
   pub own_names_ascii : (p : Name) → are_ascii_names (own_names t p) ≡ true
   own_names_ascii p =
-      all_mapped is_ascii_name (λ (s : Name × Present). s.0) (filter (λ (s : Name × Present). bytes_eq s.1.home p) (present t p))
-      (all_filtered (λ (s : Name × Present). is_ascii_name s.0) (λ (s : Name × Present). bytes_eq s.1.home p) (present t p) (only_names (present t p) (present_ascii p)))
+      all_mapped is_ascii_name (λ (s : Name × Present). s.0) (filter (λ (s : Name × Present). bytes_eq s.1.home p) (present_symbols t p))
+      (all_filtered (λ (s : Name × Present). is_ascii_name s.0) (λ (s : Name × Present). bytes_eq s.1.home p) (present_symbols t p) (only_names (present_symbols t p) (present_ascii p)))
 
   pub made_names_ascii : (p : Name) → are_ascii_names (made_names t p) ≡ true
   made_names_ascii p = all_filtered is_ascii_name (λ n. not (is_present initial p n)) (own_names t p) (own_names_ascii p)
 
   pub external_names_ascii : (p : Name) → are_ascii_names (external_names t p) ≡ true
   external_names_ascii p =
-      all_mapped is_ascii_name (λ (s : Name × Present). s.0) (filter (λ (s : Name × Present). s.1.external) (present t p))
-      (all_filtered (λ (s : Name × Present). is_ascii_name s.0) (λ (s : Name × Present). s.1.external) (present t p) (only_names (present t p) (present_ascii p)))
+      all_mapped is_ascii_name (λ (s : Name × Present). s.0) (filter (λ (s : Name × Present). s.1.external) (present_symbols t p))
+      (all_filtered (λ (s : Name × Present). is_ascii_name s.0) (λ (s : Name × Present). s.1.external) (present_symbols t p) (only_names (present_symbols t p) (present_ascii p)))
 
   pub shown_names_ascii : (p : Name) → are_ascii_names (shown_names t p) ≡ true
   shown_names_ascii p = elim (bytes_eq p keyword) as (λ b. are_ascii_names (if b then [] else external_names t p) ≡ true) [ true ↦ refl | false ↦ external_names_ascii p ]
 
   pub imports_ascii : (p : Name) → are_ascii_imports (imports t p) ≡ true
-  imports_ascii p = all_mapped (λ (r : Name × Name). is_ascii_name r.0 && is_ascii_name r.1) (λ (s : Name × Present). (s.0, s.1.home)) (filter (λ (s : Name × Present). not (bytes_eq s.1.home p)) (present t p))
-      (all_filtered (λ (s : Name × Present). is_ascii_name s.0 && is_ascii_name s.1.home) (λ (s : Name × Present). not (bytes_eq s.1.home p)) (present t p) (present_ascii p))
+  imports_ascii p = all_mapped (λ (r : Name × Name). is_ascii_name r.0 && is_ascii_name r.1) (λ (s : Name × Present). (s.0, s.1.home)) (filter (λ (s : Name × Present). not (bytes_eq s.1.home p)) (present_symbols t p))
+      (all_filtered (λ (s : Name × Present). is_ascii_name s.0 && is_ascii_name s.1.home) (λ (s : Name × Present). not (bytes_eq s.1.home p)) (present_symbols t p) (present_ascii p))
 
   used_ascii : (p : Name) (k : Package) → finite.get t p ≡ Some k → are_ascii_names (finite.keys k.uses) ≡ true
   used_ascii p k there = keys_pass k.uses is_ascii_name (λ q uses.

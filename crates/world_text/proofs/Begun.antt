@@ -23,11 +23,11 @@ use Rattle.lisp_reading.specs.declared.found.Found.{Found}
 use Rattle.lisp_reading.specs.declared.found.Found.TheVariants.{Nothing as nothing, One as one, LoneDot as lone_dot}
 use Rattle.lisp_reading.specs.declared.told.Told.TheVariants.{Object as told_object}
 use Rattle.lisp_reading.specs.declared.way.Function.TheVariants.{Standard as AStandard}
-use Rattle.lisp_reading.specs.Plans.{Plan, scans, Read, limited, scanned, run}
+use Rattle.lisp_reading.specs.Plans.{Plan, scans, Read, limited_token, token_at_front, run}
 use Rattle.lisp_reading.specs.InvokedCalls.{InvokedCall}
 use Rattle.lisp_reading.specs.Naming.{token_meant}
 use Rattle.lisp_reading.specs.Setting.{Setting, setting_of}
-use Rattle.lisp_reading.specs.Reading.{stands_alone, alone, called, inner, attempt, token_found, sub_there, sub_called, number_after}
+use Rattle.lisp_reading.specs.Reading.{stands_alone, alone, call_plan, inner, attempt, token_found, sub_there, sub_called, number_after}
 use Rattle.form_reader.proofs.Objects.{takes_is, passes_is}
 use Rattle.lisp_reading.proofs.Fed.{byte_taken, number_ends}
 use Rattle.lisp_reading.proofs.Steps.{and_then, run_then}
@@ -36,13 +36,13 @@ use Rattle.user_macros.specs.Functions.{Functions}
 
 -- a token that was scanned within the limit of the text
 pub scan_is : {A : Type 0} (table : Table) (limits : Limits) (escaped : Bool) (limit : ℕ) (on : List Mark → Plan A) (at : ℕ) (cs : List ℕ) (marks : List Mark) (next : ℕ) (rest : List ℕ)
-    → scanned escaped table limit at cs ≡ Ok (marks, next, rest) → next ≤ limits.text
+    → token_at_front escaped table limit at cs ≡ Ok (marks, next, rest) → next ≤ limits.text
     → run table limits (scans escaped limit on) at cs ≡ run table limits (on marks) next rest
 unfolding run
 scan_is {A = A} table limits escaped limit on at cs marks next rest e fits =
     let step : Read (List Mark) → Read A = λ r. elim r [ Ok p ↦ run table limits (on p.0) p.1 p.2 | Err e ↦ Err e ] in
-    let cut : Bool → Read (List Mark) = λ b. elim b [ true ↦ Ok (marks, next, rest) | false ↦ limited limits.text (Ok (marks, limits.text + 1, rest)) (λ p. p.1) ] in
-    ap (λ (r : ScannedBytes). step (limited limits.text r (λ p. p.1))) e
+    let cut : Bool → Read (List Mark) = λ b. elim b [ true ↦ Ok (marks, next, rest) | false ↦ limited_token limits.text (Ok (marks, limits.text + 1, rest)) (λ p. p.1) ] in
+    ap (λ (r : ScannedBytes). step (limited_token limits.text r (λ p. p.1))) e
     ∙ (rw (le-leb next limits.text fits) refl)
 
 no_alone : (s : Syntax) → starts_token s ≡ true → stands_alone s ≡ false
@@ -68,7 +68,7 @@ module _ (limits : Limits) (packages : Packages) (current : Name) (functions : F
 
   -- a token that means an object
   pub token_begun : (d at c : ℕ) (cs : List ℕ) (marks : List Mark) (next : ℕ) (rest : List ℕ) (x : Object) → starts_token (standard_syntax c) ≡ true
-      → scanned false standard limits.token at (c ∷ cs) ≡ Ok (marks, next, rest) → next ≤ limits.text → is_empty marks ≡ false → token_meant under marks ≡ Ok (told_object x)
+      → token_at_front false standard limits.token at (c ∷ cs) ≡ Ok (marks, next, rest) → next ≤ limits.text → is_empty marks ≡ false → token_meant under marks ≡ Ok (told_object x)
       → begun d at (c ∷ cs) ≡ Ok (one true x, next, rest)
   unfolding run
   token_begun d at c cs marks next rest x starts e fits some is =
@@ -103,17 +103,17 @@ module _ (limits : Limits) (packages : Packages) (current : Name) (functions : F
   sub_call c kind = record { function = AStandard kind; character = 35; sub = Some c; number = None }
 
   pub list_begun : (d at : ℕ) (cs : List ℕ) → at < limits.text
-      → begun d at (40 ∷ cs) ≡ run standard limits (called under (limits.nesting - d) (inner under d) (plain_call 40 AList)) (at + 1) cs
+      → begun d at (40 ∷ cs) ≡ run standard limits (call_plan under (limits.nesting - d) (inner under d) (plain_call 40 AList)) (at + 1) cs
   unfolding standard
   list_begun d at cs fits = alone_begun d at 40 cs fits refl
 
   pub quote_begun : (d at : ℕ) (cs : List ℕ) → at < limits.text
-      → begun d at (39 ∷ cs) ≡ run standard limits (called under (limits.nesting - d) (inner under d) (plain_call 39 Quote)) (at + 1) cs
+      → begun d at (39 ∷ cs) ≡ run standard limits (call_plan under (limits.nesting - d) (inner under d) (plain_call 39 Quote)) (at + 1) cs
   unfolding standard
   quote_begun d at cs fits = alone_begun d at 39 cs fits refl
 
   pub text_begun : (d at : ℕ) (cs : List ℕ) → at < limits.text
-      → begun d at (34 ∷ cs) ≡ run standard limits (called under (limits.nesting - d) (inner under d) (plain_call 34 String)) (at + 1) cs
+      → begun d at (34 ∷ cs) ≡ run standard limits (call_plan under (limits.nesting - d) (inner under d) (plain_call 34 String)) (at + 1) cs
   unfolding standard
   text_begun d at cs fits = alone_begun d at 34 cs fits refl
 
@@ -130,17 +130,17 @@ module _ (limits : Limits) (packages : Packages) (current : Name) (functions : F
       ∙ byte_taken standard limits (λ sub. sub_called under round (inner under d) 35 sub None (dispatch_at standard 35 sub)) (at + 1) c cs fits below
 
   pub vector_begun : (d at : ℕ) (cs : List ℕ) → at + 1 < limits.text
-      → begun d at (35 ∷ 40 ∷ cs) ≡ run standard limits (called under (limits.nesting - d) (inner under d) (sub_call 40 Vector)) (at + 1 + 1) cs
+      → begun d at (35 ∷ 40 ∷ cs) ≡ run standard limits (call_plan under (limits.nesting - d) (inner under d) (sub_call 40 Vector)) (at + 1 + 1) cs
   unfolding standard
   vector_begun d at cs fits = sub_begun d at 40 cs fits (omega arith) refl
 
   pub character_begun : (d at : ℕ) (cs : List ℕ) → at + 1 < limits.text
-      → begun d at (35 ∷ 92 ∷ cs) ≡ run standard limits (called under (limits.nesting - d) (inner under d) (sub_call 92 Char)) (at + 1 + 1) cs
+      → begun d at (35 ∷ 92 ∷ cs) ≡ run standard limits (call_plan under (limits.nesting - d) (inner under d) (sub_call 92 Char)) (at + 1 + 1) cs
   unfolding standard
   character_begun d at cs fits = sub_begun d at 92 cs fits (omega arith) refl
 
   pub uninterned_begun : (d at : ℕ) (cs : List ℕ) → at + 1 < limits.text
-      → begun d at (35 ∷ 58 ∷ cs) ≡ run standard limits (called under (limits.nesting - d) (inner under d) (sub_call 58 Uninterned)) (at + 1 + 1) cs
+      → begun d at (35 ∷ 58 ∷ cs) ≡ run standard limits (call_plan under (limits.nesting - d) (inner under d) (sub_call 58 Uninterned)) (at + 1 + 1) cs
   unfolding standard
   uninterned_begun d at cs fits = sub_begun d at 58 cs fits (omega arith) refl
 

@@ -12,7 +12,7 @@ use Rattle.lisp_reading.specs.declared.found.Found.{Found}
 use Rattle.lisp_reading.specs.declared.found.Found.TheVariants.{Nothing as nothing, One as one, LoneDot as lone_dot}
 use Rattle.lisp_reading.specs.Plans.{Plan, gives, then_plan, Read, run}
 use Rattle.lisp_reading.specs.Setting.{Setting}
-use Rattle.lisp_reading.specs.Reading.{Piece, item, dot, closed, without_space, is_whitespace, piece_of, or_closed, next_item_turn, next_item, Items, items_step, items_turn, items_after, undotted, after_tail, after_dot, list_end, finished, attempt}
+use Rattle.lisp_reading.specs.Reading.{Piece, item, dot, closed, without_space, is_whitespace, piece_of, or_closed, next_item_turn, next_item, Items, items_step, items_turn, items_after, undotted_plan, after_tail, after_dot, list_end, finished_plan, attempt}
 use Rattle.form_reader.proofs.Objects.{takes_is, passes_is}
 use Rattle.form_reader.proofs.Stacks.{then_moves}
 use Rattle.lisp_reading.proofs.Steps.{and_then, run_then}
@@ -133,17 +133,17 @@ module _ (limits : Limits) (packages : Packages) (current : Name) (functions : F
   -- ---- the end of a list
 
   abbrev pub list_done : Material → Plan Found
-  list_done m = finished false (list_value m)
+  list_done m = finished_plan false (list_value m)
 
   abbrev pub vector_done : Material → Plan Found
-  vector_done m = finished false (vector_value None m)
+  vector_done m = finished_plan false (vector_value None m)
 
   -- after at least one object, up to the closing parenthesis
   abbrev pub tail : ℕ → Bool → List Object → Plan Found
   tail d token xs = then_plan (without_space standard token (items d xs)) (list_end s (attempt s d) list_done)
 
   abbrev pub others : ℕ → Bool → List Object → Plan Found
-  others d token xs = then_plan (without_space standard token (items d xs)) (undotted vector_done)
+  others d token xs = then_plan (without_space standard token (items d xs)) (undotted_plan vector_done)
 
   pub tail_closed : (d : ℕ) (token : Bool) (xs : List Object) (at : ℕ) (rest : List ℕ) → at < limits.text
       → run standard limits (tail d token xs) at (41 ∷ rest) ≡ Ok (one false (list_of xs), at + 1, rest)
@@ -156,8 +156,8 @@ module _ (limits : Limits) (packages : Packages) (current : Name) (functions : F
       → run standard limits (others d token xs) at (41 ∷ rest) ≡ Ok (one false (o.vector (list_of xs)), at + 1, rest)
   unfolding run
   others_closed d token xs at rest fits =
-      run_then standard limits (without_space standard token (items d xs)) (undotted vector_done) at (41 ∷ rest)
-      ∙ ap (and_then standard limits (undotted vector_done)) (at_close token (items d xs) at rest ∙ items_closed d xs at rest fits)
+      run_then standard limits (without_space standard token (items d xs)) (undotted_plan vector_done) at (41 ∷ rest)
+      ∙ ap (and_then standard limits (undotted_plan vector_done)) (at_close token (items d xs) at rest ∙ items_closed d xs at rest fits)
 
   module _ (d : ℕ) (token : Bool) (xs : List Object) (at : ℕ) (text : List ℕ) (mark : Bool) (x : Object) (next : ℕ) (rest : List ℕ) where
     -- one more object after a space
@@ -176,7 +176,7 @@ module _ (limits : Limits) (packages : Packages) (current : Name) (functions : F
     pub others_next : at < limits.text → is_open text ≡ true → attempted d (at + 1) text ≡ Ok (one mark x, next, rest)
         → run standard limits (others d token xs) at (32 ∷ text) ≡ run standard limits (others d mark (xs ++ x ∷ [])) next rest
     others_next fits opens e =
-        then_moves standard limits (without_space standard token (items d xs)) (without_space standard mark (items d (xs ++ x ∷ []))) (undotted vector_done) at next (32 ∷ text) rest
+        then_moves standard limits (without_space standard token (items d xs)) (without_space standard mark (items d (xs ++ x ∷ []))) (undotted_plan vector_done) at next (32 ∷ text) rest
         (next_moves fits opens e)
 
   -- an object after a dot, and the closing parenthesis

@@ -11,7 +11,7 @@ use Rattle.token_scan.specs.declared.mark.Mark.{Mark}
 use Rattle.token_scan.specs.declared.mark.Mark.TheVariants.{Quoted}
 use Rattle.token_scan.specs.Marks.{character_count, characters}
 use Rattle.token_scan.specs.Spelling.{may_end, SpellsEscaped, first as spells_first}
-use Rattle.token_scan.specs.Tokens.{TypedByte, typed, escaped_token, token_in, escaped_token_in, in_bytes}
+use Rattle.token_scan.specs.Tokens.{TypedByte, typed_byte, escaped_token, token_in, escaped_token_in, in_bytes}
 use Rattle.token_scan.proofs.Spelled.{quoted_counts, escaped_gives}
 use Rattle.token_meaning.specs.Folding.{in_upper_case}
 use Rattle.token_meaning.specs.Meanings.{is_package_marker}
@@ -129,10 +129,10 @@ escaped_in_bytes : (c : ℕ) (tail : List ℕ) (limit at : ℕ) (rest : List ℕ
     → escaped_token_in standard limit at ((c ∷ tail) ++ rest) ≡ Ok (Quoted c ∷ plain_marks tail, at + length (c ∷ tail), rest)
 escaped_in_bytes c tail limit at rest below s fits ends =
     let few : character_count (Quoted c ∷ plain_marks tail) ≤ limit = omega (arith, quoted_counts c (plain_marks tail), plain_count tail) in
-    let spells : SpellsEscaped (met_text (c ∷ tail)) (Quoted c ∷ plain_marks tail) = spells_first (typed standard c) (met_text tail) (plain_marks tail) (lt-ltb c 128 below) s.spells in
-    ap (λ (xs : List TypedByte). in_bytes (escaped_token limit at xs)) (map-append (typed standard) (c ∷ tail) rest)
+    let spells : SpellsEscaped (met_text (c ∷ tail)) (Quoted c ∷ plain_marks tail) = spells_first (typed_byte standard c) (met_text tail) (plain_marks tail) (lt-ltb c 128 below) s.spells in
+    ap (λ (xs : List TypedByte). in_bytes (escaped_token limit at xs)) (map-append (typed_byte standard) (c ∷ tail) rest)
     ∙ ap in_bytes (escaped_gives spells limit at (met_text rest) few ends)
-    ∙ (λ i. Ok (Quoted c ∷ plain_marks tail, (let h : at + length (met_text (c ∷ tail)) ≡ at + length (c ∷ tail) = omega (arith, length-map (c ∷ tail) (typed standard)) in h) i, bytes_of rest i))
+    ∙ (λ i. Ok (Quoted c ∷ plain_marks tail, (let h : at + length (met_text (c ∷ tail)) ≡ at + length (c ∷ tail) = omega (arith, length-map (c ∷ tail) (typed_byte standard)) in h) i, bytes_of rest i))
 
 pub character_read : (c : ℕ) (limit at : ℕ) (rest : List ℕ) → c < 128 → length (character_name c) ≤ limit → IsTrue (may_end (met_text rest))
     → escaped_token_in standard limit at (character_name c ++ rest) ≡ Ok (character_marks (character_name c), at + length (character_name c), rest)

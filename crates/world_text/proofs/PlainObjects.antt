@@ -10,7 +10,7 @@ use Rattle.lisp_object.specs.Object.{Object, AllAtoms, IsSound, nil, list_of}
 use Rattle.lisp_object.proofs.Sound.{all_below}
 use Rattle.package_table.specs.Table as packages
 use Rattle.package_table.specs.Table.{Name, Table, Present, Package, IsExternal, common_lisp, common_lisp_user, common_lisp_names, common_lisp_package}
-use Rattle.package_table.specs.Lookup.{found}
+use Rattle.package_table.specs.Lookup.{home_by_name}
 use Rattle.package_table.proofs.Names.{name_total}
 use Rattle.package_table.proofs.Found.{found_is}
 use Rattle.canon_printer.specs.Printed.{printed, printed_prefix, is_accessible, has_home}
@@ -87,7 +87,7 @@ nil_external t sound =
 -- COMMON-LISP-USER finds it
 nil_accessible : (t : Table) → packages.AreSoundPackages t → is_accessible t common_lisp_user common_lisp (codes "NIL") ≡ true
 nil_accessible t sound =
-    let there : found t common_lisp_user (codes "NIL") ≡ Some common_lisp =
+    let there : home_by_name t common_lisp_user (codes "NIL") ≡ Some common_lisp =
     found_is t (codes "NIL") sound.joined common_lisp_user common_lisp (inr (common_lisp, sound.first.user, nil_external t sound, nil_present t sound)) in
     ap (λ h. has_home h common_lisp) there
 

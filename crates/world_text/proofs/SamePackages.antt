@@ -11,7 +11,7 @@ use Rattle.lisp_object.specs.Object as object
 use Rattle.lisp_object.specs.Object.{Object, list_of}
 use Rattle.package_table.specs.Table.{Name, name_cmp, Present, Package, Table, common_lisp, keyword, initial, entry_at, HasFirst, AreSoundPackages}
 use Rattle.package_table.specs.Lookup.{is_present}
-use Rattle.package_table.specs.Readers.{package_names, used_names, present, own_among, external_among, imported_among, own_names, external_names, imports}
+use Rattle.package_table.specs.Readers.{package_names, used_names, present_symbols, own_among, external_among, imported_among, own_names, external_names, imports}
 use Rattle.package_table.proofs.Names.{name_total, name_exact, tied_same}
 use Rattle.world_text.specs.Snapshot.{texts, made_names, shown_names, imported_name, package_object, packages_object}
 use Rattle.world_text.proofs.Ascii.{from_truth}
@@ -155,8 +155,8 @@ module _ (t u : Table) (sound_t : AreSoundPackages t) (sound_u : AreSoundPackage
   listed : (p : Name) (k l : Package) → finite.get t p ≡ Some k → finite.get u p ≡ Some l → eq p common_lisp ≡ false → eq p keyword ≡ false
       → made_names t p ≡ made_names u p → shown_names t p ≡ shown_names u p → imports t p ≡ imports u p → AreListed p k l
   listed p k l got_k got_l lisp key made shown imported =
-      let at_k : present t p ≡ finite.entries k.symbols = ap (λ o. option_map_or (λ (k : Package). finite.entries k.symbols) o []) got_k in
-      let at_l : present u p ≡ finite.entries l.symbols = ap (λ o. option_map_or (λ (k : Package). finite.entries k.symbols) o []) got_l in
+      let at_k : present_symbols t p ≡ finite.entries k.symbols = ap (λ o. option_map_or (λ (k : Package). finite.entries k.symbols) o []) got_k in
+      let at_l : present_symbols u p ≡ finite.entries l.symbols = ap (λ o. option_map_or (λ (k : Package). finite.entries k.symbols) o []) got_l in
       let not_keyword : bytes_eq p keyword ≡ false = sym (is_eq-slice_cmp p keyword) ∙ key in
       let own : own_names t p ≡ own_names u p = sym (all_new p (own_names t p) lisp key) ∙ made ∙ all_new p (own_names u p) lisp key in
       let external : external_names t p ≡ external_names u p =

@@ -12,7 +12,7 @@ use Rattle.readtable_core.proofs.Standard.{standard_syntax_at}
 use Rattle.token_scan.specs.declared.mark.Mark.{Mark}
 use Rattle.token_scan.specs.declared.mark.Mark.TheVariants.{Plain, Quoted, Bar}
 use Rattle.token_scan.specs.Marks.{character_count}
-use Rattle.token_scan.specs.Tokens.{TypedByte, kind, typed, typed_text, token, token_in, in_bytes}
+use Rattle.token_scan.specs.Tokens.{TypedByte, kind, typed_byte, typed_text, token, token_in, in_bytes}
 use Rattle.token_scan.specs.Spelling.{Spells, nothing, plain, between, escaped, bar, may_end}
 use Rattle.token_scan.proofs.Spelled.{spelled_gives}
 use Rattle.canon_printer.specs.Names.{is_escaped_in_bars, printed_name, with_backslashes as escaped_text}
@@ -46,7 +46,7 @@ pub others : (c : ℕ) (cs : List ℕ) → IsAscii (c ∷ cs) → IsAscii cs
 others c cs h k d lt = h (suc k) d (omega arith)
 
 -- the syntax type that counts
-pub kind_at : (c : ℕ) → c < 128 → kind (typed standard c) ≡ standard_syntax c
+pub kind_at : (c : ℕ) → c < 128 → kind (typed_byte standard c) ≡ standard_syntax c
 kind_at c below = rw (lt-ltb c 128 below) (standard_syntax_at c)
 
 -- ---- one text after another
@@ -64,14 +64,14 @@ pub record Spelled (text : List ℕ) (marks : List Mark) : Type 0 where
 
 pub spelled_both : (text more : List ℕ) (marks others : List Mark) → Spelled text marks → Spelled more others → Spelled (text ++ more) (marks ++ others)
 spelled_both text more marks others s t =
-    record { spells = rw (map-append (typed standard) text more) (spells_both (met_text more) others s.spells t.spells) }
+    record { spells = rw (map-append (typed_byte standard) text more) (spells_both (met_text more) others s.spells t.spells) }
 
 -- ---- characters that are themselves
 
-plain_one : (c : ℕ) (xs : List TypedByte) (marks : List Mark) → c < 128 → is_bare c ≡ true → Spells false xs marks → Spells false (typed standard c ∷ xs) (Plain c ∷ marks)
+plain_one : (c : ℕ) (xs : List TypedByte) (marks : List Mark) → c < 128 → is_bare c ≡ true → Spells false xs marks → Spells false (typed_byte standard c ∷ xs) (Plain c ∷ marks)
 plain_one c xs marks below e s =
     let all = and_parts (is_constituent (standard_syntax c)) _ e in
-    plain (typed standard c) xs marks (rw (kind_at c below) (constituent_plain (standard_syntax c) all.0)) (not-true _ all.1) s
+    plain (typed_byte standard c) xs marks (rw (kind_at c below) (constituent_plain (standard_syntax c) all.0)) (not-true _ all.1) s
 
 pub bare_spelled : (text : List ℕ) → IsAscii text → list_all is_bare text ≡ true → Spelled text (plain_marks text)
 bare_spelled text ascii e = record { spells = go text ascii e }
@@ -93,14 +93,14 @@ plain_spelled text ascii e = bare_spelled text ascii (kept_bare text e)
 
 -- ---- names between bars
 
-bar_kind : kind (typed standard 124) ≡ MultipleEscape
+bar_kind : kind (typed_byte standard 124) ≡ MultipleEscape
 bar_kind = kind_at 124 (omega arith)
 
-escape_kind : kind (typed standard 92) ≡ SingleEscape
+escape_kind : kind (typed_byte standard 92) ≡ SingleEscape
 escape_kind = kind_at 92 (omega arith)
 
 closing : Spells true (met_text (codes "|")) (Bar ∷ [])
-closing = bar true (typed standard 124) [] [] bar_kind nothing
+closing = bar true (typed_byte standard 124) [] [] bar_kind nothing
 
 barred : (text : List ℕ) → IsAscii text → Spells true (met_text (escaped_text is_escaped_in_bars text ++ codes "|")) (quoted_marks text ++ Bar ∷ [])
 barred [] ascii = closing
@@ -111,12 +111,12 @@ barred (c ∷ cs) ascii =
     let quoted = quoted_marks cs ++ Bar ∷ [] in
     elim (is_escaped_in_bars c)
     as (λ b. is_escaped_in_bars c ≡ b → Spells true (met_text (((if b then codes "\\" ++ c ∷ [] else c ∷ []) ++ escaped_text is_escaped_in_bars cs) ++ codes "|")) (Quoted c ∷ quoted)) [
-      | true ↦ λ _. escaped true (typed standard 92) (typed standard c) (met_text more) quoted escape_kind (lt-ltb c 128 below) later
-      | false ↦ λ e. between (typed standard c) (met_text more) quoted (rw (kind_at c below) (kept_in_bars c below (not_from_false _ e))) later
+      | true ↦ λ _. escaped true (typed_byte standard 92) (typed_byte standard c) (met_text more) quoted escape_kind (lt-ltb c 128 below) later
+      | false ↦ λ e. between (typed_byte standard c) (met_text more) quoted (rw (kind_at c below) (kept_in_bars c below (not_from_false _ e))) later
     ] refl
 
 pub barred_spelled : (text : List ℕ) → IsAscii text → Spelled (codes "|" ++ escaped_text is_escaped_in_bars text ++ codes "|") (Bar ∷ (quoted_marks text ++ Bar ∷ []))
-barred_spelled text ascii = record { spells = bar false (typed standard 124) _ _ bar_kind (barred text ascii) }
+barred_spelled text ascii = record { spells = bar false (typed_byte standard 124) _ _ bar_kind (barred text ascii) }
 
 -- ---- names
 
@@ -150,9 +150,9 @@ bytes_of (c ∷ cs) = ap (λ (ds : List ℕ). c ∷ ds) (bytes_of cs)
 pub token_of : (text : List ℕ) (marks : List Mark) (limit at : ℕ) (rest : List ℕ) → Spelled text marks → character_count marks ≤ limit → IsTrue (may_end (met_text rest))
     → token_in standard limit at (text ++ rest) ≡ Ok (marks, at + length text, rest)
 token_of text marks limit at rest s fits ends =
-    ap (λ (xs : List TypedByte). in_bytes (token limit at xs)) (map-append (typed standard) text rest)
+    ap (λ (xs : List TypedByte). in_bytes (token limit at xs)) (map-append (typed_byte standard) text rest)
     ∙ ap in_bytes (spelled_gives s.spells limit at (met_text rest) fits ends)
-    ∙ (λ i. Ok (marks, (let h : at + length (met_text text) ≡ at + length text = omega (arith, length-map text (typed standard)) in h) i, bytes_of rest i))
+    ∙ (λ i. Ok (marks, (let h : at + length (met_text text) ≡ at + length text = omega (arith, length-map text (typed_byte standard)) in h) i, bytes_of rest i))
 
 -- ---- the first byte
 

@@ -21,7 +21,7 @@ use Rattle.token_meaning.specs.Numerals.{is_empty}
 use Rattle.token_meaning.specs.Folding.{in_upper_case}
 use Rattle.token_meaning.specs.Meanings.{is_package_marker}
 use Rattle.package_table.specs.Table.{Name, Table as Packages, AreSoundPackages}
-use Rattle.std_macros.specs.Values.{Value, marked, letters, character_of, character_or_refused, uninterned_of, is_own_name, given}
+use Rattle.std_macros.specs.Values.{Value, marked, letters, character_of, character_or_refused, uninterned_of, is_own_name, gives_one}
 use Rattle.std_macros.specs.declared.kind.Standard.TheVariants.{String, Char, Uninterned}
 use Rattle.canon_printer.specs.Names.{with_backslashes, printed_name}
 use Rattle.canon_printer.specs.Written.{is_escaped_in_text, character_name, printed_character, printed_text, printed_uninterned, written, written_atom, written_rest, written_elements}
@@ -32,7 +32,7 @@ use Rattle.lisp_reading.specs.declared.found.Found.{Found}
 use Rattle.lisp_reading.specs.declared.found.Found.TheVariants.{One as one}
 use Rattle.lisp_reading.specs.Plans.{Plan, Read, run}
 use Rattle.lisp_reading.specs.Setting.{Setting}
-use Rattle.lisp_reading.specs.Reading.{finished, inner, completed, text_to, items_after, list_end, undotted, attempt, without_space, form, space_at, outcome, reads, reads_at}
+use Rattle.lisp_reading.specs.Reading.{finished_plan, inner, completed_call, text_to, items_after, list_end, undotted_plan, attempt, without_space, form, space_at, outcome, reads, reads_at}
 use Rattle.lisp_reading.proofs.Forms.{reads_is}
 use Rattle.form_reader.proofs.Stacks.{then_moves}
 use Rattle.lisp_reading.proofs.Steps.{and_then, run_then}
@@ -114,17 +114,17 @@ module _ (limits : Limits) (packages : Packages) (current : Name) (functions : F
       let name = character_name c in
       let next : ℕ = at + 1 + 1 + length name in
       let offset : next ≡ at + length (35 ∷ 92 ∷ name) = omega arith in
-      let is : character_of (characters (character_marks name)) ≡ given (o.character c) =
+      let is : character_of (characters (character_marks name)) ≡ gives_one (o.character c) =
       ap character_of (marks_are name) ∙ character_is name ∙ ap character_or_refused (character_found c below) in
       placed true (o.character c) next (at + length (35 ∷ 92 ∷ name)) rest _
       (character_begun limits packages current functions d at (name ++ rest) (omega arith)
-      ∙ scan_is standard limits true limits.token (λ marks. completed s (limits.nesting - d) (sub_call limits packages current functions 92 Char) true false (marked marks)) (at + 1 + 1) (name ++ rest) (character_marks name) next rest
+      ∙ scan_is standard limits true limits.token (λ marks. completed_call s (limits.nesting - d) (sub_call limits packages current functions 92 Char) true false (marked marks)) (at + 1 + 1) (name ++ rest) (character_marks name) next rest
       (character_read c limits.token (at + 1 + 1) rest below few ends) (omega arith)
-      ∙ ap (λ (v : Value). run standard limits (finished true v) next rest) is)
+      ∙ ap (λ (v : Value). run standard limits (finished_plan true v) next rest) is)
       offset
 
-  own_value : (marks : List Mark) → is_own_name marks ≡ true → (own : List ℕ) → characters (in_upper_case marks) ≡ own → uninterned_of Upcase marks ≡ given (o.uninterned own)
-  own_value marks e own same = rw e (ap (λ (n : List ℕ). given (o.uninterned n)) same)
+  own_value : (marks : List Mark) → is_own_name marks ≡ true → (own : List ℕ) → characters (in_upper_case marks) ≡ own → uninterned_of Upcase marks ≡ gives_one (o.uninterned own)
+  own_value marks e own same = rw e (ap (λ (n : List ℕ). gives_one (o.uninterned n)) same)
 
   own_name : (marks : List Mark) → is_empty marks ≡ false → list_any is_package_marker marks ≡ false → is_own_name marks ≡ true
   own_name [] some none = absurd cc
@@ -141,9 +141,9 @@ module _ (limits : Limits) (packages : Packages) (current : Name) (functions : F
       let read = uninterned_read own limits.token (at + 1 + 1) rest ascii count ends in
       placed true (o.uninterned own) next (at + length (35 ∷ 58 ∷ text)) rest _
       (uninterned_begun limits packages current functions d at (text ++ rest) (omega arith)
-      ∙ scan_is standard limits false limits.token (λ marks. completed s (limits.nesting - d) (sub_call limits packages current functions 58 Uninterned) true false (marked marks)) (at + 1 + 1) (text ++ rest) marks next rest
+      ∙ scan_is standard limits false limits.token (λ marks. completed_call s (limits.nesting - d) (sub_call limits packages current functions 58 Uninterned) true false (marked marks)) (at + 1 + 1) (text ++ rest) marks next rest
       read.0 (omega arith)
-      ∙ ap (λ (v : Value). run standard limits (finished true v) next rest) (own_value marks (own_name marks (not_empty marks (is_name own ascii).starts) read.1) own read.2))
+      ∙ ap (λ (v : Value). run standard limits (finished_plan true v) next rest) (own_value marks (own_name marks (not_empty marks (is_name own ascii).starts) read.1) own read.2))
       offset
 
   pub text_good : (bytes : List ℕ) → IsAscii bytes → Attempted (o.text bytes) (printed_text bytes)
@@ -152,7 +152,7 @@ module _ (limits : Limits) (packages : Packages) (current : Name) (functions : F
       let body = with_backslashes is_escaped_in_text bytes in
       let size : length (printed_text bytes) ≡ 2 + length body = omega (arith, length-append (codes "\"" ++ body) (codes "\""), length-append (codes "\"") body) in
       let next : ℕ = at + 1 + length body + 1 in
-      let after = λ (cs : List ℕ). completed s (limits.nesting - d) (plain_call limits packages current functions 34 String) false false (letters cs) in
+      let after = λ (cs : List ℕ). completed_call s (limits.nesting - d) (plain_call limits packages current functions 34 String) false false (letters cs) in
       placed false (o.text bytes) next (at + length (printed_text bytes)) rest _
       (ap (attempted d at) (append_assoc (codes "\"" ++ body) (codes "\"") rest)
       ∙ text_begun limits packages current functions d at (body ++ 34 ∷ rest) (omega arith)
@@ -223,7 +223,7 @@ module _ (limits : Limits) (packages : Packages) (current : Name) (functions : F
   empty_vector : (d at : ℕ) (rest : List ℕ) → at + 2 < limits.text → attempted (suc d) at (35 ∷ 40 ∷ 41 ∷ rest) ≡ Ok (one false (o.vector nil), at + 1 + 1 + 1, rest)
   unfolding inner run
   empty_vector d at rest fits =
-      let done = undotted (vector_done limits packages current functions) in
+      let done = undotted_plan (vector_done limits packages current functions) in
       vector_begun limits packages current functions (suc d) at (41 ∷ rest) (omega arith)
       ∙ run_then standard limits (items_after s 41 (attempt s d) []) done (at + 1 + 1) (41 ∷ rest)
       ∙ ap (and_then standard limits done) (items_closed limits packages current functions d [] (at + 1 + 1) rest (omega arith))
@@ -233,7 +233,7 @@ module _ (limits : Limits) (packages : Packages) (current : Name) (functions : F
   unfolding inner
   vector_opened d at text mark a next rest fits opens e =
       vector_begun limits packages current functions (suc d) at text fits
-      ∙ then_moves standard limits (items_after s 41 (attempt s d) []) (without_space standard mark (items_after s 41 (attempt s d) (a ∷ []))) (undotted (vector_done limits packages current functions)) (at + 1 + 1) next text rest
+      ∙ then_moves standard limits (items_after s 41 (attempt s d) []) (without_space standard mark (items_after s 41 (attempt s d) (a ∷ []))) (undotted_plan (vector_done limits packages current functions)) (at + 1 + 1) next text rest
       (item_added limits packages current functions d [] (at + 1 + 1) text mark a next rest (omega arith) opens e)
 
   abbrev Tailed : Object → Type 0

@@ -5,7 +5,7 @@ ghost use Rattle.lisp_object.specs.Datum.{object_of};
 ghost use Rattle.plist_state.specs.State.{WorldState};
 ghost use Rattle.lisp_operators.specs.Properties.{t};
 ghost use Rattle.lisp_operators.specs.Readtables.{AreFunctionNames};
-ghost use Rattle.lisp_operators.specs.Evaluated.{Answers, done, IsProper, IsProperValue, AreArgumentsOf};
+ghost use Rattle.lisp_operators.specs.EvaluationAnswers.{Answers, done, IsProper, IsProperValue, AreArgumentsOf};
 ghost use Rattle.lisp_operators.specs.Evaluation.{Evaluation};
 ghost use Rattle.evaluator.specs.Value.{choice, sought, guarded, has_truth};
 ghost use Rattle.evaluator.specs.ArgumentValues.{first_value, conditional, asserted, arguments_in, operation_value, HasValue};

@@ -1,5 +1,5 @@
 use Rattle.std.proofs.Common.{refl}
-use Rattle.snapshot_text.specs.Built.{with_packages_of}
+use Rattle.snapshot_text.specs.BuiltWorlds.{with_packages_of}
 use Rattle.export_laws.proofs.properties_of_a_world.Goals as goal
 
 pub returns : goal.returns

@@ -16,7 +16,7 @@ use Rattle.lisp_reading.proofs.Forms.{form_framed}
 use Rattle.plist_state.specs.State.{WorldState}
 use Rattle.session_words.specs.declared.mode.Mode.{Mode}
 use Rattle.prevalence_store.specs.declared.outcome.Outcome.TheVariants as outcome
-use Rattle.prevalence_store.specs.meaning.Acceptance.{accepts, accepted_of, acceptance_of, between, read_in, setting_in, transacted}
+use Rattle.prevalence_store.specs.meaning.Acceptance.{accepts, accepted_of, acceptance_of, between, read_in, setting_in, transaction_value}
 use Rattle.prevalence_store.specs.calls.Execute.{Executes, SurvivesAs}
 use Rattle.prevalence_store.specs.calls.Store.{StoreView, store_view_of}
 use Rattle.user_macros.specs.Functions.{Functions}
@@ -70,7 +70,7 @@ module _ (functions : Functions) where
   -- of a form that is the whole text
   pub accepts_form : (w : WorldState) (mode : Mode) (text : List ℕ) (x : Object) (start «end» next : ℕ)
       → read_in functions w mode text ≡ form x start «end» next → next ≡ length text
-      → accepts functions w mode text ≡ acceptance_of (between start «end» text) (transacted functions.names w x)
+      → accepts functions w mode text ≡ acceptance_of (between start «end» text) (transaction_value functions.names w x)
   accepts_form w mode text x start «end» next is whole =
       accepts_by w mode text (form x start «end» next) is ∙ rw (eq-eqb next (length text) whole) refl
 

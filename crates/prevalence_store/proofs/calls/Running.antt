@@ -10,7 +10,7 @@ use Rattle.prevalence_store.specs.declared.outcome.Outcome.{Outcome}
 use Rattle.prevalence_store.specs.declared.outcome.Outcome.TheVariants.{Accepted, Snapshotted, Refused}
 use Rattle.prevalence_store.specs.declared.step.Step.{Step}
 use Rattle.prevalence_store.specs.declared.step.Step.TheVariants.{Form, Snapshot}
-use Rattle.prevalence_store.specs.meaning.Acceptance.{Acceptance, accepts, logged, records_of}
+use Rattle.prevalence_store.specs.meaning.Acceptance.{Acceptance, accepts, accepted_record, records_of}
 use Rattle.prevalence_store.specs.calls.Execute.{Executes, Stores, SurvivesAs}
 use Rattle.user_macros.specs.Functions.{Functions}
 use Rattle.prevalence_store.specs.calls.Run.{TakesStep, TakesSteps, acknowledged_in_steps, acknowledged_of_form, taken_in_steps, taken_of, world_of}
@@ -139,7 +139,7 @@ module _ (functions : Functions) {D R : Type 0} (state : D → State) where
           undone _ _ _ (refused_world w given number) (refused_takes mode given number (ne_eqb number DEVICE (λ bad. let is = memory.memory in absurd (omega arith)))) (refused_acknowledges mode given number) memory.unchanged
       form_survives mode text (Refused number) (inr (inr (inl fault))) =
           subst (λ (a : Result Acceptance ℕ). After (world_of w a (Refused number)) (taken_of mode a (Refused number)) (acknowledged_of_form mode a (Refused number))) (sym fault.accepted)
-          (faulted w (taken_of mode (Ok fault.given) (Refused number)) (logged mode fault.given.text ∷ []) 0 (rw (eq-eqb number DEVICE fault.device) refl) refl fault.failed.unknown fault.survives)
+          (faulted w (taken_of mode (Ok fault.given) (Refused number)) (accepted_record mode fault.given.text ∷ []) 0 (rw (eq-eqb number DEVICE fault.device) refl) refl fault.failed.unknown fault.survives)
 
       snapshot_survives : (o : Outcome) → Snapshots functions state old mid w o → SurvivesAs functions state old new w (taken_in_steps functions w steps outcomes) (acknowledged_in_steps functions w steps outcomes)
       snapshot_survives (Accepted value) is = absurd is

@@ -23,10 +23,10 @@ use Rattle.user_macros.proofs.Covered.{standard_covered}
 use Rattle.lisp_operators.specs.Readtables.{AreCovered}
 use Rattle.lisp_operators.specs.Evaluation.{Evaluation}
 use Rattle.lisp_reading.specs.Reading.{Outcome as Reading, form, empty, refused}
-use Rattle.snapshot_text.specs.Covered.{are_covered}
+use Rattle.snapshot_text.specs.NamedFunctions.{are_covered}
 use Rattle.world_text.specs.Snapshot.{table_named}
 use Rattle.world_text.proofs.Ascii.{keys_pass}
-use Rattle.prevalence_store.specs.meaning.Acceptance.{Acceptance, acceptance_of, accepted_of, accepts, after, between, mode_of, read_in, transacted}
+use Rattle.prevalence_store.specs.meaning.Acceptance.{Acceptance, acceptance_of, accepted_of, accepts, after, between, mode_of, read_in, transaction_value}
 use Rattle.user_macros.specs.Functions.{Functions}
 use Rattle.prevalence_store.specs.meaning.Files.{ContentsMean}
 use Rattle.lisp_object.specs.declared.refusal.TheConstants.{TEXT_LEFT_OVER}
@@ -83,7 +83,7 @@ module _ (names : List Name) where
 -- ---- forms
 
 module _ (functions : Functions) where
-  evaluated : (w : WorldState) (text : List ℕ) (x : Object) (given : Acceptance) (b : Bool) (o : Evaluation Object) → transacted functions.names w x ≡ o
+  evaluated : (w : WorldState) (text : List ℕ) (x : Object) (given : Acceptance) (b : Bool) (o : Evaluation Object) → transaction_value functions.names w x ≡ o
       → ◌≡◌ {A = Result Acceptance ℕ} (if b then acceptance_of text o else Err TEXT_LEFT_OVER) (Ok given)
       → AreCovered functions.names w.readtables → AreCovered functions.names given.world.readtables
   evaluated w text x given true (Ok d) is gives all =
@@ -95,7 +95,7 @@ module _ (functions : Functions) where
   by_reading : (w : WorldState) (text : List ℕ) (given : Acceptance) (read : Reading) → accepted_of functions w text read ≡ Ok given
       → AreCovered functions.names w.readtables → AreCovered functions.names given.world.readtables
   by_reading w text given (form x start «end» next) is all =
-      evaluated w (between start «end» text) x given (next == length text) (transacted functions.names w x) refl is all
+      evaluated w (between start «end» text) x given (next == length text) (transaction_value functions.names w x) refl is all
   by_reading w text given empty is all = absurd (cc)
   by_reading w text given (refused number at) is all = absurd (cc)
 

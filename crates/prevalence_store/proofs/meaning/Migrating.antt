@@ -17,7 +17,7 @@ use Rattle.plist_state.specs.State.{WorldState}
 use Rattle.world_text.specs.Snapshot.{snapshot_in}
 use Rattle.world_text.proofs.Versions.{text_with, third_by}
 use Rattle.session_words.specs.declared.mode.Mode.{Mode}
-use Rattle.prevalence_store.specs.meaning.Acceptance.{Acceptance, accepted_reading, acceptance_of, accepts, after, between, mode_of, read_by, read_in, rules_in_force, setting_by, transacted}
+use Rattle.prevalence_store.specs.meaning.Acceptance.{Acceptance, accepted_reading, acceptance_of, accepts, after, between, mode_of, read_by, read_in, rules_in_force, setting_by, transaction_value}
 use Rattle.prevalence_store.specs.meaning.Files.{ContentsMean, IsWorldOf, MeansWorld}
 use Rattle.prevalence_store.specs.meaning.Version1.{ContentsMean1, IsWorldOf1, MeansWorld1, accepts1, after1, rules1}
 use Rattle.prevalence_store.proofs.meaning.Replaying.{stepped}
@@ -32,7 +32,7 @@ module _ (functions : Functions) where
     Stays now given = (now ≡ Ok given) × (given.world.read_base ≡ 10)
 
     evaluated_stays : (own : List ℕ) (x : Object) (given : Acceptance) (was : Evaluation Object) → accept_over false (standard_operator_of functions.names) w x ≡ was
-        → acceptance_of own was ≡ Ok given → Stays (acceptance_of own (transacted functions.names w x)) given
+        → acceptance_of own was ≡ Ok given → Stays (acceptance_of own (transaction_value functions.names w x)) given
     evaluated_stays own x given (Ok d) is gives =
         let same = accepted_without_base functions.names w x d (accepted_as_before false functions.names w x d is) in
         let world : d.state ≡ given.world = cc in
@@ -42,7 +42,7 @@ module _ (functions : Functions) where
 
     whole_stays : (text own : List ℕ) (x : Object) (given : Acceptance) (whole : Bool)
         → ◌≡◌ {A = Result Acceptance ℕ} (if whole then acceptance_of own (accept_over false (standard_operator_of functions.names) w x) else Err TEXT_LEFT_OVER) (Ok given)
-        → Stays (if whole then acceptance_of own (transacted functions.names w x) else Err TEXT_LEFT_OVER) given
+        → Stays (if whole then acceptance_of own (transaction_value functions.names w x) else Err TEXT_LEFT_OVER) given
     whole_stays text own x given true gives = evaluated_stays own x given (accept_over false (standard_operator_of functions.names) w x) refl gives
     whole_stays text own x given false gives = absurd (cc)
 

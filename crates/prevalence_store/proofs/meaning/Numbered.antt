@@ -8,7 +8,7 @@ use Rattle.lisp_reading.proofs.Numbers.{refusal_numbered}
 use Rattle.lisp_object.specs.Object.{Object}
 use Rattle.plist_state.specs.State.{WorldState}
 use Rattle.session_words.specs.declared.mode.Mode.{Mode}
-use Rattle.prevalence_store.specs.meaning.Acceptance.{Acceptance, acceptance_of, accepted_of, accepts, between, read_in, setting_in, IsFormNumber, transacted}
+use Rattle.prevalence_store.specs.meaning.Acceptance.{Acceptance, acceptance_of, accepted_of, accepts, between, read_in, setting_in, IsFormNumber, transaction_value}
 use Rattle.prevalence_store.proofs.meaning.Transactions.{transacted_numbered}
 use Rattle.user_macros.specs.Functions.{Functions}
 
@@ -24,7 +24,7 @@ whole_numbered text false given number each is = let same : TEXT_LEFT_OVER ≡ n
 by_reading : (functions : Functions) (w : WorldState) (text : List ℕ) (read : Reading) (number : ℕ) → ((n at : ℕ) → read ≡ refused n at → IsFormNumber n)
     → accepted_of functions w text read ≡ Err number → IsFormNumber number
 by_reading functions w text (form x start «end» next) number each is =
-    whole_numbered (between start «end» text) (next == length text) (transacted functions.names w x) number
+    whole_numbered (between start «end» text) (next == length text) (transaction_value functions.names w x) number
     (λ n e. let both = transacted_numbered functions.names w x n e in let low = both.0 in let high = both.1 in record { from = omega arith; to = omega arith }) is
 by_reading functions w text empty number each is = let same : END_OF_FILE ≡ number = cc in subst IsFormNumber same (record { from = omega arith; to = omega arith })
 by_reading functions w text (refused n at) number each is = let same : n ≡ number = cc in subst IsFormNumber same (each n at refl)

@@ -24,15 +24,15 @@ use Rattle.lisp_operators.specs.Evaluation.{Done, Evaluation, also}
 use Rattle.lisp_operators.specs.declared.error.EvaluationError.{EvaluationError}
 use Rattle.lisp_operators.specs.declared.error.EvaluationError.TheVariants.{Refused, OutOfMemory}
 use Rattle.lisp_operators.specs.Effects.{Leaves}
-use Rattle.lisp_operators.specs.Evaluated.{Answers, done}
+use Rattle.lisp_operators.specs.EvaluationAnswers.{Answers, done}
 use Rattle.lisp_operators.specs.Readtables.{AreCovered}
 use Rattle.evaluator.specs.Operators.{Operator, OperatorTable, pazturrok}
 use Rattle.evaluator.specs.Value.{Parts, form_value_by, value_over}
 use Rattle.form_eval.specs.Acceptance.{accept, accept_over, accepted_over, with_symbols}
 use Rattle.form_eval.proofs.Accepted.{accepted_covers, accepted_numbered, accepted_silent}
-use Rattle.forgotten_names.specs.Forgotten.{forgettable, forgotten}
+use Rattle.forgotten_names.specs.WorldsWithoutNames.{forgettable, forgotten}
 use Rattle.forgotten_names.proofs.NothingForgotten.{nothing_forgotten}
-use Rattle.prevalence_store.specs.meaning.Acceptance.{transacted}
+use Rattle.prevalence_store.specs.meaning.Acceptance.{transaction_value}
 use Rattle.prevalence_store.specs.meaning.Forgetting.{forget_names, forgettable_count, forgetting, held_symbols, is_forget_names, is_forgetting, is_nothing}
 
 -- ---- what it leaves
@@ -63,34 +63,34 @@ module _ (names : List Name) where
   abbrev by_test : WorldState → Object → Bool → Evaluation Object
   by_test s x forgets = if forgets then forgetting s else accept names s x
 
-  pub forgetting_form : (s : WorldState) (x : Object) → is_forgetting x ≡ true → transacted names s x ≡ forgetting s
+  pub forgetting_form : (s : WorldState) (x : Object) → is_forgetting x ≡ true → transaction_value names s x ≡ forgetting s
   forgetting_form s x is = ap (by_test s x) is
 
-  pub not_forgetting : (s : WorldState) (x : Object) → is_forgetting x ≡ false → transacted names s x ≡ accept names s x
+  pub not_forgetting : (s : WorldState) (x : Object) → is_forgetting x ≡ false → transaction_value names s x ≡ accept names s x
   not_forgetting s x other = ap (by_test s x) other
 
-  pub refused_alike : (s : WorldState) (x : Object) (number : ℕ) → transacted names s x ≡ Err number → accept names s x ≡ Err number
+  pub refused_alike : (s : WorldState) (x : Object) (number : ℕ) → transaction_value names s x ≡ Err number → accept names s x ≡ Err number
   refused_alike s x number = by_form (is_forgetting x)
     where
       by_form : (forgets : Bool) → by_test s x forgets ≡ Err number → accept names s x ≡ Err number
       by_form true is = absurd (let no : forgetting s ≡ Err number = is in cc)
       by_form false is = is
 
-  pub transacted_silent : (s : WorldState) (x : Object) (d : Done Object) → transacted names s x ≡ Ok d → d.wrote ≡ false → d.state ≡ s
+  pub transacted_silent : (s : WorldState) (x : Object) (d : Done Object) → transaction_value names s x ≡ Ok d → d.wrote ≡ false → d.state ≡ s
   transacted_silent s x d = by_form (is_forgetting x)
     where
       by_form : (forgets : Bool) → by_test s x forgets ≡ Ok d → d.wrote ≡ false → d.state ≡ s
       by_form true is none = forgetting_silent s d is none
       by_form false is none = accepted_silent names s x d is none
 
-  pub transacted_covers : (s : WorldState) (x : Object) (d : Done Object) → transacted names s x ≡ Ok d → AreCovered names s.readtables → AreCovered names d.state.readtables
+  pub transacted_covers : (s : WorldState) (x : Object) (d : Done Object) → transaction_value names s x ≡ Ok d → AreCovered names s.readtables → AreCovered names d.state.readtables
   transacted_covers s x d = by_form (is_forgetting x)
     where
       by_form : (forgets : Bool) → by_test s x forgets ≡ Ok d → AreCovered names s.readtables → AreCovered names d.state.readtables
       by_form true is all = subst (λ (t : WorldState). AreCovered names t.readtables) (ap (state_of s) is) all
       by_form false is all = accepted_covers names s x d is all
 
-  pub transacted_numbered : (s : WorldState) (x : Object) (number : ℕ) → transacted names s x ≡ Err number → (30 ≤ number) × (number ≤ 47)
+  pub transacted_numbered : (s : WorldState) (x : Object) (number : ℕ) → transaction_value names s x ≡ Err number → (30 ≤ number) × (number ≤ 47)
   transacted_numbered s x number is = accepted_numbered names s x number (refused_alike s x number is)
 
 pub leaves_refused : (error : EvaluationError) (s : WorldState) (said : Evaluation Object) → Answers done (Err error) s said → Leaves (Err error) s said

@@ -5,14 +5,14 @@ use Rattle.std.proofs.lemmas.List.{length-map, map-append}
 use Rattle.disk_trait.specs.Disk.{State, IsHonest, IsSoundDisk}
 use Rattle.gate_log.specs.Layout.{IsLogRecord, open_record}
 use Rattle.lisp_object.specs.Object.{Object}
-use Rattle.lisp_operators.specs.Evaluated.{done}
+use Rattle.lisp_operators.specs.EvaluationAnswers.{done}
 use Rattle.lisp_operators.specs.declared.evaluated.Evaluated.{Evaluated}
 use Rattle.lisp_reading.specs.Reading.{form}
 use Rattle.plist_state.specs.State.{WorldState}
 use Rattle.prevalence_store.specs.declared.batch.Batch.{Batch}
 use Rattle.prevalence_store.specs.declared.batch.BatchRecord.{BatchRecord}
 use Rattle.session_words.specs.declared.mode.Mode.{Mode}
-use Rattle.prevalence_store.specs.meaning.Acceptance.{after, logged, read_in, records_of, transacted}
+use Rattle.prevalence_store.specs.meaning.Acceptance.{after, accepted_record, read_in, records_of, transaction_value}
 use Rattle.prevalence_store.specs.calls.Execute.{Stores}
 use Rattle.prevalence_store.specs.calls.ExecuteAll.{LogsAll}
 use Rattle.prevalence_store.specs.calls.Store.{StoreView}
@@ -21,7 +21,7 @@ use Rattle.prevalence_store.proofs.steps.Grouping.{of_value}
 use Rattle.user_macros.specs.Functions.{Functions}
 
 -- the bytes of the record of a form
-pub one_size : (mode : Mode) (text : List ℕ) → length (flat_map open_record (logged mode text ∷ [])) ≡ 6 + length text
+pub one_size : (mode : Mode) (text : List ℕ) → length (flat_map open_record (accepted_record mode text ∷ [])) ≡ 6 + length text
 one_size mode text = omega (arith, length-append text [])
 
 -- as many records as forms that wrote
@@ -29,8 +29,8 @@ pub count_entries : (batch : Batch) → length (entries_in batch) ≡ length bat
 count_entries batch = length-map batch.records.items entry_of
 
 -- a form more
-pub entries_push : (forms : List BatchRecord) (last : BatchRecord) (mode : Mode) (own : List ℕ) → last.mode ≡ mode → last.text.items ≡ own → entries_of (forms ++ last ∷ []) ≡ entries_of forms ++ logged mode own ∷ []
-entries_push forms last mode own mode_is is = map-append entry_of forms (last ∷ []) ∙ (λ i. entries_of forms ++ logged (mode_is i) (is i) ∷ [])
+pub entries_push : (forms : List BatchRecord) (last : BatchRecord) (mode : Mode) (own : List ℕ) → last.mode ≡ mode → last.text.items ≡ own → entries_of (forms ++ last ∷ []) ≡ entries_of forms ++ accepted_record mode own ∷ []
+entries_push forms last mode own mode_is is = map-append entry_of forms (last ∷ []) ∙ (λ i. entries_of forms ++ accepted_record (mode_is i) (is i) ∷ [])
 
 -- a batch of none has no records
 pub none_in : (batch : Batch) → IsEmpty batch → entries_in batch ≡ []
@@ -44,7 +44,7 @@ ok_on (Err error) f is = tt
 module _ (functions : Functions) where
   -- the record of a form makes the world that the form left, and fits the log
   pub one_record : (mode : Mode) (w v : WorldState) (text : List ℕ) (x : Object) (e : Evaluated) → read_in functions w mode text ≡ form x 0 (length text) (length text)
-      → transacted functions.names w x ≡ Ok (done e v) → (after functions w (records_of e.wrote mode text) ≡ Some v) × AllByRecursion IsLogRecord (records_of e.wrote mode text)
+      → transaction_value functions.names w x ≡ Ok (done e v) → (after functions w (records_of e.wrote mode text) ≡ Some v) × AllByRecursion IsLogRecord (records_of e.wrote mode text)
   one_record mode w v text x e whole valued = let is = of_value functions mode w text x (Ok (done e v)) valued whole in (is.again, is.fit)
 
   module _ {D R : Type 0} (state : D → State) (sound : (d : D) → IsHonest (state d) → IsSoundDisk (state d)) (old new : StoreView D R) where

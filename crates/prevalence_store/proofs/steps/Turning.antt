@@ -11,7 +11,7 @@ use Rattle.prevalence_store.specs.declared.failure.Unlogged.TheVariants.{DeviceF
 use Rattle.prevalence_store.specs.declared.outcome.Outcome.{Outcome}
 use Rattle.prevalence_store.specs.declared.outcome.Outcome.TheVariants.{Accepted, Snapshotted, Refused}
 use Rattle.session_words.specs.declared.mode.Mode.{Mode}
-use Rattle.prevalence_store.specs.meaning.Acceptance.{Acceptance, accepts, after, logged, records_of}
+use Rattle.prevalence_store.specs.meaning.Acceptance.{Acceptance, accepts, after, accepted_record, records_of}
 use Rattle.prevalence_store.specs.calls.Execute.{Executes, IsProperOutcome, IsValueIn, SurvivesAs}
 use Rattle.prevalence_store.specs.calls.ExecuteAll.{FailsTogether, IsTogether, LogsAll, texts_in_turn}
 use Rattle.prevalence_store.specs.calls.Store.{StoreView}
@@ -108,7 +108,7 @@ module _ (functions : Functions) (mode : Mode) (w : WorldState) (text : List ℕ
         → Executes functions state old new w mode text (Refused (failure_number Full))
     had_no_room (Ok given) is outcome left records turn some over same =
         let wrote = wrote_some given given.wrote refl (subst (λ (es : List LogRecord). 0 < length es) turn.entries some) in
-        let one : records ≡ logged mode given.text ∷ [] = turn.entries ∙ ap (λ b. records_of b mode given.text) wrote in
+        let one : records ≡ accepted_record mode given.text ∷ [] = turn.entries ∙ ap (λ b. records_of b mode given.text) wrote in
         inr (inl (record {
           full = refl;
           given = given;
@@ -125,7 +125,7 @@ module _ (functions : Functions) (mode : Mode) (w : WorldState) (text : List ℕ
         → Executes functions state old new w mode text (Refused (failure_number DeviceFault))
     met_fault (Ok given) is outcome left records turn fails =
         let wrote = wrote_some given given.wrote refl (subst (λ (es : List LogRecord). 0 < length es) turn.entries fails.some) in
-        let one : records ≡ logged mode given.text ∷ [] = turn.entries ∙ ap (λ b. records_of b mode given.text) wrote in
+        let one : records ≡ accepted_record mode given.text ∷ [] = turn.entries ∙ ap (λ b. records_of b mode given.text) wrote in
         inr (inr (inl (record {
           device = refl;
           given = given;

@@ -6,12 +6,12 @@ use Rattle.disk_trait.specs.declared.half.Half.{Half}
 use Rattle.gate_log.specs.Layout.{Contents, LogRecord, with_record}
 use Rattle.lisp_object.specs.Object.{Object}
 use Rattle.lisp_object.specs.Datum.{object_of, is_proper}
-use Rattle.lisp_operators.specs.Evaluated.{IsArgument}
+use Rattle.lisp_operators.specs.EvaluationAnswers.{IsArgument}
 use Rattle.lisp_object.specs.declared.refusal.TheConstants.{DEVICE, LOG_FULL, NO_MEMORY, REOPEN}
 use Rattle.session_words.specs.declared.mode.Mode.{Mode}
 use Rattle.prevalence_store.specs.declared.outcome.Outcome.{Outcome}
 use Rattle.prevalence_store.specs.declared.outcome.Outcome.TheVariants.{Accepted, Snapshotted, Refused}
-use Rattle.prevalence_store.specs.meaning.Acceptance.{Acceptance, accepts, logged, records_of}
+use Rattle.prevalence_store.specs.meaning.Acceptance.{Acceptance, accepts, accepted_record, records_of}
 use Rattle.prevalence_store.specs.calls.Store.{LeavesAlone, StoreView, Describes}
 use Rattle.prevalence_store.specs.Theorem.{Keeps, Survives}
 use Rattle.plist_state.specs.State.{WorldState}
@@ -38,7 +38,7 @@ module _ {D R : Type 0} (state : D → State) (old new : StoreView D R) where
     pub limit : new.limit ≡ old.limit
     pub macros : new.macros ≡ old.macros
     pub described : (k : Contents) → IsHonest (state old.disk) → Describes old k (state old.disk).reads
-        → Describes new (with_record k (logged mode text)) (state new.disk).reads
+        → Describes new (with_record k (accepted_record mode text)) (state new.disk).reads
     pub other : IsHonest (state old.disk) → LeavesAlone (opposite_of old.half) (state old.disk) (state new.disk)
     pub failures : (state new.disk).failures ≡ (state old.disk).failures
 
@@ -106,7 +106,7 @@ module _ (functions : Functions) {D R : Type 0} (state : D → State) (old new :
       pub wrote : given.wrote ≡ true
       pub fits : old.size + (6 + length given.text) ≤ old.limit
       pub failed : DeviceFails state old new (opposite_of old.half)
-      pub survives : SurvivesAs world (logged mode given.text ∷ []) 0
+      pub survives : SurvivesAs world (accepted_record mode given.text ∷ []) 0
 
     -- a growth was refused
     pub record HasNoMemory (number : ℕ) : Type 0 where

@@ -9,7 +9,7 @@ use Rattle.prevalence_store.specs.declared.outcome.Outcome.{Outcome}
 use Rattle.prevalence_store.specs.declared.outcome.Outcome.TheVariants.{Accepted, Snapshotted, Refused}
 use Rattle.prevalence_store.specs.declared.step.Step.{Step}
 use Rattle.prevalence_store.specs.declared.step.Step.TheVariants.{Form, Snapshot}
-use Rattle.prevalence_store.specs.meaning.Acceptance.{Acceptance, accepts, logged, records_of}
+use Rattle.prevalence_store.specs.meaning.Acceptance.{Acceptance, accepts, accepted_record, records_of}
 use Rattle.prevalence_store.specs.calls.Execute.{AsksToReopen, Executes}
 use Rattle.user_macros.specs.Functions.{Functions}
 use Rattle.prevalence_store.specs.calls.Store.{StoreView}
@@ -37,7 +37,7 @@ abbrev pub taken_of : Mode → Result Acceptance ℕ → Outcome → List LogRec
 taken_of mode (Err number) outcome = []
 taken_of mode (Ok given) (Accepted value) = records_of given.wrote mode given.text
 taken_of mode (Ok given) Snapshotted = []
-taken_of mode (Ok given) (Refused number) = if number == DEVICE then logged mode given.text ∷ [] else []
+taken_of mode (Ok given) (Refused number) = if number == DEVICE then accepted_record mode given.text ∷ [] else []
 
 -- how many of these were acknowledged: all that were called accepted
 abbrev pub acknowledged_of_form : Mode → Result Acceptance ℕ → Outcome → ℕ

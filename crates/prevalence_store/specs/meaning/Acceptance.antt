@@ -95,8 +95,8 @@ transacted_by by names world x =
     if by.forgets && is_forgetting x then forgetting world else accept_over by.based (by.operators names) world x
 
 -- the same, by the rules in force
-abbrev pub transacted : List Name → WorldState → Object → Evaluation Object
-transacted = transacted_by rules_in_force
+abbrev pub transaction_value : List Name → WorldState → Object → Evaluation Object
+transaction_value = transacted_by rules_in_force
 
 -- what evaluation gave for the object of this text, or the number of a refusal
 abbrev pub acceptance_of : List ℕ → Evaluation Object → Result Acceptance ℕ
@@ -124,12 +124,12 @@ abbrev pub accepts : Functions → WorldState → Mode → List ℕ → Result A
 accepts functions world mode text = accepts_by rules_in_force functions world mode text
 
 -- the record of a form that was accepted
-abbrev pub logged : Mode → List ℕ → LogRecord
-logged mode text = record { kind = kind_of mode; text = text }
+abbrev pub accepted_record : Mode → List ℕ → LogRecord
+accepted_record mode text = record { kind = kind_of mode; text = text }
 
 -- a form is logged exactly if it wrote
 abbrev pub records_of : Bool → Mode → List ℕ → List LogRecord
-records_of wrote mode text = if wrote then logged mode text ∷ [] else []
+records_of wrote mode text = if wrote then accepted_record mode text ∷ [] else []
 
 -- The world after these records, each accepted in the world that the ones before it left. None if one is not accepted.
 abbrev pub after_by : Rules → Functions → WorldState → List LogRecord → Option WorldState

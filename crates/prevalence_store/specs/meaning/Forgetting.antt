@@ -6,8 +6,8 @@ use Rattle.plist_state.specs.Properties.{Symbol}
 use Rattle.plist_state.specs.State.{WorldState}
 use Rattle.lisp_operators.specs.Evaluation.{Evaluation}
 use Rattle.evaluator.specs.Operators.{pazturrok}
-use Rattle.form_eval.specs.Acceptance.{asked}
-use Rattle.forgotten_names.specs.Forgotten.{forgettable, forgotten}
+use Rattle.form_eval.specs.Acceptance.{question_value}
+use Rattle.forgotten_names.specs.WorldsWithoutNames.{forgettable, forgotten}
 
 -- the symbols that stay in any case: that of the position of messages, which a round takes out of the property lists before each message
 abbrev pub held_symbols : List Symbol
@@ -49,5 +49,5 @@ abbrev pub counting : WorldState → Evaluation Object
 counting s = Ok (record { value = integer (pos (forgettable_count s)); state = s; wrote = nat_lt 0 (forgettable_count s) })
 
 -- the value of a question, with that of this form
-abbrev pub questioned : List Name → WorldState → Object → Evaluation Object
-questioned names s x = if is_forgetting x then counting s else asked names s x
+abbrev pub question_in_force : List Name → WorldState → Object → Evaluation Object
+question_in_force names s x = if is_forgetting x then counting s else question_value names s x

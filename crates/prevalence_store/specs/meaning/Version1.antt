@@ -9,7 +9,7 @@ use Rattle.gate_log.specs.Log as gated
 use Rattle.evaluator.specs.Operators.{standard_operator_of}
 use Rattle.plist_state.specs.State.{WorldState, initial}
 use Rattle.plist_state.specs.Sound.{IsSoundWorldState}
-use Rattle.snapshot_text.specs.Covered.{are_covered}
+use Rattle.snapshot_text.specs.NamedFunctions.{are_covered}
 use Rattle.world_text.specs.Snapshot.{snapshot_in}
 use Rattle.user_macros.specs.Functions.{Functions}
 use Rattle.session_words.specs.declared.mode.Mode.{Mode}

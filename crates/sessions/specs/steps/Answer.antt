@@ -6,7 +6,7 @@ use Rattle.lisp_object.specs.Object.{Object, IsSound}
 use Rattle.lisp_object.specs.Datum.{object_of, is_proper}
 use Rattle.form_eval.specs.declared.read_form.ReadForm.{ReadForm}
 use Rattle.package_table.specs.Symbols.{are_there}
-use Rattle.lisp_operators.specs.Evaluated.{IsArgument, done}
+use Rattle.lisp_operators.specs.EvaluationAnswers.{IsArgument, done}
 use Rattle.lisp_operators.specs.declared.evaluated.Evaluated.{Evaluated}
 use Rattle.form_eval.specs.Acceptance.{accept}
 use Rattle.form_eval.specs.Laws.{MayEvaluate}
@@ -25,7 +25,7 @@ use Rattle.sessions.specs.declared.ending.Ended.TheVariants as ways
 use Rattle.session_words.specs.declared.wanted.Wanted.{Wanted}
 use Rattle.sessions.specs.declared.ending.Ending.{Ending}
 use Rattle.sessions.specs.declared.ending.Ending.TheVariants.{End, Reader, Store}
-use Rattle.prevalence_store.specs.meaning.Acceptance.{between, read_in, records_of, transacted}
+use Rattle.prevalence_store.specs.meaning.Acceptance.{between, read_in, records_of, transaction_value}
 use Rattle.sessions.specs.Answers.{Progress, first_progress, refusal_line, value_line}
 use Rattle.sessions.specs.Pace.{Fill, LogsWithRoom, Pace, Paces, fill_of, longer_by}
 use Rattle.sessions.specs.Serve.{Advances, IsOver, IsUnaccepted, Serves, ServesInPace}
@@ -90,11 +90,11 @@ refusal_that_ends false (Refused number) = None
 -- what a reply is to a form that was added to a batch in one world, and left the other, by what became of it
 abbrev pub IsReplyTo : (names : List (List ℕ)) → Mode → Object → List ℕ → (before after : WorldState) → (old new : Batch) → Reply → Result Evaluated Failure → Type 0
 IsReplyTo names mode object own before after old new reply (Ok e) =
-    (transacted names before object ≡ Ok (done e after)) × IsArgument after.packages e.value
+    (transaction_value names before object ≡ Ok (done e after)) × IsArgument after.packages e.value
     × (entries_in new ≡ entries_in old ++ records_of e.wrote mode own)
     × (reply.line.items ≡ value_line after (object_of e.value)) × (reply.answered ≡ Accepted e.wrote)
 IsReplyTo names mode object own before after old new reply (Err (failure.Refused number)) =
-    (transacted names before object ≡ Err number) × (after ≡ before) × (new ≡ old)
+    (transaction_value names before object ≡ Err number) × (after ≡ before) × (new ≡ old)
     × (reply.line.items ≡ refusal_line number) × (reply.answered ≡ Refused number)
 IsReplyTo names mode object own before after old new reply (Err failure.Full) = ⊥
 IsReplyTo names mode object own before after old new reply (Err failure.DeviceFault) = ⊥

@@ -7,7 +7,7 @@ use Rattle.lisp_object.specs.Object.{Object}
 use Rattle.lisp_object.specs.Datum.{object_of}
 use Rattle.form_eval.specs.Laws.{MayEvaluate}
 use Rattle.form_eval.specs.declared.read_form.ReadForm.{ReadForm}
-use Rattle.lisp_operators.specs.Evaluated.{done}
+use Rattle.lisp_operators.specs.EvaluationAnswers.{done}
 use Rattle.lisp_operators.specs.Evaluation.{Done, Evaluation}
 use Rattle.lisp_operators.specs.declared.evaluated.Evaluated.{Evaluated}
 use Rattle.lisp_reading.specs.Reading.{form}
@@ -15,7 +15,7 @@ use Rattle.plist_state.specs.State.{WorldState}
 use Rattle.prevalence_store.specs.declared.failure.Unlogged.{Unlogged}
 use Rattle.prevalence_store.specs.declared.failure.Unlogged.TheVariants as unlogged
 use Rattle.session_words.specs.declared.mode.Mode.{Mode}
-use Rattle.prevalence_store.specs.meaning.Acceptance.{logged, read_in, records_of, transacted}
+use Rattle.prevalence_store.specs.meaning.Acceptance.{accepted_record, read_in, records_of, transaction_value}
 use Rattle.prevalence_store.specs.calls.Execute.{DeviceFails, Stores, SurvivesAs}
 use Rattle.prevalence_store.specs.calls.Store.{StoreView}
 use Rattle.user_macros.specs.Functions.{Functions}
@@ -59,7 +59,7 @@ IsCause given size limit length OutOfMemory = Unit {0}
 -- of a form that was read: its one form, if it was accepted and wrote, and if it was under way as the device failed
 abbrev pub taken_in : Mode → List ℕ → Result Evaluated Failure → List LogRecord
 taken_in mode text (Ok evaluated) = records_of evaluated.wrote mode text
-taken_in mode text (Err DeviceFault) = logged mode text ∷ []
+taken_in mode text (Err DeviceFault) = accepted_record mode text ∷ []
 taken_in mode text (Err (Refused number)) = []
 taken_in mode text (Err Full) = []
 taken_in mode text (Err OutOfMemory) = []
@@ -81,8 +81,8 @@ pub record IsFormIn (functions : Functions) (left : Option WorldState) (mode : M
 -- What a form does that was read, in the world of the store: it was accepted, and stored if it wrote; or it was not, with its cause.
 pub record TakesForm (functions : Functions) {D R : Type 0} (state : D → State) (old new : StoreView D R) (mode : Mode) (text : List ℕ) (object : Object) (result : Result Evaluated Failure) : Type 0 where
   pub accepted : (world : WorldState) → old.world ≡ Some world → IfOk result (λ evaluated.
-      (given : WorldState) × (transacted functions.names world object ≡ Ok (done evaluated given)) × Stores state old new evaluated.wrote mode text given)
-  pub cause : (world : WorldState) → old.world ≡ Some world → IfErr result (IsCause (transacted functions.names world object) old.size old.limit (length text))
+      (given : WorldState) × (transaction_value functions.names world object ≡ Ok (done evaluated given)) × Stores state old new evaluated.wrote mode text given)
+  pub cause : (world : WorldState) → old.world ≡ Some world → IfErr result (IsCause (transaction_value functions.names world object) old.size old.limit (length text))
   pub unchanged : IfErr result (λ failure. is_device failure ≡ false → new ≡ old)
   pub fault : IfErr result (λ failure. is_device failure ≡ true → DeviceFails state old new (opposite_of old.half))
   pub survives : (world : WorldState) → SurvivesAs functions state old new world (taken_in mode text result) (acknowledged_in mode text result)

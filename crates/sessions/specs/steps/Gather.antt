@@ -22,8 +22,8 @@ use Rattle.sessions.specs.declared.group.Grouped.TheVariants as grouped
 use Rattle.sessions.specs.declared.whole_forms.WholeForms.{WholeForms}
 use Rattle.sessions.specs.Serve.{room_of}
 use Rattle.prevalence_store.specs.calls.Store.{StoreView}
-use Rattle.prevalence_store.specs.meaning.Acceptance.{after, between, read_in, transacted}
-use Rattle.sessions.specs.Answers.{Progress, after_forms, evaluated}
+use Rattle.prevalence_store.specs.meaning.Acceptance.{after, between, read_in, transaction_value}
+use Rattle.sessions.specs.Answers.{Progress, after_forms, form_progress}
 use Rattle.sessions.specs.steps.Course.{Course}
 use Rattle.prevalence_store.specs.steps.Batch.{entries_in}
 use Rattle.sessions.specs.steps.Input.{IsPending}
@@ -75,15 +75,15 @@ module _ (functions : Functions) (wanted : Wanted) where
   -- A form of so many bytes was evaluated, and what comes of it was added, its record to the batch.
   pub record IsAdded (object : Object) (own : List ℕ) (bytes : ℕ) (before after : WorldState) (had has : Batch) (old new : GatheredForms) : Type 0 where
     pub given : Evaluation Object
-    pub valued : transacted functions.names before object ≡ given
-    pub left : after ≡ (evaluated before wanted.mode own [] given).world
-    pub lines : new.lines.items ≡ old.lines.items ++ (evaluated before wanted.mode own [] given).lines
-    pub taken : entries_in has ≡ entries_in had ++ (evaluated before wanted.mode own [] given).taken
-    pub accepted : wanted.strict ≡ true → (evaluated before wanted.mode own [] given).refused ≡ []
+    pub valued : transaction_value functions.names before object ≡ given
+    pub left : after ≡ (form_progress before wanted.mode own [] given).world
+    pub lines : new.lines.items ≡ old.lines.items ++ (form_progress before wanted.mode own [] given).lines
+    pub taken : entries_in has ≡ entries_in had ++ (form_progress before wanted.mode own [] given).taken
+    pub accepted : wanted.strict ≡ true → (form_progress before wanted.mode own [] given).refused ≡ []
     pub counted : new.records ≡ length (entries_in has)
     pub forms : new.forms ≡ old.forms + 1
     pub bytes_are : new.bytes ≡ old.bytes + bytes
-    pub record_bytes : new.record_bytes ≡ old.record_bytes + room_of (evaluated before wanted.mode own [] given).taken
+    pub record_bytes : new.record_bytes ≡ old.record_bytes + room_of (form_progress before wanted.mode own [] given).taken
 
   -- the form that these bytes begin with was added, which takes so many of them
   pub record AddsNextForm (piece : List ℕ) (before after : WorldState) (had has : Batch) (old new : GatheredForms) (count : ℕ) : Type 0 where

@@ -1,7 +1,7 @@
 use Rattle.std.proofs.Common.{◌≡◌, true, Option, None, Some, sym, subst}
 use Rattle.gate_log.specs.Layout.{Contents}
 use Rattle.plist_state.specs.State.{WorldState}
-use Rattle.snapshot_text.specs.Covered.{are_covered}
+use Rattle.snapshot_text.specs.NamedFunctions.{are_covered}
 use Rattle.user_macros.specs.Functions.{Functions}
 use Rattle.prevalence_store.specs.meaning.Files.{IsWorldOf}
 use Rattle.prevalence_store.proofs.meaning.Covering.{held_covered, initial_covered}

@@ -1,23 +1,23 @@
 use Rattle.std.proofs.Common.{refl}
-use Rattle.crc32c.specs.Register.{shifted, after_bits, bits}
+use Rattle.crc32c.specs.Register.{register_after_bit, after_bits, bits}
 use Rattle.crc32c.proofs.laws.known_sums.Goals as goal
 
 pub returns-clause-nothing : goal.returns-clause-nothing
-unfolding shifted after_bits bits
+unfolding register_after_bit after_bits bits
 returns-clause-nothing c = refl
 
 pub returns-clause-digits : goal.returns-clause-digits
-unfolding shifted after_bits bits
+unfolding register_after_bit after_bits bits
 returns-clause-digits c = refl
 
 pub returns-clause-zeros : goal.returns-clause-zeros
-unfolding shifted after_bits bits
+unfolding register_after_bit after_bits bits
 returns-clause-zeros c = refl
 
 pub returns-clause-ones : goal.returns-clause-ones
-unfolding shifted after_bits bits
+unfolding register_after_bit after_bits bits
 returns-clause-ones c = refl
 
 pub returns-clause-rising : goal.returns-clause-rising
-unfolding shifted after_bits bits
+unfolding register_after_bit after_bits bits
 returns-clause-rising c = refl

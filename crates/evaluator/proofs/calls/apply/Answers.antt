@@ -1,7 +1,7 @@
 use Rattle.std.proofs.Common.{ap, sym, subst, ◌∙◌}
 use Rattle.lisp_object.specs.Datum.{object_of}
 use Rattle.lisp_operators.specs.Effects.{Leaves, effect}
-use Rattle.lisp_operators.specs.Evaluated.{IsArgument}
+use Rattle.lisp_operators.specs.EvaluationAnswers.{IsArgument}
 use Rattle.evaluator.specs.Value.{value}
 use Rattle.evaluator.proofs.calls.apply.Goals as goal
 

@@ -4,7 +4,7 @@ use Rattle.lisp_object.specs.declared.datum.Datum
 use Rattle.package_table.specs.Table.{common_lisp}
 use Rattle.plist_state.specs.State.{Worlds}
 use Rattle.lisp_operators.specs.Effects.{Leaves}
-use Rattle.lisp_operators.specs.Evaluated.{IsArgument}
+use Rattle.lisp_operators.specs.EvaluationAnswers.{IsArgument}
 use Rattle.evaluator.specs.Value.{value}
 use Rattle.evaluator.proofs.Steps.{items_arguments}
 use Rattle.evaluator.proofs.QuotedKeys.{both_arguments, third_out, third_back}

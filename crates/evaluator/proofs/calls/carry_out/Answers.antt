@@ -1,5 +1,5 @@
 use Rattle.lisp_object.specs.Datum.{object_of}
-use Rattle.lisp_operators.specs.Evaluated.{done}
+use Rattle.lisp_operators.specs.EvaluationAnswers.{done}
 use Rattle.evaluator.specs.Value.{value}
 use Rattle.evaluator.proofs.Seen.{leaves_so, stops_so}
 use Rattle.evaluator.proofs.calls.carry_out.Goals as goal

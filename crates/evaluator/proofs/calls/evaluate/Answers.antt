@@ -1,6 +1,6 @@
 use Rattle.std.proofs.Common.{subst}
 use Rattle.lisp_object.specs.Datum.{object_of}
-use Rattle.lisp_operators.specs.Evaluated.{Answers, done}
+use Rattle.lisp_operators.specs.EvaluationAnswers.{Answers, done}
 use Rattle.evaluator.specs.Value.{value}
 use Rattle.evaluator.proofs.Seen.{seen_value}
 use Rattle.evaluator.proofs.calls.evaluate.Goals as goal

@@ -1,7 +1,7 @@
 use Rattle.std.proofs.Common.{◌≡◌, List, map, sym, subst}
 use Rattle.lisp_object.specs.Object.{Object}
 use Rattle.lisp_object.specs.Datum.{object_of}
-use Rattle.lisp_operators.specs.Evaluated.{Answers, done}
+use Rattle.lisp_operators.specs.EvaluationAnswers.{Answers, done}
 use Rattle.lisp_operators.specs.Evaluation.{and_then}
 use Rattle.lisp_operators.specs.Properties.{list}
 use Rattle.evaluator.specs.Operators.{computed_value}

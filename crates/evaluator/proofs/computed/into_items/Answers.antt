@@ -1,7 +1,7 @@
 use Rattle.std.proofs.Common.{All, map, sym, ap, subst, ◌∙◌}
 use Rattle.lisp_object.specs.Datum.{object_of}
 use Rattle.lisp_object.proofs.ProperLists.{proper_list_items}
-use Rattle.lisp_operators.specs.Evaluated.{IsProper}
+use Rattle.lisp_operators.specs.EvaluationAnswers.{IsProper}
 use Rattle.evaluator.proofs.ListValues.{listed_items, no_items, all_proper}
 use Rattle.evaluator.proofs.computed.into_items.Goals as goal
 

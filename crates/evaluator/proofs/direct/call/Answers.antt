@@ -1,5 +1,5 @@
 use Rattle.std.proofs.Common.{All, sym, subst}
-use Rattle.lisp_operators.specs.Evaluated.{IsArgument}
+use Rattle.lisp_operators.specs.EvaluationAnswers.{IsArgument}
 use Rattle.evaluator.proofs.QuotedKeys.{call_proper}
 use Rattle.evaluator.proofs.Steps.{items_arguments}
 use Rattle.evaluator.proofs.direct.call.Goals as goal

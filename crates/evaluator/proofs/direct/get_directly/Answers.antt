@@ -1,6 +1,6 @@
 use Rattle.std.proofs.Common.{unwrap_or, subst}
 use Rattle.lisp_object.specs.Object.{nil}
-use Rattle.lisp_operators.specs.Evaluated.{Answers, done}
+use Rattle.lisp_operators.specs.EvaluationAnswers.{Answers, done}
 use Rattle.lisp_operators.specs.Evaluation.{gives}
 use Rattle.evaluator.specs.Direct.{property_value}
 use Rattle.evaluator.proofs.direct.get_directly.Goals as goal

@@ -1,7 +1,7 @@
 use Rattle.std.proofs.Common.{None, codes, ap, sym, subst, ◌∙◌, arith}
 use Rattle.lisp_object.specs.Object.{pair, symbol}
 use Rattle.package_table.specs.Table.{common_lisp}
-use Rattle.lisp_operators.specs.Evaluated.{IsArgument}
+use Rattle.lisp_operators.specs.EvaluationAnswers.{IsArgument}
 use Rattle.evaluator.proofs.Steps.{items_arguments}
 use Rattle.evaluator.proofs.QuotedKeys.{one_argument}
 use Rattle.evaluator.proofs.direct.into_quoted.Goals as goal

@@ -4,7 +4,7 @@ use Rattle.lisp_object.specs.Datum.{object_of}
 use Rattle.package_table.specs.Table.{common_lisp}
 use Rattle.plist_state.specs.Views.{symbol_named}
 use Rattle.plist_state.specs.Sound.{IsValue}
-use Rattle.lisp_operators.specs.Evaluated.{IsArgument}
+use Rattle.lisp_operators.specs.EvaluationAnswers.{IsArgument}
 use Rattle.evaluator.specs.ArgumentValues.{arguments_in}
 use Rattle.evaluator.proofs.QuotedKeys.{both_arguments, assignment_given, key_symbols}
 use Rattle.evaluator.proofs.direct.literal_assignment.Goals as goal

@@ -7,7 +7,7 @@ use Rattle.lisp_object.proofs.Objects.{object_of-Symbol, object_of-List}
 use Rattle.lisp_object.specs.declared.datum.Datum.TheViews.{sized-List, the_lemmas}
 use Rattle.lisp_object.proofs.datum.Datum.TheLaws.{the_size}
 use Rattle.lisp_operators.specs.Kinds.{is_pair}
-use Rattle.evaluator.specs.ArgumentValues.{arguments_of, operation_value, followed, subforms, sequence_value, asserted}
+use Rattle.evaluator.specs.ArgumentValues.{arguments_of, operation_value, values_after, subforms, sequence_value, asserted}
 use Rattle.evaluator.specs.declared.wanted.Wanted.TheVariants.{Value, Nothing}
 use Rattle.evaluator.specs.StandIns.{stand_in, seen}
 use Rattle.evaluator.proofs.ListItems.{held_so}
@@ -22,7 +22,7 @@ use Rattle.lisp_object.specs.declared.refusal.TheConstants.{ARGUMENT_KIND}
 use Rattle.evaluator.specs.declared.operation.Operation.TheVariants.{Get}
 use Rattle.evaluator.proofs.QuotedKeys.{get_of_key}
 use Rattle.evaluator.proofs.Lists.{list_stops, list_given}
-use Rattle.lisp_operators.specs.Evaluated.{Answers, done}
+use Rattle.lisp_operators.specs.EvaluationAnswers.{Answers, done}
 use Rattle.evaluator.proofs.Steps.{value_dotted, followed_stops, followed_at_end, argument_grown, all_more, list_arguments, followed_both}
 use Rattle.evaluator.proofs.Forms.{head_form, head_refused, place_first, place_given, push_no_place, push_refused, push_given, same_item, subforms_given, performed, gathered_from_none, followed_more}
 use Rattle.evaluator.proofs.ClauseShapes.{clause_at}
@@ -141,7 +141,7 @@ evaluate_for-returns-in-Ok-clause-kept t c =
 pub extended-returns-in-Err-clause-gives : goal.extended-returns-in-Err-clause-gives
 extended-returns-in-Err-clause-gives t c =
     followed_stops c.args.names.now (map object_of c.loop-i.values.values.items) c.loop-i.values.wrote c.loop-i.world.0 c.evaluate_for.new.world.0 c.evaluate_for.new.world.0 c.args.forms.now c.loop-i.i c.index-forms-i.result c.in-Err.error
-    (followed c.args.names.now (map object_of c.args.values.values.items) c.args.values.wrote c.args.world.now.0 (list_of (map object_of (drop c.args.from c.args.forms.now)))) c.loop-i.invariant.same c.loop-i-test.true c.index-forms-i.is
+    (values_after c.args.names.now (map object_of c.args.values.values.items) c.args.values.wrote c.args.world.now.0 (list_of (map object_of (drop c.args.from c.args.forms.now)))) c.loop-i.invariant.same c.loop-i-test.true c.index-forms-i.is
     (refused_so Value c.in-Err.error c.evaluate_for.new.world.0 c.evaluate_for.new.world.0 (value c.args.names.now c.loop-i.world.0 (object_of c.index-forms-i.result)) c.in-Err.ensures.gives)
 
 pub extended-loop-i-preserved : goal.extended-loop-i-preserved
@@ -224,7 +224,7 @@ listed-returns-in-Err-clause-gives t c =
     let so = c.loop-i.invariant.listed in
     list_stops c.args.names.now c.args.world.now.0 c.evaluate_for.new.world.0 c.args.items.now c.in-Err.error
     (followed_stops c.args.names.now so.0 c.loop-i.wrote c.loop-i.world.0 c.evaluate_for.new.world.0 c.evaluate_for.new.world.0 c.args.items.now c.loop-i.i c.index-items-i.result c.in-Err.error
-    (followed c.args.names.now [] false c.args.world.now.0 (list_of (map object_of (drop 1 c.args.items.now)))) so.2 c.loop-i-test.true c.index-items-i.is
+    (values_after c.args.names.now [] false c.args.world.now.0 (list_of (map object_of (drop 1 c.args.items.now)))) so.2 c.loop-i-test.true c.index-items-i.is
     (refused_so c.wanted_for-wanted.result c.in-Err.error c.evaluate_for.new.world.0 c.evaluate_for.new.world.0 (value c.args.names.now c.loop-i.world.0 (object_of c.index-items-i.result)) c.in-Err.ensures.gives))
 
 pub listed-loop-i-preserved : goal.listed-loop-i-preserved

@@ -4,14 +4,14 @@ use Rattle.lisp_object.specs.Datum.{object_of}
 use Rattle.lisp_operators.specs.Evaluation.{also}
 use Rattle.lisp_operators.specs.ListBuilder.{HoldsList}
 use Rattle.evaluator.specs.Value.{sought, selected, are_clauses}
-use Rattle.evaluator.specs.ArgumentValues.{followed, arguments_of, sequence_value}
-use Rattle.lisp_operators.specs.Evaluated.{IsArgument, KeepsArguments}
+use Rattle.evaluator.specs.ArgumentValues.{values_after, arguments_of, sequence_value}
+use Rattle.lisp_operators.specs.EvaluationAnswers.{IsArgument, KeepsArguments}
 use Rattle.evaluator.proofs.evaluation.+evaluation.Given as goal
 
 abbrev pub invariant-extended-loop-i : goal.invariant-extended-loop-i
 invariant-extended-loop-i l = record {
-  same : followed l.names (map object_of l.fn.values.values.items) l.fn.values.wrote l.fn.world.0 (list_of (map object_of (drop l.fn.from l.forms)))
-      ≡ followed l.names (map object_of l.values.values.items) l.values.wrote l.world.0 (list_of (map object_of (drop l.i l.forms)));
+  same : values_after l.names (map object_of l.fn.values.values.items) l.fn.values.wrote l.fn.world.0 (list_of (map object_of (drop l.fn.from l.forms)))
+      ≡ values_after l.names (map object_of l.values.values.items) l.values.wrote l.world.0 (list_of (map object_of (drop l.i l.forms)));
   values : All (IsArgument l.world.0.packages) l.values.values.items;
   forms : All (IsArgument l.world.0.packages) l.forms;
   kept : KeepsArguments l.fn.world.0.packages l.world.0.packages;
@@ -29,7 +29,7 @@ invariant-sequence-loop-i l = record {
 abbrev pub invariant-listed-loop-i : goal.invariant-listed-loop-i
 invariant-listed-loop-i l = record {
   listed : (xs : List Object) × HoldsList xs l.values
-      × (followed l.names [] false l.fn.world.0 (list_of (map object_of (drop 1 l.items))) ≡ followed l.names xs l.wrote l.world.0 (list_of (map object_of (drop l.i l.items))));
+      × (values_after l.names [] false l.fn.world.0 (list_of (map object_of (drop 1 l.items))) ≡ values_after l.names xs l.wrote l.world.0 (list_of (map object_of (drop l.i l.items))));
   forms : All (IsArgument l.world.0.packages) l.items;
   marked : l.world.1 ≡ l.fn.world.1;
 }

@@ -1,6 +1,6 @@
 use Rattle.std.proofs.Common.{Some, sym, ap, ◌∙◌}
 use Rattle.plist_state.specs.Readers.{borrowed_symbols}
-use Rattle.forgotten_names.specs.Forgotten.{forgotten}
+use Rattle.forgotten_names.specs.WorldsWithoutNames.{forgotten}
 use Rattle.forgotten_names.proofs.ForgottenSound.{forgotten_sound}
 use Rattle.forgotten_names.proofs.forgetting.forget.Goals as goal
 

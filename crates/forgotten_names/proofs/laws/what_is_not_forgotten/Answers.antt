@@ -1,5 +1,5 @@
 use Rattle.std.proofs.Common.{refl}
-use Rattle.forgotten_names.specs.Forgotten.{is_kept}
+use Rattle.forgotten_names.specs.WorldsWithoutNames.{is_kept}
 use Rattle.forgotten_names.proofs.KeptPackages.{there_kept}
 use Rattle.forgotten_names.proofs.ForgottenSound.{used_same, external_same}
 use Rattle.forgotten_names.proofs.laws.what_is_not_forgotten.Goals as goal

@@ -3,7 +3,7 @@ use Rattle.std.specs.List.{flat_map}
 use Rattle.std.specs.Option.{option_map_or}
 use Rattle.lisp_object.specs.Object.{nil}
 use Rattle.lisp_object.specs.Datum.{object_of}
-use Rattle.package_table.specs.Numbers.{numbered}
+use Rattle.package_table.specs.Numbers.{table_now}
 use Rattle.package_table.specs.Symbols.{symbols}
 use Rattle.forgotten_names.specs.Marks.{AddsMarks}
 use Rattle.forgotten_names.proofs.DatumSymbols.{symbols_list, symbols_vector}
@@ -13,7 +13,7 @@ use Rattle.forgotten_names.proofs.marks.+marking.Goals as goal
 
 pub mark_datum-returns-in_ok-mark_items-in-List : goal.mark_datum-returns-in_ok-mark_items-in-List
 mark_datum-returns-in_ok-mark_items-in-List t c =
-    let s = numbered c.args.packages.now in
+    let s = table_now c.args.packages.now in
     let before = c.args.marks.now.items in
     let between = c.mark_items.new.marks.items in
     let after = c.mark_end.new.marks.items in
@@ -25,7 +25,7 @@ mark_datum-returns-in_ok-mark_items-in-List t c =
 
 pub mark_datum-returns-in_ok-mark_items-in-Vector : goal.mark_datum-returns-in_ok-mark_items-in-Vector
 mark_datum-returns-in_ok-mark_items-in-Vector t c =
-    let s = numbered c.args.packages.now in
+    let s = table_now c.args.packages.now in
     let before = c.args.marks.now.items in
     let between = c.mark_items-in-Vector.new.marks.items in
     let after = c.mark_nil.new.marks.items in

@@ -1,6 +1,6 @@
 use Rattle.std.proofs.Common.{◌||◌, not, filter, ap, ◌∙◌, Result, Ok, Err, IfOk}
 use Rattle.package_table.specs.Lookup.{is_external}
-use Rattle.package_table.specs.Numbers.{numbered}
+use Rattle.package_table.specs.Numbers.{table_now}
 use Rattle.plist_state.specs.Lists.{symbols}
 use Rattle.plist_state.specs.Readers.{borrowed_symbols}
 use Rattle.forgotten_names.specs.Marks.{is_marked}
@@ -13,7 +13,7 @@ if_ok (Err e) P Q f p = p
 
 pub returns : goal.returns
 returns c =
-    let n = numbered c.packages-packages.result.now in
+    let n = table_now c.packages-packages.result.now in
     if_ok c.unmarked.result _ _
     (λ found is.
     is

@@ -1,7 +1,7 @@
 use Rattle.std.proofs.Common.{◌∷◌, List, sym, subst, arith}
 use Rattle.std.proofs.lemmas.Option.{slice_get_within, get_or_from_slice_get}
 use Rattle.lisp_object.specs.Object.{Object}
-use Rattle.package_table.specs.Numbers.{numbered}
+use Rattle.package_table.specs.Numbers.{table_now}
 use Rattle.package_table.specs.Symbols.{symbols}
 use Rattle.plist_state.specs.Properties.{Plist, Symbol}
 use Rattle.plist_state.specs.Views.{property_of}
@@ -11,7 +11,7 @@ use Rattle.forgotten_names.proofs.unneeded.mark_plist.Goals as goal
 
 pub loop-index-preserved : goal.loop-index-preserved
 loop-index-preserved c =
-    let s = numbered c.args.packages.now in
+    let s = table_now c.args.packages.now in
     let ps : Plist = c.args.list.now in
     let i = c.loop-index.index in
     let p : Symbol × Object = property_of c.at.result in

@@ -2,14 +2,14 @@ use Rattle.std.proofs.Common.{◌≡◌, ◌||◌, ◌++◌, ◌∷◌, [], Bool
 use Rattle.std.specs.Prelude.{slice_index_or}
 use Rattle.std.specs.List.{flat_map}
 use Rattle.std.specs.Option.{option_map_or}
-use Rattle.package_table.specs.Numbers.{Numbered, numbered, number_of}
+use Rattle.package_table.specs.Numbers.{Numbered, table_now, number_of}
 use Rattle.package_table.specs.Readers.{imports, package_names}
 use Rattle.package_table.specs.Table.{Name}
 use Rattle.plist_state.specs.Changes.{plist}
 use Rattle.plist_state.specs.Properties.{Symbol}
 use Rattle.plist_state.specs.Readers.{borrowed_symbol, borrowed_symbols}
 use Rattle.forgotten_names.specs.Marks.{is_marked}
-use Rattle.forgotten_names.specs.Needed.{plist_symbols, property_symbols, stands_among}
+use Rattle.forgotten_names.specs.NeededSymbols.{plist_symbols, property_symbols, stands_among}
 use Rattle.forgotten_names.proofs.unneeded.needed_marks.Goals as goal
 
 none_marked : (s : Numbered) (x : Symbol) → is_marked s [] x ≡ false
@@ -21,7 +21,7 @@ through f g (x ∷ xs) = ap (λ ys. g (f x) ++ ys) (through f g xs)
 
 pub returns : goal.returns
 returns c =
-    let s = numbered c.args.packages.now in
+    let s = table_now c.args.packages.now in
     let world = c.args.world.now.0 in
     let of_owner : Symbol → List Symbol = λ x. x ∷ plist_symbols (plist world x) in
     let of_package : Name → List Symbol = λ p. map (λ r. (r.1, r.0)) (imports s.0 p) in

@@ -1,14 +1,14 @@
 use Rattle.std.proofs.Common.{◌≡◌, ◌++◌, ◌||◌, not, Bor, List, [], ◌∷◌, map, filter, refl, ap, ◌∙◌}
 use Rattle.package_table.specs.Lookup.{is_external}
 use Rattle.package_table.specs.Table.{Name}
-use Rattle.package_table.specs.Numbers.{numbered}
+use Rattle.package_table.specs.Numbers.{table_now}
 use Rattle.plist_state.specs.Properties.{Symbol}
 use Rattle.forgotten_names.specs.Marks.{is_marked}
 use Rattle.forgotten_names.proofs.unneeded.push_unneeded.Goals as goal
 
 pub loop-name-init : goal.loop-name-init
 loop-name-init c =
-    let s = numbered c.args.packages.now in
+    let s = table_now c.args.packages.now in
     let home : Name = c.args.home.now in
     let all = c.into_iter-name-iterator.ensures.into_iter_gives in
     ap (λ xs. map {B = Symbol} (λ s. (s.0.now, s.1.now)) c.args.found.now.items ++ filter (λ x. not (is_external s.0 x.0 x.1 || is_marked s c.args.marks.now x)) xs)

@@ -2,7 +2,7 @@ use Rattle.std.proofs.Common.{◌≡◌, ◌++◌, ◌||◌, ◌∙◌, Bor, Lis
 use Rattle.std.specs.List.{flat_map}
 use Rattle.package_table.specs.Lookup.{is_external}
 use Rattle.package_table.specs.Table.{Name}
-use Rattle.package_table.specs.Numbers.{numbered}
+use Rattle.package_table.specs.Numbers.{table_now}
 use Rattle.package_table.specs.Readers.{own_names}
 use Rattle.plist_state.specs.Properties.{Symbol}
 use Rattle.forgotten_names.specs.Marks.{is_marked}
@@ -10,7 +10,7 @@ use Rattle.forgotten_names.proofs.unneeded.unmarked.Goals as goal
 
 pub returns : goal.returns
 returns c =
-    let s = numbered c.args.packages.now in
+    let s = table_now c.args.packages.now in
     let left : List (Bor Name) = c.loop-home.home-iterator.rest.items in
     let none : left ≡ [] = no_items left (sym c.loop-home.home-iterator.rest.ok.0 ∙ c.in-None.ensures.steps.0) in
     let so_far : List Symbol = map (λ s. (s.0.now, s.1.now)) c.loop-home.found.items in

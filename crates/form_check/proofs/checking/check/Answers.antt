@@ -1,6 +1,6 @@
 use Rattle.std.proofs.Common.{◌≡◌, ◌+◌, ◌-◌, ℕ, List, [], ◌∷◌, ◌++◌, length, drop, refl, arith, ap, sym, subst, ◌∙◌, Bor}
 use Rattle.lisp_reading.specs.Setting.{Setting}
-use Rattle.form_check.specs.Checking.{Checking, IsBeginning, after_line, checked, checked_in, setting_under}
+use Rattle.form_check.specs.Checking.{Checking, IsBeginning, after_line, check_of_text, checked_in, setting_under}
 use Rattle.form_check.specs.declared.begin.Beginning.TheVariants as begins
 use Rattle.form_check.specs.declared.checking.Checked.{Checked}
 use Rattle.form_check.specs.declared.checking.Unreadable.{Unreadable}
@@ -32,9 +32,9 @@ forms-preserved g c =
           let is : now ≡ drop n rest = ap (λ (r : Bor (List ℕ)). r.now) w.rest-is ∙ behind rest n in (
             within_rest rest now text n is c.forms.invariant.0,
             refl,
-            subst (λ (f : Checked). after_found f.unreadable.items (in_rest now) ≡ checked setting text) (sym w.found-is)
-                (subst (λ (t : List ℕ). after_found before (in_rest t) ≡ checked setting text) (sym is)
-                (found_form setting c.forms.turn (length text) rest before (checked setting text) c.forms-test.true c.forms.invariant.2 begun.0 begun.1 begun.2 n begun.3)),
+            subst (λ (f : Checked). after_found f.unreadable.items (in_rest now) ≡ check_of_text setting text) (sym w.found-is)
+                (subst (λ (t : List ℕ). after_found before (in_rest t) ≡ check_of_text setting text) (sym is)
+                (found_form setting c.forms.turn (length text) rest before (check_of_text setting text) c.forms-test.true c.forms.invariant.2 begun.0 begun.1 begun.2 n begun.3)),
           )
       | in-Refused+in_ok-push-in-Refused w ↦
           let n = w.in-Refused.at in
@@ -44,10 +44,10 @@ forms-preserved g c =
           let is : now ≡ after_line (drop n rest) = given ∙ w.after_line-rest.ensures.text ∙ ap after_line (behind rest n) in (
             within_line rest now w.after_line-rest.result.now text n given w.after_line-rest.ensures.within c.forms.invariant.0,
             refl,
-            subst (λ (f : Checked). after_found f.unreadable.items (in_rest now) ≡ checked setting text) (sym w.found-is)
-                (subst (λ (us : List Unreadable). after_found us (in_rest now) ≡ checked setting text) (sym w.in_ok-push-in-Refused.ensures.items)
-                (subst (λ (t : List ℕ). after_found (before ++ one ∷ []) (in_rest t) ≡ checked setting text) (sym is)
-                (found_refusal setting c.forms.turn (length text) rest before (checked setting text) c.forms-test.true c.forms.invariant.2 w.in-Refused.number w.in-Refused.start n one
+            subst (λ (f : Checked). after_found f.unreadable.items (in_rest now) ≡ check_of_text setting text) (sym w.found-is)
+                (subst (λ (us : List Unreadable). after_found us (in_rest now) ≡ check_of_text setting text) (sym w.in_ok-push-in-Refused.ensures.items)
+                (subst (λ (t : List ℕ). after_found (before ++ one ∷ []) (in_rest t) ≡ check_of_text setting text) (sym is)
+                (found_refusal setting c.forms.turn (length text) rest before (check_of_text setting text) c.forms-test.true c.forms.invariant.2 w.in-Refused.number w.in-Refused.start n one
                 begun.0 begun.1 refl))),
           )
     ]

@@ -4,7 +4,7 @@ use Rattle.plist_state.specs.Properties.{Symbol}
 use Rattle.plist_state.specs.Readers.{borrowed_symbol}
 use Rattle.package_table.specs.Symbols.{symbols}
 use Rattle.form_eval.specs.Acceptance.{with_symbols}
-use Rattle.lisp_operators.specs.Evaluated.{MakesPackages}
+use Rattle.lisp_operators.specs.EvaluationAnswers.{MakesPackages}
 use Rattle.form_eval.proofs.KnownSymbols.{known_symbols}
 use Rattle.form_eval.proofs.SoundSymbols.{symbols_can, ascii_of, all_of_mapped}
 use Rattle.form_eval.proofs.transaction.intern_symbols.Goals as goal

@@ -1,6 +1,6 @@
 use Rattle.std.proofs.Common.{Bool, ◌||◌, ap, ◌∙◌}
 use Rattle.lisp_object.specs.Datum.{object_of}
-use Rattle.lisp_operators.specs.Evaluated.{done}
+use Rattle.lisp_operators.specs.EvaluationAnswers.{done}
 use Rattle.lisp_operators.specs.declared.evaluated.Evaluated.{Evaluated}
 use Rattle.lisp_operators.specs.Evaluation.{also}
 use Rattle.form_eval.proofs.Applied.{accepted, answered_refused}

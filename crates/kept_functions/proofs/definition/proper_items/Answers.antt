@@ -1,6 +1,6 @@
 use Rattle.std.proofs.Common.{Some, is_some, ap, ◌∙◌}
 use Rattle.lisp_object.specs.declared.datum.Datum
-use Rattle.lisp_operators.specs.Evaluated.{objects}
+use Rattle.lisp_operators.specs.EvaluationAnswers.{objects}
 use Rattle.kept_functions.proofs.Items.{list_items_of, dotted_items_of, list_items_proper}
 use Rattle.kept_functions.proofs.definition.proper_items.Goals as goal
 

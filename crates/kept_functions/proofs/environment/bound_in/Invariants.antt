@@ -1,6 +1,6 @@
 use Rattle.std.proofs.Common.{◌≡◌, ◌≤◌, take, map, reverse, length}
 use Rattle.kept_functions.specs.Environments.{bound}
-use Rattle.kept_functions.specs.Kept.{seen_from, binding_shown}
+use Rattle.kept_functions.specs.KeptFunctions.{seen_from, binding_shown}
 use Rattle.kept_functions.proofs.environment.bound_in.Given as goal
 
 abbrev pub decreases-loop-index : goal.decreases-loop-index

@@ -2,7 +2,7 @@ use Rattle.std.proofs.Common.{[], ◌∷◌, ap, ◌∙◌}
 use Rattle.disk_trait.specs.declared.half.Half.TheVariants.{A}
 use Rattle.disk_trait.specs.Orders.{writes, syncs}
 use Rattle.deferred_disk.specs.Calls.{CallsValue}
-use Rattle.deferred_disk.specs.State.{ordered}
+use Rattle.deferred_disk.specs.State.{state_after_orders}
 use Rattle.law_tests.proofs.ordered.write_and_sync.Goals as goal
 
 pub returns : goal.returns
@@ -10,5 +10,5 @@ returns c = λ none image left.
     let write = writes A 0 c.args.bytes.now in
     let calls = c.in_ok-sync.ensures.asks.ok ∙ ap (λ (k : CallsValue). record { start = k.start; done = k.done; pending = syncs A ∷ k.pending }) c.in_ok-write_at.ensures.asks.ok in
     c.between_orders.ensures.none_open c.args.disk.now c.sync.new.self (write ∷ []) (syncs A ∷ []) image
-    (ap (λ (k : CallsValue). (ordered k 0).performed) calls) none
+    (ap (λ (k : CallsValue). (state_after_orders k 0).performed) calls) none
     (ap (λ (k : CallsValue). k.pending) calls ∙ ap (λ l. syncs A ∷ write ∷ l) none) left

@@ -3,7 +3,7 @@ use Rattle.lisp_object.specs.Object.{pair, object_depth}
 use Rattle.lisp_object.specs.Datum.{object_of}
 use Rattle.plist_state.specs.Views.{symbol_of}
 use Rattle.plist_state.specs.Changes.{property}
-use Rattle.lisp_operators.specs.Evaluated.{or_nil}
+use Rattle.lisp_operators.specs.EvaluationAnswers.{or_nil}
 use Rattle.lisp_operators.proofs.PropertyRows.{pushed_value}
 use Rattle.lisp_operators.proofs.effects.put_pair.Goals as goal
 

@@ -1,5 +1,5 @@
 use Rattle.std.proofs.Common.{◌≡◌, Some, Ok, ap, subst, ◌∙◌}
-use Rattle.package_table.specs.Lookup.{found}
+use Rattle.package_table.specs.Lookup.{home_by_name}
 use Rattle.package_table.specs.Resolving.{resolution_of}
 use Rattle.lisp_operators.proofs.LookUpSteps.{found_by}
 use Rattle.lisp_operators.proofs.PropertyRows.{home_ascii}
@@ -11,6 +11,6 @@ returns-in-Found-clause-proper c =
     let p = c.args.owner.now in
     let n = c.args.name.now in
     let home = c.in-Found.home.now in
-    let finds : found s.packages p n ≡ Some home =
-    subst (λ t. found t p n ≡ Some home) c.packages.ensures (found_by c.packages.result.now.0 p n home (c.in-Ok.ensures ∙ ap (λ r. Ok (resolution_of r)) c.in-Found.is)) in
+    let finds : home_by_name s.packages p n ≡ Some home =
+    subst (λ t. home_by_name t p n ≡ Some home) c.packages.ensures (found_by c.packages.result.now.0 p n home (c.in-Ok.ensures ∙ ap (λ r. Ok (resolution_of r)) c.in-Found.is)) in
     c.symbol.ensures.proper (home_ascii s p n home c.soundness.ensures.present finds) c.requires.name

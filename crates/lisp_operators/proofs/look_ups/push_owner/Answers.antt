@@ -3,7 +3,7 @@ use Rattle.std.specs.List.{list_all}
 use Rattle.lisp_object.specs.Datum.{object_of, is_proper}
 use Rattle.plist_state.specs.Changes.{property}
 use Rattle.plist_state.specs.Views.{symbol_named}
-use Rattle.lisp_operators.specs.Evaluated.{IsAscii}
+use Rattle.lisp_operators.specs.EvaluationAnswers.{IsAscii}
 use Rattle.lisp_operators.proofs.LookUpSteps.{some_mapped, owner_ascii, one_more_proper}
 use Rattle.lisp_operators.proofs.look_ups.push_owner.Goals as goal
 

@@ -1,6 +1,6 @@
 use Rattle.std.proofs.Common.{Vec, Global, All, sym, subst}
 use Rattle.lisp_object.specs.declared.datum.Datum.{Datum}
-use Rattle.lisp_operators.specs.Evaluated.{IsArgument}
+use Rattle.lisp_operators.specs.EvaluationAnswers.{IsArgument}
 use Rattle.lisp_operators.proofs.PlaceSteps.{inserted_arguments}
 use Rattle.lisp_operators.proofs.places.with_default.Goals as goal
 use Rattle.lisp_operators.proofs.places.with_default.Goals.{then-not-has_default+then-len-ge2+in_ok-empty_list+in_ok-insert, else-not-has_default}

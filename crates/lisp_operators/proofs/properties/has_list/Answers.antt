@@ -1,6 +1,6 @@
 use Rattle.std.proofs.Common.{sym, ap, ◌∙◌}
 use Rattle.lisp_object.specs.Datum.{object_of}
-use Rattle.plist_state.specs.Pushed.{holds_pair}
+use Rattle.plist_state.specs.PushedLists.{holds_pair}
 use Rattle.lisp_operators.proofs.Pushes.{pair_held}
 use Rattle.lisp_operators.proofs.properties.has_list.Goals as goal
 

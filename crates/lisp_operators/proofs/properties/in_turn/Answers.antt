@@ -5,7 +5,7 @@ use Rattle.lisp_object.specs.Object as object
 use Rattle.lisp_object.specs.Datum.{object_of, is_proper}
 use Rattle.plist_state.specs.Properties.{Symbol}
 use Rattle.plist_state.specs.Views.{property_of}
-use Rattle.lisp_operators.specs.Evaluated.{object_of_symbol}
+use Rattle.lisp_operators.specs.EvaluationAnswers.{object_of_symbol}
 use Rattle.lisp_operators.proofs.PropertyRows.{in_turn_more, turn_proper, ascii_home, ascii_name}
 use Rattle.lisp_operators.proofs.properties.in_turn.Goals as goal
 

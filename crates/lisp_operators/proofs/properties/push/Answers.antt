@@ -3,8 +3,8 @@ use Rattle.lisp_object.specs.Object.{pair, object_depth, object_size}
 use Rattle.lisp_object.specs.Datum.{object_of}
 use Rattle.plist_state.specs.Views.{symbol_of}
 use Rattle.plist_state.specs.Changes.{property}
-use Rattle.plist_state.specs.Pushed.{pushed}
-use Rattle.lisp_operators.specs.Evaluated.{or_nil}
+use Rattle.plist_state.specs.PushedLists.{pushed_list}
+use Rattle.lisp_operators.specs.EvaluationAnswers.{or_nil}
 use Rattle.lisp_operators.proofs.PropertyRows.{pushed_value}
 use Rattle.lisp_operators.proofs.Storable.{symbol_kind}
 use Rattle.lisp_operators.proofs.properties.push.Goals as goal
@@ -47,8 +47,8 @@ push-requires-clause-value c =
     let x = symbol_of c.in_ok-symbol.symbol in
     let i = symbol_of c.in_ok-symbol.indicator in
     let v = object_of c.in_ok-first.first in
-    let is : object_of c.in_ok-value.value ≡ pushed v (property s x i) = c.in_ok-value.ensures.value ∙ ap (λ o. pair v (or_nil o)) c.get.ensures.value in
-    pushed_value s x i v (pushed v (property s x i)) c.soundness.ensures.present (c.in_ok-first.ensures.arguments s.packages c.requires).0.value refl
+    let is : object_of c.in_ok-value.value ≡ pushed_list v (property s x i) = c.in_ok-value.ensures.value ∙ ap (λ o. pair v (or_nil o)) c.get.ensures.value in
+    pushed_value s x i v (pushed_list v (property s x i)) c.soundness.ensures.present (c.in_ok-first.ensures.arguments s.packages c.requires).0.value refl
     (ap (λ y. nat_lt 100 (object_depth y)) (sym is) ∙ sym c.is_too_deep.ensures ∙ c.if-is_too_deep.false)
 
 pub push-requires-clause-size : goal.push-requires-clause-size
@@ -57,5 +57,5 @@ push-requires-clause-size c =
     let x = symbol_of c.in_ok-symbol.symbol in
     let i = symbol_of c.in_ok-symbol.indicator in
     let v = object_of c.in_ok-first.first in
-    let is : object_of c.in_ok-value.value ≡ pushed v (property s x i) = c.in_ok-value.ensures.value ∙ ap (λ o. pair v (or_nil o)) c.get.ensures.value in
+    let is : object_of c.in_ok-value.value ≡ pushed_list v (property s x i) = c.in_ok-value.ensures.value ∙ ap (λ o. pair v (or_nil o)) c.get.ensures.value in
     ap Some (ap (λ y. min (object_size y) (2 ^ 64 - 1)) (sym is) ∙ sym (c.size-size.ensures.object c.in_ok-value.ensures.proper))

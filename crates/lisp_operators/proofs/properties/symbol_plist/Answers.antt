@@ -2,7 +2,7 @@ use Rattle.std.proofs.Common.{All, sym, subst}
 use Rattle.lisp_object.specs.Object as object
 use Rattle.plist_state.specs.Properties.{Plist}
 use Rattle.plist_state.specs.Views.{symbol_of}
-use Rattle.lisp_operators.specs.Evaluated.{object_of_symbol}
+use Rattle.lisp_operators.specs.EvaluationAnswers.{object_of_symbol}
 use Rattle.lisp_operators.proofs.PropertyRows.{indicators_sound}
 use Rattle.lisp_operators.proofs.properties.symbol_plist.Goals as goal
 

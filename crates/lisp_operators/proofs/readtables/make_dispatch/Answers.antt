@@ -4,7 +4,7 @@ use Rattle.plist_state.specs.Changes.{with_dispatching, in_state}
 use Rattle.lisp_operators.specs.Kinds.{a_keyword, given_or}
 use Rattle.lisp_operators.specs.Properties.{t}
 use Rattle.lisp_operators.specs.Readtables.{value_after, after_first, make_dispatch}
-use Rattle.lisp_operators.specs.Evaluated.{Answers, done}
+use Rattle.lisp_operators.specs.EvaluationAnswers.{Answers, done}
 use Rattle.lisp_operators.proofs.ReadtableSteps.{make_opens}
 use Rattle.lisp_operators.proofs.Storable.{character_kind}
 use Rattle.lisp_operators.proofs.readtables.make_dispatch.Goals as goal

@@ -6,7 +6,7 @@ use Rattle.plist_state.specs.Changes.{with_macro, in_state}
 use Rattle.lisp_operators.specs.Kinds.{a_keyword, given_or}
 use Rattle.lisp_operators.specs.Properties.{t}
 use Rattle.lisp_operators.specs.Readtables.{value_after, after_first, set_macro}
-use Rattle.lisp_operators.specs.Evaluated.{Answers, done}
+use Rattle.lisp_operators.specs.EvaluationAnswers.{Answers, done}
 use Rattle.lisp_operators.proofs.ReadtableSteps.{macro_opens}
 use Rattle.lisp_operators.proofs.Storable.{character_kind, keyword_kind}
 use Rattle.lisp_operators.proofs.readtables.set_macro.Goals as goal

@@ -1,5 +1,5 @@
 use Rattle.std.proofs.Common.{◌+◌, List, map, take, drop, length, refl, sym, ap, subst, ◌∙◌, arith, length-drop}
-use Rattle.message_frames.specs.Frames.{sent}
+use Rattle.message_frames.specs.Frames.{sent_frame}
 use Rattle.message_frames.specs.declared.frame.MessageFrame.{MessageFrame}
 use Rattle.message_laws.proofs.Tidy.{sound_tidy}
 use Rattle.message_session.specs.Answers.{answered_bytes}
@@ -30,8 +30,8 @@ fronts-preserved g c =
     let done = c.fronts.done in
     let count = c.in-Ok.count in
     let now = g.O.AnswerRecipient.account c.answer_front.new.output in
-    let taken = take count (map sent (drop done frames)) in
-    let is = ap (λ (fs : List MessageFrame). take count (map sent fs)) (behind frames done) in
+    let taken = take count (map sent_frame (drop done frames)) in
+    let is = ap (λ (fs : List MessageFrame). take count (map sent_frame fs)) (behind frames done) in
     let more = subst (AnswersMore (g.O.AnswerRecipient.account c.fronts.output) now) is c.in-Ok.ensures.more in
     record {
       within = omega (arith, c.in-Ok.ensures.most, ap length (behind frames done), length-drop done frames, c.fronts.invariant.within);
@@ -45,14 +45,14 @@ fronts-preserved g c =
           let written = g.O.AnswerRecipient.contents c.answer_front.new.output in
           subst (λ fs. AreFramesAnswered functions last w g.D.Disk.state c.answer_front.new.store held written (answered_bytes functions last w) fs c.answer_front.new.course.last) (sym (front_more frames done count))
           (answered_both functions last w (sound_tidy w (c.its_world_is_sound.ensures w known)) g.D.Disk.state c.fronts.store held between
-          (map sent (take done frames)) c.fronts.course.last far taken written c.answer_front.new.store c.answer_front.new.course.last
+          (map sent_frame (take done frames)) c.fronts.course.last far taken written c.answer_front.new.store c.answer_front.new.course.last
           (subst (λ fs. AreFramesAnswered functions c.fronts.course.last far.after.left g.D.Disk.state c.answer_front.new.store between written (answered_bytes functions c.fronts.course.last far.after.left) fs c.answer_front.new.course.last) is
           (c.in-Ok.ensures.answers far.after.left far.after.known)));
       rests = c.in-Ok.ensures.rests;
-      next = come_after (g.O.AnswerRecipient.account c.fronts.output) now taken (map sent (drop (done + count) frames))
+      next = come_after (g.O.AnswerRecipient.account c.fronts.output) now taken (map sent_frame (drop (done + count) frames))
           (subst (ComeNext (g.O.AnswerRecipient.account c.fronts.output)) (sym (rest_more frames done count)) c.fronts.invariant.next) more;
       more = subst (AnswersMore (g.O.AnswerRecipient.account c.args.output.now) now) (sym (front_more frames done count))
-          (more_both (g.O.AnswerRecipient.account c.args.output.now) (g.O.AnswerRecipient.account c.fronts.output) now (map sent (take done frames)) taken c.fronts.invariant.more more);
+          (more_both (g.O.AnswerRecipient.account c.args.output.now) (g.O.AnswerRecipient.account c.fronts.output) now (map sent_frame (take done frames)) taken c.fronts.invariant.more more);
       input = c.answer_front.ensures.input ∙ c.fronts.invariant.input;
     }
 
@@ -67,9 +67,9 @@ returns-in-Err-clause-answers g c = λ w known.
     let frames = c.args.frames.now in
     let done = c.fronts.done in
     subst (λ fs. Breaks functions last w g.D.Disk.state c.answer_front.new.store held written fs c.in-Err.ended) (whole frames done)
-    (breaks_both functions last w (sound_tidy w (c.its_world_is_sound.ensures w known)) g.D.Disk.state c.fronts.store held between (map sent (take done frames)) c.fronts.course.last far written c.answer_front.new.store
-    (map sent (drop done frames)) c.in-Err.ended
-    (subst (λ fs. Breaks functions c.fronts.course.last far.after.left g.D.Disk.state c.answer_front.new.store between written fs c.in-Err.ended) (ap (map sent) (behind frames done))
+    (breaks_both functions last w (sound_tidy w (c.its_world_is_sound.ensures w known)) g.D.Disk.state c.fronts.store held between (map sent_frame (take done frames)) c.fronts.course.last far written c.answer_front.new.store
+    (map sent_frame (drop done frames)) c.in-Err.ended
+    (subst (λ fs. Breaks functions c.fronts.course.last far.after.left g.D.Disk.state c.answer_front.new.store between written fs c.in-Err.ended) (ap (map sent_frame) (behind frames done))
     (c.in-Err.ensures.answers far.after.left far.after.known)))
 
 pub returns-clause-answers : goal.returns-clause-answers
@@ -86,4 +86,4 @@ returns-clause-more g c =
 
 pub answer_front-requires-clause-next : goal.answer_front-requires-clause-next
 answer_front-requires-clause-next g c =
-    subst (λ (fs : List MessageFrame). ComeNext (g.O.AnswerRecipient.account c.fronts.output) (map sent fs)) (sym (behind c.args.frames.now c.fronts.done)) c.fronts.invariant.next
+    subst (λ (fs : List MessageFrame). ComeNext (g.O.AnswerRecipient.account c.fronts.output) (map sent_frame fs)) (sym (behind c.args.frames.now c.fronts.done)) c.fronts.invariant.next

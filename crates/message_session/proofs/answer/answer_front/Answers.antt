@@ -1,6 +1,6 @@
 use Rattle.std.proofs.Common.{◌≡◌, Err, map, subst, ℕ, List, Result, take}
 use Rattle.std.specs.Prelude.{IfOk}
-use Rattle.message_frames.specs.Frames.{sent}
+use Rattle.message_frames.specs.Frames.{sent_frame}
 use Rattle.message_frames.specs.declared.frame.MessageFrame.{MessageFrame}
 use Rattle.message_session.specs.Standing.{AnswersMore, RestsOrStops}
 use Rattle.message_session.specs.Steps.{TakesWithRoom}
@@ -12,15 +12,15 @@ use Rattle.message_session.proofs.answer.answer_front.Goals as goal
 
 -- what was answered since, where nothing was written before
 moved : (g : Over) (first between last : g.row.O.Denot) (frames : List MessageFrame) (result : Result ℕ Ended) → between ≡ first
-    → IfOk result (λ count. AnswersMore (g.O.AnswerRecipient.account between) (g.O.AnswerRecipient.account last) (take count (map sent frames)))
-    → IfOk result (λ count. AnswersMore (g.O.AnswerRecipient.account first) (g.O.AnswerRecipient.account last) (take count (map sent frames)))
+    → IfOk result (λ count. AnswersMore (g.O.AnswerRecipient.account between) (g.O.AnswerRecipient.account last) (take count (map sent_frame frames)))
+    → IfOk result (λ count. AnswersMore (g.O.AnswerRecipient.account first) (g.O.AnswerRecipient.account last) (take count (map sent_frame frames)))
 moved g first between last frames result same more =
-    subst (λ (o : g.row.O.Denot). IfOk result (λ count. AnswersMore (g.O.AnswerRecipient.account o) (g.O.AnswerRecipient.account last) (take count (map sent frames)))) same more
+    subst (λ (o : g.row.O.Denot). IfOk result (λ count. AnswersMore (g.O.AnswerRecipient.account o) (g.O.AnswerRecipient.account last) (take count (map sent_frame frames)))) same more
 
 pub returns-in-Untaken-clause-answers : goal.returns-in-Untaken-clause-answers
 returns-in-Untaken-clause-answers g c = λ w known.
     let functions = g.R.Meaning.Meaning.functions in
-    let frames = map sent c.args.frames.now in
+    let frames = map sent_frame c.args.frames.now in
     let last = c.args.course.now.last in
     let held = g.O.AnswerRecipient.contents c.args.output.now in
     let between = g.O.AnswerRecipient.contents c.take_with_room.new.output in
@@ -31,7 +31,7 @@ returns-in-Untaken-clause-answers g c = λ w known.
 pub returns-in-Ended-clause-answers : goal.returns-in-Ended-clause-answers
 returns-in-Ended-clause-answers g c = λ w known.
     subst (λ s. TakesWithRoom g.R.Meaning.Meaning.functions c.args.course.now.last w g.D.Disk.state c.take_with_room.new.store (g.O.AnswerRecipient.contents c.args.output.now)
-    (g.O.AnswerRecipient.contents c.take_with_room.new.output) c.take_with_room.new.course.last (map sent c.args.frames.now) (Err s)) c.in-Ended.is (c.in-Err.ensures.takes w known)
+    (g.O.AnswerRecipient.contents c.take_with_room.new.output) c.take_with_room.new.course.last (map sent_frame c.args.frames.now) (Err s)) c.in-Ended.is (c.in-Err.ensures.takes w known)
 
 pub returns-in-Untaken-clause-more : goal.returns-in-Untaken-clause-more
 returns-in-Untaken-clause-more g c = moved g c.args.output.now c.take_with_room.new.output c.answer_in_turn.new.output c.args.frames.now c.answer_in_turn.result (c.in-Err.ensures.untouched c.in-Untaken.field-0 c.in-Untaken.is) c.answer_in_turn.ensures.more

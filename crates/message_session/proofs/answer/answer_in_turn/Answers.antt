@@ -1,5 +1,5 @@
 use Rattle.std.proofs.Common.{◌≡◌, ℕ, ◌+◌, List, ◌++◌, map, take, drop, refl, sym, ap, subst, ◌∙◌, arith}
-use Rattle.message_frames.specs.Frames.{sent}
+use Rattle.message_frames.specs.Frames.{sent_frame}
 use Rattle.message_frames.specs.declared.frame.MessageFrame.{MessageFrame}
 use Rattle.message_laws.proofs.Tidy.{sound_tidy}
 use Rattle.message_session.specs.Answers.{answered_bytes}
@@ -15,16 +15,16 @@ use Rattle.message_session.proofs.Stops.{one_stopped}
 use Rattle.message_session.proofs.answer.answer_in_turn.Goals as goal
 
 -- one frame more
-one_more : (frames : List MessageFrame) (i : ℕ) → map sent (take (i + 1) frames) ≡ map sent (take i frames) ++ at_place i frames
-one_more frames i = front_more frames i 1 ∙ ap (λ l. map sent (take i frames) ++ l) (sym (as_first frames i))
+one_more : (frames : List MessageFrame) (i : ℕ) → map sent_frame (take (i + 1) frames) ≡ map sent_frame (take i frames) ++ at_place i frames
+one_more frames i = front_more frames i 1 ∙ ap (λ l. map sent_frame (take i frames) ++ l) (sym (as_first frames i))
 
 -- those that are left
-others : (frames : List MessageFrame) (i : ℕ) → at_place i frames ++ map sent (drop (i + 1) frames) ≡ map sent (drop i frames)
-others frames i = ap (λ l. l ++ map sent (drop (i + 1) frames)) (as_first frames i) ∙ rest_more frames i 1
+others : (frames : List MessageFrame) (i : ℕ) → at_place i frames ++ map sent_frame (drop (i + 1) frames) ≡ map sent_frame (drop i frames)
+others frames i = ap (λ l. l ++ map sent_frame (drop (i + 1) frames)) (as_first frames i) ∙ rest_more frames i 1
 
 -- all of them
-all_of : (frames : List MessageFrame) (i : ℕ) → (map sent (take i frames) ++ at_place i frames) ++ map sent (drop (i + 1) frames) ≡ map sent frames
-all_of frames i = ap (λ l. l ++ map sent (drop (i + 1) frames)) (sym (one_more frames i)) ∙ whole frames (i + 1)
+all_of : (frames : List MessageFrame) (i : ℕ) → (map sent_frame (take i frames) ++ at_place i frames) ++ map sent_frame (drop (i + 1) frames) ≡ map sent_frame frames
+all_of frames i = ap (λ l. l ++ map sent_frame (drop (i + 1) frames)) (sym (one_more frames i)) ∙ whole frames (i + 1)
 
 pub frames-init : goal.frames-init
 frames-init g c = record {
@@ -39,7 +39,7 @@ frames-init g c = record {
 
 pub take_with_room-requires-clause-next : goal.take_with_room-requires-clause-next
 take_with_room-requires-clause-next g c =
-    come_first (g.O.AnswerRecipient.account c.frames.output) (at_place c.frames.i c.args.frames.now) (map sent (drop (c.frames.i + 1) c.args.frames.now))
+    come_first (g.O.AnswerRecipient.account c.frames.output) (at_place c.frames.i c.args.frames.now) (map sent_frame (drop (c.frames.i + 1) c.args.frames.now))
     (subst (ComeNext (g.O.AnswerRecipient.account c.frames.output)) (sym (others c.args.frames.now c.frames.i)) c.frames.invariant.next)
 
 pub returns-in-Err-clause-answers : goal.returns-in-Err-clause-answers
@@ -51,14 +51,14 @@ returns-in-Err-clause-answers g c = λ w known.
     let held = g.O.AnswerRecipient.contents c.args.output.now in
     let between = g.O.AnswerRecipient.contents c.frames.output in
     let written = g.O.AnswerRecipient.contents c.take_with_room.new.output in
-    let front = map sent (take c.frames.i c.args.frames.now) in
+    let front = map sent_frame (take c.frames.i c.args.frames.now) in
     let one = at_place c.frames.i c.args.frames.now in
     let ended = ended_by c.in-Err.stop in
     let breaks = one_stopped functions c.frames.course.last far.after.left g.D.Disk.state c.take_with_room.new.store between written
     c.take_with_room.new.course.last one c.in-Err.stop (one_there c.args.frames.now c.frames.i (omega (arith, c.frames-test.true))) (c.in-Err.ensures.takes far.after.left far.after.known) in
     let both = breaks_both functions last w tidy g.D.Disk.state c.frames.store held between front c.frames.course.last far written c.take_with_room.new.store one ended breaks in
-    let all = breaks_more functions last w tidy g.D.Disk.state c.take_with_room.new.store held written (front ++ one) (map sent (drop (c.frames.i + 1) c.args.frames.now)) ended both in
-    subst (λ e. Breaks functions last w g.D.Disk.state c.take_with_room.new.store held written (map sent c.args.frames.now) e) (sym c.ended.ensures)
+    let all = breaks_more functions last w tidy g.D.Disk.state c.take_with_room.new.store held written (front ++ one) (map sent_frame (drop (c.frames.i + 1) c.args.frames.now)) ended both in
+    subst (λ e. Breaks functions last w g.D.Disk.state c.take_with_room.new.store held written (map sent_frame c.args.frames.now) e) (sym c.ended.ensures)
     (subst (λ fs. Breaks functions last w g.D.Disk.state c.take_with_room.new.store held written fs ended) (all_of c.args.frames.now c.frames.i) all)
 
 pub frames-preserved : goal.frames-preserved
@@ -78,14 +78,14 @@ frames-preserved g c =
           let written = g.O.AnswerRecipient.contents c.take_with_room.new.output in
           subst (λ fs. AreFramesAnswered functions last w g.D.Disk.state c.take_with_room.new.store held written (answered_bytes functions last w) fs c.take_with_room.new.course.last) (sym (one_more frames c.frames.i))
           (answered_both functions last w (sound_tidy w (c.its_world_is_sound.ensures w known)) g.D.Disk.state c.frames.store held between
-          (map sent (take c.frames.i frames)) c.frames.course.last far (at_place c.frames.i frames) written c.take_with_room.new.store c.take_with_room.new.course.last
+          (map sent_frame (take c.frames.i frames)) c.frames.course.last far (at_place c.frames.i frames) written c.take_with_room.new.store c.take_with_room.new.course.last
           (subst (λ fs. AreFramesAnswered functions c.frames.course.last far.after.left g.D.Disk.state c.take_with_room.new.store between written (answered_bytes functions c.frames.course.last far.after.left) fs c.take_with_room.new.course.last) one
           (c.in-Ok.ensures.takes far.after.left far.after.known)));
       rests = c.in-Ok.ensures.rests;
-      next = come_after (g.O.AnswerRecipient.account c.frames.output) now (at_place c.frames.i frames) (map sent (drop (c.frames.i + 1) frames))
+      next = come_after (g.O.AnswerRecipient.account c.frames.output) now (at_place c.frames.i frames) (map sent_frame (drop (c.frames.i + 1) frames))
           (subst (ComeNext (g.O.AnswerRecipient.account c.frames.output)) (sym (others frames c.frames.i)) c.frames.invariant.next) more;
       more = subst (AnswersMore (g.O.AnswerRecipient.account c.args.output.now) now) (sym (one_more frames c.frames.i))
-          (more_both (g.O.AnswerRecipient.account c.args.output.now) (g.O.AnswerRecipient.account c.frames.output) now (map sent (take c.frames.i frames)) (at_place c.frames.i frames) c.frames.invariant.more more);
+          (more_both (g.O.AnswerRecipient.account c.args.output.now) (g.O.AnswerRecipient.account c.frames.output) now (map sent_frame (take c.frames.i frames)) (at_place c.frames.i frames) c.frames.invariant.more more);
       input = c.take_with_room.ensures.input ∙ c.frames.invariant.input;
     }
 

@@ -1,7 +1,7 @@
 use Rattle.std.proofs.Common.{◌≡◌, ℕ, ◌<◌, List, [], ◌∷◌, ◌++◌, length, map, sym, ◌∙◌, arith}
 use Rattle.std.specs.List.{flat_map}
 use Rattle.std.proofs.lemmas.List.{append-nil}
-use Rattle.message_frames.specs.Frames.{answer_bytes, sent}
+use Rattle.message_frames.specs.Frames.{answer_bytes, sent_frame}
 use Rattle.message_frames.specs.declared.frame.MessageFrame.{MessageFrame}
 use Rattle.message_session.specs.Answers.{answers_to}
 use Rattle.messages.specs.declared.request.Answer.{Answer}
@@ -9,7 +9,7 @@ use Rattle.messages.specs.Rounds.{told_in}
 use Rattle.message_session.proofs.answer.bytes_of.Goals as goal
 
 abbrev texts_of : List MessageFrame → List Answer → List ℕ
-texts_of frames answers = flat_map answer_bytes (answers_to (map sent frames) (map told_in answers))
+texts_of frames answers = flat_map answer_bytes (answers_to (map sent_frame frames) (map told_in answers))
 
 no_frame : (bytes whole : List ℕ) (frames : List MessageFrame) (answers : List Answer) → length frames < 1 → bytes ++ texts_of frames answers ≡ whole → bytes ≡ whole
 no_frame bytes whole [] answers short parts = sym (append-nil bytes) ∙ parts

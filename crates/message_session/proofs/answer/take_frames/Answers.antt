@@ -3,7 +3,7 @@ use Rattle.std.specs.Option.{option_map}
 use Rattle.std.specs.List.{flat_map}
 use Rattle.std.proofs.lemmas.List.{take-append-drop, take-map}
 use Rattle.disk_trait.specs.Disk.{IsHonest}
-use Rattle.message_frames.specs.Frames.{Sent, answer_bytes, sent}
+use Rattle.message_frames.specs.Frames.{Sent, answer_bytes, sent_frame}
 use Rattle.message_laws.proofs.Tidy.{sound_tidy}
 use Rattle.message_session.specs.Answers.{AskAlike, answered_bytes, answers_to}
 use Rattle.message_session.specs.Account.{MessageAccount, AnswersAreStored, with_frames}
@@ -31,21 +31,21 @@ abbrev count_of : (g : Over) (c : In-Ok-bytes_of g) → ℕ
 count_of g c = c.len-count.result
 
 abbrev taken : (g : Over) (c : In-Ok-bytes_of g) → List Sent
-taken g c = take (count_of g c) (map sent c.args.frames.now)
+taken g c = take (count_of g c) (map sent_frame c.args.frames.now)
 
-as_taken : (g : Over) (c : In-Ok-bytes_of g) → map sent (take (count_of g c) c.args.frames.now) ≡ taken g c
-as_taken g c = sym (take-map sent (count_of g c) c.args.frames.now)
+as_taken : (g : Over) (c : In-Ok-bytes_of g) → map sent_frame (take (count_of g c) c.args.frames.now) ≡ taken g c
+as_taken g c = sym (take-map sent_frame (count_of g c) c.args.frames.now)
 
-all_of : (g : Over) (c : In-Ok-bytes_of g) → taken g c ++ drop (count_of g c) (map sent c.args.frames.now) ≡ map sent c.args.frames.now
-all_of g c = take-append-drop (count_of g c) (map sent c.args.frames.now)
+all_of : (g : Over) (c : In-Ok-bytes_of g) → taken g c ++ drop (count_of g c) (map sent_frame c.args.frames.now) ≡ map sent_frame c.args.frames.now
+all_of g c = take-append-drop (count_of g c) (map sent_frame c.args.frames.now)
 
 -- what was asked and answered
 given : (g : Over) (c : In-Ok-bytes_of g) (w : WorldState) → c.args.store.now.world ≡ Some w
     → (requests : List Request) × AskAlike requests (taken g c)
     × AnswersRequests g.R.Meaning.Meaning.functions g.D.Disk.state c.args.store.now c.answer_first_requests.new.store w c.args.course.now.last requests (Ok c.in-Ok-answer_first_requests.replies)
 given g c w known =
-    of_first g.R.Meaning.Meaning.functions g.D.Disk.state c.args.store.now c.answer_first_requests.new.store w c.args.course.now.last (map sent c.args.frames.now) c.as_slice.result.now
-    c.in-Ok-answer_first_requests.replies c.len-count.result (omega (arith, c.len-count.ensures, c.in-Ok-answer_first_requests.replies.answers.ok.0)) (subst (λ rs. AskAlike rs (map sent c.args.frames.now)) (sym c.as_slice.ensures.value) c.in-Ok.ensures.pairs)
+    of_first g.R.Meaning.Meaning.functions g.D.Disk.state c.args.store.now c.answer_first_requests.new.store w c.args.course.now.last (map sent_frame c.args.frames.now) c.as_slice.result.now
+    c.in-Ok-answer_first_requests.replies c.len-count.result (omega (arith, c.len-count.ensures, c.in-Ok-answer_first_requests.replies.answers.ok.0)) (subst (λ rs. AskAlike rs (map sent_frame c.args.frames.now)) (sym c.as_slice.ensures.value) c.in-Ok.ensures.pairs)
     (c.in-Ok-answer_first_requests.ensures.answer w known)
 
 -- the bytes that are to be written
@@ -54,7 +54,7 @@ bytes_made : (g : Over) (c : In-Ok-bytes_of g) (w : WorldState) → c.args.store
 bytes_made g c w known =
     let asked = given g c w known in
     c.in-Ok-bytes_of.ensures
-    ∙ ap (λ answers. flat_map answer_bytes (answers_to (map sent (take (count_of g c) c.args.frames.now)) (map told_in answers))) c.as_slice-2.ensures.value
+    ∙ ap (λ answers. flat_map answer_bytes (answers_to (map sent_frame (take (count_of g c) c.args.frames.now)) (map told_in answers))) c.as_slice-2.ensures.value
     ∙ ap (λ fs. flat_map answer_bytes (answers_to fs (map told_in c.in-Ok-answer_first_requests.replies.answers.items))) (as_taken g c)
     ∙ bytes_are g.R.Meaning.Meaning.functions g.D.Disk.state c.args.store.now c.answer_first_requests.new.store w c.args.course.now.last
     (c.its_world_is_sound.ensures w known) (taken g c) asked.0 asked.1 c.in-Ok-answer_first_requests.replies asked.2
@@ -76,7 +76,7 @@ returns-in-Err-write_answers-clause-takes g c = λ w known.
     let written = g.O.AnswerRecipient.contents c.write_answers.new.self in
     subst (λ fs. Breaks functions last w g.D.Disk.state c.answer_first_requests.new.store held written fs (Fault 68)) (all_of g here)
     (breaks_unwritten functions last w (sound_tidy w (c.its_world_is_sound.ensures w known)) g.D.Disk.state c.answer_first_requests.new.store held written
-    (taken g here) (drop (count_of g here) (map sent c.args.frames.now)) (c.in-Ok-answer_first_requests.replies.last, stands g here w known)
+    (taken g here) (drop (count_of g here) (map sent_frame c.args.frames.now)) (c.in-Ok-answer_first_requests.replies.last, stands g here w known)
     (subst (WritesPart held written) (c.as_slice-3.ensures.value ∙ bytes_made g here w known) c.in-Err-write_answers.ensures.part))
 
 -- the frames were answered
@@ -108,7 +108,7 @@ returns-clause-takes g c = λ w known.
     let first = answered g here w known written c.as_slice-3.result.now c.as_slice-3.ensures.value c.in-Ok-write_answers.ensures.whole in
     subst (λ fs. Breaks functions last w g.D.Disk.state c.renew_if_due.new.store held written fs c.in-Err-renew_if_due.ended) (all_of g here)
     (breaks_unrenewed functions last w (sound_tidy w (c.its_world_is_sound.ensures w known)) g.D.Disk.state c.answer_first_requests.new.store c.renew_if_due.new.store held written
-    (taken g here) (drop (count_of g here) (map sent c.args.frames.now)) c.in-Ok-answer_first_requests.replies.last first c.in-Err-renew_if_due.ended
+    (taken g here) (drop (count_of g here) (map sent_frame c.args.frames.now)) c.in-Ok-answer_first_requests.replies.last first c.in-Err-renew_if_due.ended
     (c.in-Err-renew_if_due.ensures.renews first.after.left first.after.known))
 
 pub returns-in_default-bytes_of-clause-takes : goal.returns-in_default-bytes_of-clause-takes
@@ -116,7 +116,7 @@ returns-in_default-bytes_of-clause-takes g c = λ w known.
     let functions = g.R.Meaning.Meaning.functions in
     let last = c.args.course.now.last in
     let held = g.O.AnswerRecipient.contents c.args.output.now in
-    let frames = map sent c.args.frames.now in
+    let frames = map sent_frame c.args.frames.now in
     let count = c.len-count.result in
     let asked = of_first functions g.D.Disk.state c.args.store.now c.answer_first_requests.new.store w last frames c.as_slice.result.now
     c.in-Ok-answer_first_requests.replies c.len-count.result (omega (arith, c.len-count.ensures, c.in-Ok-answer_first_requests.replies.answers.ok.0)) (subst (λ rs. AskAlike rs frames) (sym c.as_slice.ensures.value) c.in-Ok.ensures.pairs)
@@ -133,14 +133,14 @@ pub returns-in-Err-clause-takes : goal.returns-in-Err-clause-takes
 returns-in-Err-clause-takes g c = λ w known.
     let functions = g.R.Meaning.Meaning.functions in
     untaken functions c.args.course.now.last w (sound_tidy w (c.its_world_is_sound.ensures w known)) g.D.Disk.state c.args.store.now c.answer_first_requests.new.store known
-    (g.O.AnswerRecipient.contents c.args.output.now) (map sent c.args.frames.now) c.as_slice.result.now
-    (subst (λ rs. AskAlike rs (map sent c.args.frames.now)) (sym c.as_slice.ensures.value) c.in-Ok.ensures.pairs) c.in-Err.number
+    (g.O.AnswerRecipient.contents c.args.output.now) (map sent_frame c.args.frames.now) c.as_slice.result.now
+    (subst (λ rs. AskAlike rs (map sent_frame c.args.frames.now)) (sym c.as_slice.ensures.value) c.in-Ok.ensures.pairs) c.in-Err.number
     (c.in-Err.ensures.answer w known) (omega (arith, ap length c.as_slice.ensures.value, c.in-Ok.ensures.many, c.requires.any)) c.in-Err.ensures.unchanged c.stop_after.result c.stop_after.ensures
 
 -- ---- the recipient
 
 come : (g : Over) (c : In-Ok-bytes_of g) → ComeNext (g.O.AnswerRecipient.account c.args.output.now) (taken g c)
-come g c account is = next_taken account (map sent c.args.frames.now) (count_of g c) (c.requires.next account is)
+come g c account is = next_taken account (map sent_frame c.args.frames.now) (count_of g c) (c.requires.next account is)
 
 pub write_answers-requires : goal.write_answers-requires
 write_answers-requires g c =
@@ -156,7 +156,7 @@ write_answers-requires g c =
 -- where it stands once the answers were handed on
 kept : (g : Over) (c : In-Ok-bytes_of g) (now : Option (MessageAccount g.row.D.Denot))
     → ((later : MessageAccount g.row.D.Denot) → now ≡ Some later
-    → option_map (with_frames g.R.Meaning.Meaning.functions (map sent (take (count_of g c) c.args.frames.now)) c.answer_first_requests.new.store) (g.O.AnswerRecipient.account c.args.output.now) ≡ Some later)
+    → option_map (with_frames g.R.Meaning.Meaning.functions (map sent_frame (take (count_of g c) c.args.frames.now)) c.answer_first_requests.new.store) (g.O.AnswerRecipient.account c.args.output.now) ≡ Some later)
     → (later : MessageAccount g.row.D.Denot) → now ≡ Some later
     → option_map (with_frames g.R.Meaning.Meaning.functions (taken g c) c.answer_first_requests.new.store) (g.O.AnswerRecipient.account c.args.output.now) ≡ Some later
 kept g c now handed later is =
@@ -164,7 +164,7 @@ kept g c now handed later is =
 
 handed : (g : Over) (c : In-Ok-bytes_of g) (now : Option (MessageAccount g.row.D.Denot))
     → ((later : MessageAccount g.row.D.Denot) → now ≡ Some later
-    → option_map (with_frames g.R.Meaning.Meaning.functions (map sent (take (count_of g c) c.args.frames.now)) c.answer_first_requests.new.store) (g.O.AnswerRecipient.account c.args.output.now) ≡ Some later)
+    → option_map (with_frames g.R.Meaning.Meaning.functions (map sent_frame (take (count_of g c) c.args.frames.now)) c.answer_first_requests.new.store) (g.O.AnswerRecipient.account c.args.output.now) ≡ Some later)
     → ((w : WorldState) → c.answer_first_requests.new.store.world ≡ Some w → IsHonest (g.D.Disk.state c.answer_first_requests.new.store.disk) → Keeps g.R.Meaning.Meaning.functions (g.D.Disk.state c.answer_first_requests.new.store.disk) w)
     → RestsAt g.R.Meaning.Meaning.functions g.D.Disk.state now c.answer_first_requests.new.store c.in-Ok-answer_first_requests.replies.last
 handed g c now hands keeps =
@@ -174,12 +174,12 @@ handed g c now hands keeps =
 pub returns-in-Err-clause-rests : goal.returns-in-Err-clause-rests
 returns-in-Err-clause-rests g c =
     unanswered g.R.Meaning.Meaning.functions g.D.Disk.state g.met.D.Disk.sound (g.O.AnswerRecipient.account c.args.output.now) c.args.store.now c.answer_first_requests.new.store c.args.course.now.last
-    c.requires.rests (map sent c.args.frames.now) c.requires.next c.as_slice.result.now
-    (subst (λ rs. AskAlike rs (map sent c.args.frames.now)) (sym c.as_slice.ensures.value) c.in-Ok.ensures.pairs) c.in-Err.number c.in-Err.ensures.answer c.in-Err.ensures.unchanged c.stop_after.result c.stop_after.ensures
+    c.requires.rests (map sent_frame c.args.frames.now) c.requires.next c.as_slice.result.now
+    (subst (λ rs. AskAlike rs (map sent_frame c.args.frames.now)) (sym c.as_slice.ensures.value) c.in-Ok.ensures.pairs) c.in-Err.number c.in-Err.ensures.answer c.in-Err.ensures.unchanged c.stop_after.result c.stop_after.ensures
 
 pub returns-in_default-bytes_of-clause-rests : goal.returns-in_default-bytes_of-clause-rests
 returns-in_default-bytes_of-clause-rests g c =
-    let frames = map sent c.args.frames.now in
+    let frames = map sent_frame c.args.frames.now in
     let count = c.len-count.result in
     none_told g.R.Meaning.Meaning.functions g.D.Disk.state g.met.D.Disk.sound (g.O.AnswerRecipient.account c.args.output.now) c.args.store.now c.answer_first_requests.new.store c.args.course.now.last
     c.requires.rests (take count frames) (λ account is. next_taken account frames count (c.requires.next account is)) c.in-Ok-answer_first_requests.replies

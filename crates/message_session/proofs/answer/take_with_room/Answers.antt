@@ -1,7 +1,7 @@
 use Rattle.std.proofs.Common.{◌≡◌, ℕ, List, Some, Result, Err, map, take, subst, arith}
 use Rattle.std.specs.Prelude.{IfOk}
 use Rattle.lisp_object.specs.declared.refusal.TheConstants.{LOG_FULL}
-use Rattle.message_frames.specs.Frames.{sent}
+use Rattle.message_frames.specs.Frames.{sent_frame}
 use Rattle.message_frames.specs.declared.frame.MessageFrame.{MessageFrame}
 use Rattle.message_laws.proofs.Tidy.{sound_tidy}
 use Rattle.message_session.specs.Standing.{AnswersMore, RestsAt, RestsOrStops}
@@ -21,10 +21,10 @@ use Rattle.message_session.proofs.answer.take_with_room.Goals.{In-Untaken}
 
 left : (g : Over) (c : In-Untaken g) → c.in-Untaken.why ≡ LOG_FULL → (w : WorldState) → c.args.store.now.world ≡ Some w
     → (g.O.AnswerRecipient.contents c.take_frames.new.output ≡ g.O.AnswerRecipient.contents c.args.output.now) × (c.take_frames.new.course.last ≡ c.args.course.now.last) × (c.take_frames.new.store.world ≡ Some w)
-    × RefusesFirst g.R.Meaning.Meaning.functions c.args.course.now.last w g.D.Disk.state c.take_frames.new.store (map sent c.args.frames.now) LOG_FULL
+    × RefusesFirst g.R.Meaning.Meaning.functions c.args.course.now.last w g.D.Disk.state c.take_frames.new.store (map sent_frame c.args.frames.now) LOG_FULL
 left g c full w known =
     roomless_left g.R.Meaning.Meaning.functions c.args.course.now.last w (sound_tidy w (c.its_world_is_sound.ensures w known)) g.D.Disk.state c.args.store.now c.take_frames.new.store known
-    (g.O.AnswerRecipient.contents c.args.output.now) (g.O.AnswerRecipient.contents c.take_frames.new.output) c.take_frames.new.course.last (map sent c.args.frames.now) c.in-Err.stop c.in-Untaken.why
+    (g.O.AnswerRecipient.contents c.args.output.now) (g.O.AnswerRecipient.contents c.take_frames.new.output) c.take_frames.new.course.last (map sent_frame c.args.frames.now) c.in-Err.stop c.in-Untaken.why
     c.in-Untaken.is full (c.in-Err.ensures.takes w known)
 
 rested : (g : Over) (c : In-Untaken g) → RestsAt g.R.Meaning.Meaning.functions g.D.Disk.state (g.O.AnswerRecipient.account c.take_frames.new.output) c.take_frames.new.store c.take_frames.new.course.last
@@ -46,7 +46,7 @@ returns-in-Err-eq65-clause-takes g c = λ w known.
       nothing.1,
       large_keeps functions g.D.Disk.state c.take_frames.new.store c.renew_for_room.new.store w c.in-Err-eq65.field-0 c.in-Err-eq65.field-0-test (c.in-Err-eq65.ensures.renews w nothing.2) nothing.2,
       λ one. breaks_roomless functions c.args.course.now.last w (sound_tidy w (c.its_world_is_sound.ensures w known)) g.D.Disk.state c.take_frames.new.store c.renew_for_room.new.store nothing.2
-          (g.O.AnswerRecipient.contents c.args.output.now) (g.O.AnswerRecipient.contents c.take_frames.new.output) nothing.0 (map sent c.args.frames.now) 65 nothing.3 (λ _. one) refused,
+          (g.O.AnswerRecipient.contents c.args.output.now) (g.O.AnswerRecipient.contents c.take_frames.new.output) nothing.0 (map sent_frame c.args.frames.now) 65 nothing.3 (λ _. one) refused,
     )
 
 pub returns-in-Err-eq65-clause-rests : goal.returns-in-Err-eq65-clause-rests
@@ -61,7 +61,7 @@ pub returns-in-Err-renew_for_room-clause-takes : goal.returns-in-Err-renew_for_r
 returns-in-Err-renew_for_room-clause-takes g c = λ w known.
     let nothing = left g (goal.at.returns-in-Err-renew_for_room-clause-takes g c).In-Untaken (omega (arith, c.if-why-ne-LOG_FULL.false)) w known in
     breaks_roomless g.R.Meaning.Meaning.functions c.args.course.now.last w (sound_tidy w (c.its_world_is_sound.ensures w known)) g.D.Disk.state c.take_frames.new.store c.renew_for_room.new.store nothing.2
-    (g.O.AnswerRecipient.contents c.args.output.now) (g.O.AnswerRecipient.contents c.take_frames.new.output) nothing.0 (map sent c.args.frames.now) c.in-Err-renew_for_room.number nothing.3
+    (g.O.AnswerRecipient.contents c.args.output.now) (g.O.AnswerRecipient.contents c.take_frames.new.output) nothing.0 (map sent_frame c.args.frames.now) c.in-Err-renew_for_room.number nothing.3
     (λ large. absurd (omega (arith, large, c.in-Err-renew_for_room.number-test))) (c.in-Err-renew_for_room.ensures.renews w nothing.2)
 
 pub returns-in-Err-renew_for_room-clause-rests : goal.returns-in-Err-renew_for_room-clause-rests
@@ -84,7 +84,7 @@ returns-clause-takes g c = λ w known.
     let functions = g.R.Meaning.Meaning.functions in
     let nothing = left g (goal.at.returns-clause-takes g c).In-Untaken (omega (arith, c.if-why-ne-LOG_FULL.false)) w known in
     let renewed = c.in-Ok-renew_for_room.ensures.renews w nothing.2 in
-    let frames = map sent c.args.frames.now in
+    let frames = map sent_frame c.args.frames.now in
     let held = g.O.AnswerRecipient.contents c.args.output.now in
     let between = g.O.AnswerRecipient.contents c.take_frames.new.output in
     let written = g.O.AnswerRecipient.contents c.take_frames-2.new.output in
@@ -97,10 +97,10 @@ returns-clause-takes g c = λ w known.
 
 -- where nothing was written before
 moved : (g : Over) (first between last : g.row.O.Denot) (frames : List MessageFrame) (result : Result ℕ Stop) → between ≡ first
-    → IfOk result (λ count. AnswersMore (g.O.AnswerRecipient.account between) (g.O.AnswerRecipient.account last) (take count (map sent frames)))
-    → IfOk result (λ count. AnswersMore (g.O.AnswerRecipient.account first) (g.O.AnswerRecipient.account last) (take count (map sent frames)))
+    → IfOk result (λ count. AnswersMore (g.O.AnswerRecipient.account between) (g.O.AnswerRecipient.account last) (take count (map sent_frame frames)))
+    → IfOk result (λ count. AnswersMore (g.O.AnswerRecipient.account first) (g.O.AnswerRecipient.account last) (take count (map sent_frame frames)))
 moved g first between last frames result same more =
-    subst (λ (o : g.row.O.Denot). IfOk result (λ count. AnswersMore (g.O.AnswerRecipient.account o) (g.O.AnswerRecipient.account last) (take count (map sent frames)))) same more
+    subst (λ (o : g.row.O.Denot). IfOk result (λ count. AnswersMore (g.O.AnswerRecipient.account o) (g.O.AnswerRecipient.account last) (take count (map sent_frame frames)))) same more
 
 pub returns-clause-more : goal.returns-clause-more
 returns-clause-more g c =
@@ -115,14 +115,14 @@ returns-then-why-ne-LOG_FULL-clause-takes g c = λ w known.
     let last = c.args.course.now.last in
     let held = g.O.AnswerRecipient.contents c.args.output.now in
     let written = g.O.AnswerRecipient.contents c.take_frames.new.output in
-    untaken_with_room functions last w (sound_tidy w (c.its_world_is_sound.ensures w known)) g.D.Disk.state c.args.store.now c.take_frames.new.store known held written c.take_frames.new.course.last (map sent c.args.frames.now)
+    untaken_with_room functions last w (sound_tidy w (c.its_world_is_sound.ensures w known)) g.D.Disk.state c.args.store.now c.take_frames.new.store known held written c.take_frames.new.course.last (map sent_frame c.args.frames.now)
     c.in-Untaken.why (λ full. absurd (omega (arith, full, c.if-why-ne-LOG_FULL.true)))
-    (subst (λ s. TakesFrames functions last w g.D.Disk.state c.take_frames.new.store held written c.take_frames.new.course.last c.args.store.now (map sent c.args.frames.now) (Err s)) c.in-Untaken.is (c.in-Err.ensures.takes w known))
+    (subst (λ s. TakesFrames functions last w g.D.Disk.state c.take_frames.new.store held written c.take_frames.new.course.last c.args.store.now (map sent_frame c.args.frames.now) (Err s)) c.in-Untaken.is (c.in-Err.ensures.takes w known))
 
 pub returns-in-Ended-clause-takes : goal.returns-in-Ended-clause-takes
 returns-in-Ended-clause-takes g c = λ w known.
     subst (λ s. TakesFrames g.R.Meaning.Meaning.functions c.args.course.now.last w g.D.Disk.state c.take_frames.new.store (g.O.AnswerRecipient.contents c.args.output.now) (g.O.AnswerRecipient.contents c.take_frames.new.output)
-    c.take_frames.new.course.last c.args.store.now (map sent c.args.frames.now) (Err s)) c.in-Ended.is (c.in-Err.ensures.takes w known)
+    c.take_frames.new.course.last c.args.store.now (map sent_frame c.args.frames.now) (Err s)) c.in-Ended.is (c.in-Err.ensures.takes w known)
 
 pub returns-in-Ended-clause-rests : goal.returns-in-Ended-clause-rests
 returns-in-Ended-clause-rests g c =

@@ -1,6 +1,6 @@
 use Rattle.std.proofs.Common.{◌∙◌, ◌&&◌, ℕ, Bool, Option, false, not, bytes_eq, sym, ap}
 use Rattle.std.specs.Option.{option_map_or}
-use Rattle.package_sets.specs.Kept.{Kept}
+use Rattle.package_sets.specs.KeptSets.{Kept}
 use Rattle.package_table.specs.Table.{Name}
 use Rattle.package_table.specs.Meaning.{found_number, home_in}
 use Rattle.package_table.proofs.Puts.{found_known}

@@ -1,6 +1,6 @@
 use Rattle.std.proofs.Common.{◌∙◌, ◌&&◌, Bool, length, sym, ◌<◌, ◌≤◌, arith}
 use Rattle.std.specs.FinMap as finite
-use Rattle.package_sets.specs.Kept.{Kept, name_at}
+use Rattle.package_sets.specs.KeptSets.{Kept, name_at}
 use Rattle.package_table.specs.Table.{Name, Package}
 use Rattle.package_table.specs.Changes.{finds_other, user_finds_other}
 use Rattle.package_table.specs.Meaning.{numbered_of}

@@ -1,6 +1,6 @@
 use Rattle.std.proofs.Common.{◌≡◌, ◌<◌, ◌&&◌, ℕ, false}
 use Rattle.std.specs.FinMap as finite
-use Rattle.package_sets.specs.Kept.{name_at}
+use Rattle.package_sets.specs.KeptSets.{name_at}
 use Rattle.package_table.specs.Changes.{finds_other}
 use Rattle.package_table.specs.Meaning.{numbered_of, package_of_number}
 use Rattle.package_table.proofs.conflicts.user_finds_other.Given as goal

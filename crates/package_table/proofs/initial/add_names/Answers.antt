@@ -1,6 +1,6 @@
 use Rattle.std.proofs.Common.{◌≡◌, ◌∙◌, ◌+◌, ◌<◌, List, [], length, get_or, refl, sym, ap, subst, Bor, arith}
 use Rattle.std.proofs.lemmas.List.{get_or-map, length-map, length_push}
-use Rattle.package_sets.specs.Kept.{Kept, name_at}
+use Rattle.package_sets.specs.KeptSets.{Kept, name_at}
 use Rattle.package_sets.specs.Changes.{symbol_named, with_symbol, number_among}
 use Rattle.package_table.specs.Table.{Name}
 use Rattle.package_table.specs.Readers.{names_of}

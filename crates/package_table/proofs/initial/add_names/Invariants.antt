@@ -1,6 +1,6 @@
 use Rattle.std.proofs.Common.{◌≡◌, ◌+◌, length, take}
 use Rattle.std.specs.FinMap as finite
-use Rattle.package_sets.specs.Kept.{name_at}
+use Rattle.package_sets.specs.KeptSets.{name_at}
 use Rattle.package_table.specs.Table.{package_of_names}
 use Rattle.package_table.specs.Readers.{names_of}
 use Rattle.package_table.specs.Meaning.{numbered_of}

@@ -1,6 +1,6 @@
 use Rattle.std.proofs.Common.{◌≡◌, ◌∙◌, List, [], ◌∷◌, position, bytes_eq, refl, ap}
 use Rattle.std.specs.FinMap as finite
-use Rattle.package_sets.specs.Kept.{Kept, name_at, pair_eq}
+use Rattle.package_sets.specs.KeptSets.{Kept, name_at, pair_eq}
 use Rattle.package_table.specs.Table.{Name, Table, common_lisp, common_lisp_user, keyword, common_lisp_names, keyword_names, package_of_names, with_used}
 use Rattle.package_table.specs.Numbers.{Numbered}
 use Rattle.package_table.specs.Meaning.{numbered_of}

@@ -1,5 +1,5 @@
 use Rattle.std.proofs.Common.{◌+◌, ◌∙◌, sym, ap}
-use Rattle.package_sets.specs.Kept.{name_at}
+use Rattle.package_sets.specs.KeptSets.{name_at}
 use Rattle.package_table.specs.Table.{symbol_count}
 use Rattle.package_table.proofs.KeptChanges.{counted_new}
 use Rattle.package_table.proofs.Adding.{adds_same}

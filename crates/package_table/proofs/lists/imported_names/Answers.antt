@@ -1,5 +1,5 @@
 use Rattle.std.proofs.Common.{ℕ, ◌<◌, ◌∙◌, List, length, get_or, sym, ap, subst, arith}
-use Rattle.package_sets.specs.Kept.{positions_of}
+use Rattle.package_sets.specs.KeptSets.{positions_of}
 use Rattle.package_sets.proofs.Places.{all_at}
 use Rattle.package_table.proofs.ListedBy.{place_fits}
 use Rattle.package_table.proofs.lists.imported_names.Goals as goal

@@ -1,5 +1,5 @@
 use Rattle.std.proofs.Common.{◌≡◌, map, take, get_or}
-use Rattle.package_sets.specs.Kept.{positions_of}
+use Rattle.package_sets.specs.KeptSets.{positions_of}
 use Rattle.package_table.specs.Meaning.{symbol_name}
 use Rattle.package_table.proofs.lists.imported_names.Given as goal
 

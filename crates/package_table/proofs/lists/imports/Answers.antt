@@ -1,5 +1,5 @@
 use Rattle.std.proofs.Common.{◌∙◌, List, map, get_or, sym, ap, Bor}
-use Rattle.package_sets.specs.Kept.{positions_of}
+use Rattle.package_sets.specs.KeptSets.{positions_of}
 use Rattle.package_table.specs.Table.{Name}
 use Rattle.package_table.specs.Readers.{home_at}
 use Rattle.package_table.specs.Meaning.{numbered_of, symbol_name}

@@ -1,6 +1,6 @@
 use Rattle.std.proofs.Common.{◌<◌, ◌∙◌, length, map, sym, ap, subst}
 use Rattle.std.specs.List.{AllByRecursion}
-use Rattle.package_sets.specs.Kept.{positions_of}
+use Rattle.package_sets.specs.KeptSets.{positions_of}
 use Rattle.package_table.specs.Meaning.{symbol_name}
 use Rattle.package_table.proofs.Listed.{sorted_names}
 use Rattle.package_table.proofs.ListedBy.{own_listed, all_places}

@@ -1,5 +1,5 @@
 use Rattle.std.proofs.Common.{ℕ, ◌<◌, ◌∙◌, List, length, get_or, sym, ap, subst}
-use Rattle.package_sets.specs.Kept.{pair_at, positions_of}
+use Rattle.package_sets.specs.KeptSets.{pair_at, positions_of}
 use Rattle.package_sets.proofs.Places.{all_at}
 use Rattle.package_table.proofs.ListedBy.{place_fits}
 use Rattle.package_table.proofs.lists.used_packages.Goals as goal

@@ -1,5 +1,5 @@
 use Rattle.std.proofs.Common.{◌≡◌, map, take}
-use Rattle.package_sets.specs.Kept.{name_at, pair_at, positions_of}
+use Rattle.package_sets.specs.KeptSets.{name_at, pair_at, positions_of}
 use Rattle.package_table.proofs.lists.used_packages.Given as goal
 
 -- the names so far

@@ -1,5 +1,5 @@
 use Rattle.std.proofs.Common.{◌∙◌, List, map, ap, Bor}
-use Rattle.package_sets.specs.Kept.{name_at, pair_at, positions_of}
+use Rattle.package_sets.specs.KeptSets.{name_at, pair_at, positions_of}
 use Rattle.package_table.specs.Table.{Name}
 use Rattle.package_table.proofs.Listed.{sorted_names}
 use Rattle.package_table.proofs.ListedBy.{used_listed}

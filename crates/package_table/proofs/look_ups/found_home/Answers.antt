@@ -1,5 +1,5 @@
 use Rattle.std.proofs.Common.{◌∙◌, Some, option_map, sym, ap}
-use Rattle.package_sets.specs.Kept.{name_at}
+use Rattle.package_sets.specs.KeptSets.{name_at}
 use Rattle.package_table.specs.Meaning.{home_in}
 use Rattle.package_table.proofs.FoundBy.{position_of, found_by, found_no_name}
 use Rattle.package_table.proofs.Mapped.{named}

@@ -1,5 +1,5 @@
 use Rattle.std.proofs.Common.{◌∙◌, ℕ, is_some, position, sym, ap}
-use Rattle.package_sets.specs.Kept.{pair_eq}
+use Rattle.package_sets.specs.KeptSets.{pair_eq}
 use Rattle.package_table.proofs.Inheriting.{inherited_hit, inherited_none}
 use Rattle.package_table.proofs.look_ups.inherited_by_name.Goals as goal
 

@@ -1,7 +1,7 @@
 use Rattle.std.proofs.Common.{◌≡◌, ◌∙◌, ℕ, ◌<◌, ◌≤◌, ap, List, [], length, get_or, sym, subst, refl}
 use Rattle.package_sets.proofs.Places.{all_at}
 use Rattle.package_table.proofs.FoundBy.{positions_read, first_hit, first_missed, first_end}
-use Rattle.package_sets.specs.Kept.{pair_at, positions_of}
+use Rattle.package_sets.specs.KeptSets.{pair_at, positions_of}
 use Rattle.package_table.proofs.look_ups.inherited_number.Goals as goal
 
 pub use_at-used-requires : goal.use_at-used-requires

@@ -1,5 +1,5 @@
 use Rattle.std.proofs.Common.{◌≡◌, drop}
-use Rattle.package_sets.specs.Kept.{positions_of}
+use Rattle.package_sets.specs.KeptSets.{positions_of}
 use Rattle.package_table.specs.Meaning.{first_shown}
 use Rattle.package_table.proofs.look_ups.inherited_number.Given as goal
 

@@ -1,5 +1,5 @@
 use Rattle.std.proofs.Common.{◌≡◌, ◌<◌, ℕ, Option, None, Some, IfSome, length, position, bytes_eq, is_some, sym, ap, ◌∙◌}
-use Rattle.package_sets.specs.Kept.{name_at}
+use Rattle.package_sets.specs.KeptSets.{name_at}
 use Rattle.package_table.proofs.Mapped.{named}
 use Rattle.package_table.proofs.ByName.{package_some}
 use Rattle.package_table.proofs.look_ups.package_number.Goals as goal

@@ -1,6 +1,6 @@
 use Rattle.std.proofs.Common.{◌∙◌, sym, subst}
 use Rattle.package_sets.specs.declared.sizes.Sizes.{Sizes}
-use Rattle.package_sets.specs.Kept.{Kept, cut}
+use Rattle.package_sets.specs.KeptSets.{Kept, cut}
 use Rattle.package_sets.specs.Consistent.{IsGood}
 use Rattle.package_sets.specs.Changes.{with_import}
 use Rattle.package_table.proofs.Adding.{import_adds, cut_back}

@@ -1,7 +1,7 @@
 use Rattle.std.proofs.Common.{◌∙◌, false, is_some, bytes_eq, refl, sym, ap, subst}
 use Rattle.std.proofs.lemmas.Bool.{false≢true}
 use Rattle.std.specs.Option.{option_map_or}
-use Rattle.package_sets.specs.Kept.{Kept}
+use Rattle.package_sets.specs.KeptSets.{Kept}
 use Rattle.package_sets.specs.Consistent.{IsGood}
 use Rattle.package_table.specs.Numbers.{Numbered}
 use Rattle.package_table.specs.Meaning.{numbered_of, number_in}

@@ -3,7 +3,7 @@ use Rattle.std.specs.Vec.{vec_capacity}
 use Rattle.lisp_object.specs.Object.{nil}
 use Rattle.plist_state.specs.Properties.{value_beside}
 use Rattle.plist_state.specs.Lists.{NumberedPlist, same_number}
-use Rattle.plist_state.specs.Popped.{with_popped_by}
+use Rattle.plist_state.specs.PoppedLists.{with_popped_by}
 use Rattle.plist_state.specs.Undoing.{list_before, element_count}
 use Rattle.plist_state.proofs.ListRows.{lent_mut, lent_shown, none_lent, put_lent, written, lists_made, list_now}
 use Rattle.plist_state.proofs.Placing.{are_indexed}

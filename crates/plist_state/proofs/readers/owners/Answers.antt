@@ -1,7 +1,7 @@
 use Rattle.std.proofs.Common.{◌≡◌, ◌++◌, ◌∙◌, Bor, List, [], ◌∷◌, length, refl, ap, sym, map, filter, is_some, append-nil, arith}
 use Rattle.std.specs.List.{flat_map}
 use Rattle.package_table.specs.Table.{Name}
-use Rattle.package_table.specs.Numbers.{numbered}
+use Rattle.package_table.specs.Numbers.{table_now}
 use Rattle.package_table.specs.Readers.{own_names}
 use Rattle.plist_state.specs.Properties.{Symbol}
 use Rattle.plist_state.specs.Lists.{property_list_of}
@@ -11,7 +11,7 @@ use Rattle.plist_state.proofs.readers.owners.Goals as goal
 
 pub returns : goal.returns
 returns c =
-    let s = numbered c.args.packages.now in
+    let s = table_now c.args.packages.now in
     let left : List (Bor Name) = c.loop-home.home-iterator.rest.items in
     let none : left ≡ [] = no_items left (sym c.loop-home.home-iterator.rest.ok.0 ∙ c.in-None.ensures.steps.0) in
     let so_far : List Symbol = map (λ s. (s.0.now, s.1.now)) c.loop-home.symbols.items in

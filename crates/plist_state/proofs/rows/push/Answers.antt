@@ -5,7 +5,7 @@ use Rattle.plist_state.specs.Properties.{value_beside}
 use Rattle.plist_state.specs.Lists.{same_number}
 use Rattle.plist_state.specs.Views.{plist_of}
 use Rattle.plist_state.specs.Undoing.{list_before}
-use Rattle.plist_state.specs.Pushed.{holds_pair, with_pushed_by}
+use Rattle.plist_state.specs.PushedLists.{holds_pair, with_pushed_by}
 use Rattle.plist_state.proofs.ListRows.{lent_mut, lent_shown, none_lent, put_lent, written, lists_made, list_now, written_same}
 use Rattle.plist_state.proofs.Placing.{are_indexed}
 use Rattle.plist_state.proofs.rows.push.Goals as goal

@@ -8,7 +8,7 @@ use Rattle.property_rows.specs.Slots.{no_property, with_value}
 use Rattle.plist_state.specs.Views.{numbered_property}
 use Rattle.lisp_object.specs.Object.{pair}
 use Rattle.plist_state.specs.Undoing.{with_changed_at, without_first}
-use Rattle.plist_state.specs.Pushed.{holds_pair}
+use Rattle.plist_state.specs.PushedLists.{holds_pair}
 use Rattle.plist_state.specs.RowIndexes.{IsIndexedIn}
 use Rattle.plist_state.proofs.Indices.{item_at, item_is, put_back, first_at, absent, stands_at, pushed_at, changed_back, unpushed}
 use Rattle.plist_state.proofs.Noted.{indexed_set}

@@ -1,7 +1,7 @@
 use Rattle.std.proofs.Common.{unwrap_or, sym, ap, ◌∙◌}
 use Rattle.std.proofs.lemmas.Bool.{false≢true}
 use Rattle.lisp_object.specs.Object.{nil}
-use Rattle.plist_state.specs.Pushed.{holds_pair}
+use Rattle.plist_state.specs.PushedLists.{holds_pair}
 use Rattle.plist_state.specs.Undoing.{element_count}
 use Rattle.plist_state.proofs.stored.pop.Goals as goal
 

@@ -1,7 +1,7 @@
 use Rattle.std.proofs.Common.{Bool, sym, subst, ◌∙◌}
 use Rattle.std.specs.Prelude.{if◌then◌else◌}
 use Rattle.lisp_object.specs.Datum.{object_of}
-use Rattle.lisp_operators.specs.Evaluated.{Answers, done}
+use Rattle.lisp_operators.specs.EvaluationAnswers.{Answers, done}
 use Rattle.form_eval.specs.Acceptance.{accept}
 use Rattle.prevalence_store.specs.meaning.Forgetting.{forgetting}
 use Rattle.prevalence_store.proofs.transaction.transact.Goals as goal

@@ -2,7 +2,7 @@ use Rattle.std.proofs.Common.{neg_ℤ, ap, subst, ◌∙◌}
 use Rattle.lisp_object.specs.Object.{Object, nil, integer}
 use Rattle.lisp_object.specs.Datum.{object_of}
 use Rattle.package_table.specs.Symbols.{symbols}
-use Rattle.lisp_operators.specs.Evaluated.{Answers, done}
+use Rattle.lisp_operators.specs.EvaluationAnswers.{Answers, done}
 use Rattle.lisp_operators.specs.Evaluation.{Evaluation}
 use Rattle.evaluator.specs.FormObjects.{if_form, progn_form}
 use Rattle.evaluator.specs.Value.{value}

@@ -1,7 +1,7 @@
 use Rattle.std.proofs.Common.{◌≡◌, ◌+◌, Some, sym, ap, subst, ◌∙◌}
 use Rattle.std.proofs.lemmas.List.{nil_from_length}
-use Rattle.forgotten_names.specs.Forgotten.{forgettable, forgotten}
-use Rattle.package_table.specs.Lookup.{found, is_used}
+use Rattle.forgotten_names.specs.WorldsWithoutNames.{forgettable, forgotten}
+use Rattle.package_table.specs.Lookup.{home_by_name, is_used}
 use Rattle.package_table.specs.Readers.{imports}
 use Rattle.package_table.specs.Table.{symbol_count}
 use Rattle.plist_state.specs.Readers.{borrowed_symbols}
@@ -24,7 +24,7 @@ returns g c =
           ∙ ap (λ n. symbol_count (forgotten held s).packages + n) c.in_ok-count.ensures
           ∙ c.forgettable_symbols_go.ensures.count held s;
       none = λ zero. is ∙ c.nothing_to_forget.ensures held s (nil_from_length (forgettable held s) (sym c.in_ok-count.ensures ∙ zero));
-      kept = λ p n h here. ((c.needed_symbols_stay.ensures.found held s p n h sound).0 (subst (λ (w : WorldState). found w.packages p n ≡ Some h) is here)).0;
+      kept = λ p n h here. ((c.needed_symbols_stay.ensures.found held s p n h sound).0 (subst (λ (w : WorldState). home_by_name w.packages p n ≡ Some h) is here)).0;
       imports = λ p. ap (λ (w : WorldState). imports w.packages p) is ∙ c.imports_stay.ensures held s p;
       uses = λ p q. ap (λ (w : WorldState). is_used w.packages p q) is ∙ c.what_is_not_forgotten.ensures.uses held s p q;
       rest = is ∙ c.what_is_not_forgotten.ensures.rest held s ∙ ap (λ (w : WorldState). record s { packages = w.packages }) (sym is);

@@ -1,5 +1,5 @@
 use Rattle.std.proofs.Common.{◌≡◌, ◌/◌, ◌+◌, ◌-◌, ◌++◌, map, set, suc, not, sym, ap, ◌∙◌, arith}
-use Rattle.property_rows.specs.Slots.{is_gone, property_in, shown}
+use Rattle.property_rows.specs.Slots.{is_gone, property_in, slot_shown}
 use Rattle.property_rows.proofs.Counted.{tree-any, tree-whole, tree_fits}
 use Rattle.property_rows.proofs.Turned.{shown-length, lengths, later, count_fits, count_some, front_at, here_at, after_at, in_front_turned, here_turned, behind_turned}
 use Rattle.property_rows.proofs.tree.+turn.Goals as goal
@@ -45,7 +45,7 @@ pub returns-then-place-half-clause-shown : goal.returns-then-place-half-clause-s
 returns-then-place-half-clause-shown t c =
     (in_front_turned c.args.size c.args.slots.now c.split_at_mut-front.result.0.now c.in-Some.here.now c.in-Some.back.now c.split_at_mut-front.ensures.front_len (c.split_at_mut-front.ensures.value ∙ ap (λ l. c.split_at_mut-front.result.0.now ++ l) c.in-Some.ensures.cases.0) c.requires.tree c.turn-then-place-half.new.slots c.changed-here.result c.args.place c.args.leaves _ c.if-place-half.true (c.turn-then-place-half.ensures.tree, c.turn-then-place-half.ensures.shown)
     (ap is_gone (sym (front_at c.args.size c.args.slots.now c.split_at_mut-front.result.0.now c.in-Some.here.now c.in-Some.back.now c.split_at_mut-front.ensures.front_len (c.split_at_mut-front.ensures.value ∙ ap (λ l. c.split_at_mut-front.result.0.now ++ l) c.in-Some.ensures.cases.0) c.requires.tree c.args.place c.if-place-half.true)) ∙ c.requires.here) (c.changed-here.ensures.more, c.changed-here.ensures.less)).1
-    ∙ ap (λ s. set (map shown c.args.slots.now) c.args.place (c.args.leaves, property_in s)) (sym (front_at c.args.size c.args.slots.now c.split_at_mut-front.result.0.now c.in-Some.here.now c.in-Some.back.now c.split_at_mut-front.ensures.front_len (c.split_at_mut-front.ensures.value ∙ ap (λ l. c.split_at_mut-front.result.0.now ++ l) c.in-Some.ensures.cases.0) c.requires.tree c.args.place c.if-place-half.true))
+    ∙ ap (λ s. set (map slot_shown c.args.slots.now) c.args.place (c.args.leaves, property_in s)) (sym (front_at c.args.size c.args.slots.now c.split_at_mut-front.result.0.now c.in-Some.here.now c.in-Some.back.now c.split_at_mut-front.ensures.front_len (c.split_at_mut-front.ensures.value ∙ ap (λ l. c.split_at_mut-front.result.0.now ++ l) c.in-Some.ensures.cases.0) c.requires.tree c.args.place c.if-place-half.true))
 
 pub returns-then-place-half-2-clause-tree : goal.returns-then-place-half-2-clause-tree
 returns-then-place-half-2-clause-tree t c =
@@ -56,7 +56,7 @@ pub returns-then-place-half-2-clause-shown : goal.returns-then-place-half-2-clau
 returns-then-place-half-2-clause-shown t c =
     (here_turned c.args.size c.args.slots.now c.split_at_mut-front.result.0.now c.in-Some.here.now c.in-Some.back.now c.split_at_mut-front.ensures.front_len (c.split_at_mut-front.ensures.value ∙ ap (λ l. c.split_at_mut-front.result.0.now ++ l) c.in-Some.ensures.cases.0) c.requires.tree c.changed-here-then-place-half-2.result c.args.place c.args.leaves c.if-place-half-2.true
     (ap is_gone (sym (here_at c.args.size c.args.slots.now c.split_at_mut-front.result.0.now c.in-Some.here.now c.in-Some.back.now c.split_at_mut-front.ensures.front_len (c.split_at_mut-front.ensures.value ∙ ap (λ l. c.split_at_mut-front.result.0.now ++ l) c.in-Some.ensures.cases.0) c.requires.tree c.args.place c.if-place-half-2.true)) ∙ c.requires.here) (c.changed-here-then-place-half-2.ensures.more, c.changed-here-then-place-half-2.ensures.less)).1
-    ∙ ap (λ s. set (map shown c.args.slots.now) c.args.place (c.args.leaves, property_in s)) (sym (here_at c.args.size c.args.slots.now c.split_at_mut-front.result.0.now c.in-Some.here.now c.in-Some.back.now c.split_at_mut-front.ensures.front_len (c.split_at_mut-front.ensures.value ∙ ap (λ l. c.split_at_mut-front.result.0.now ++ l) c.in-Some.ensures.cases.0) c.requires.tree c.args.place c.if-place-half-2.true))
+    ∙ ap (λ s. set (map slot_shown c.args.slots.now) c.args.place (c.args.leaves, property_in s)) (sym (here_at c.args.size c.args.slots.now c.split_at_mut-front.result.0.now c.in-Some.here.now c.in-Some.back.now c.split_at_mut-front.ensures.front_len (c.split_at_mut-front.ensures.value ∙ ap (λ l. c.split_at_mut-front.result.0.now ++ l) c.in-Some.ensures.cases.0) c.requires.tree c.args.place c.if-place-half-2.true))
 
 pub returns-else-place-half-2-clause-tree : goal.returns-else-place-half-2-clause-tree
 returns-else-place-half-2-clause-tree t c =
@@ -68,4 +68,4 @@ returns-else-place-half-2-clause-shown t c =
     let past : c.args.place ≡ suc (c.args.size / 2) + (c.args.place - c.args.size / 2 - 1) = omega (arith, c.if-place-half.false, c.if-place-half-2.false) in
     (behind_turned c.args.size c.args.slots.now c.split_at_mut-front.result.0.now c.in-Some.here.now c.in-Some.back.now c.split_at_mut-front.ensures.front_len (c.split_at_mut-front.ensures.value ∙ ap (λ l. c.split_at_mut-front.result.0.now ++ l) c.in-Some.ensures.cases.0) c.requires.tree c.turn-else-place-half-2.new.slots c.args.place (c.args.place - c.args.size / 2 - 1) c.args.leaves _ past
     (c.turn-else-place-half-2.ensures.tree, c.turn-else-place-half-2.ensures.shown)).1
-    ∙ ap (λ s. set (map shown c.args.slots.now) c.args.place (c.args.leaves, property_in s)) (sym (after_at c.args.size c.args.slots.now c.split_at_mut-front.result.0.now c.in-Some.here.now c.in-Some.back.now c.split_at_mut-front.ensures.front_len (c.split_at_mut-front.ensures.value ∙ ap (λ l. c.split_at_mut-front.result.0.now ++ l) c.in-Some.ensures.cases.0) c.requires.tree c.args.place (c.args.place - c.args.size / 2 - 1) past))
+    ∙ ap (λ s. set (map slot_shown c.args.slots.now) c.args.place (c.args.leaves, property_in s)) (sym (after_at c.args.size c.args.slots.now c.split_at_mut-front.result.0.now c.in-Some.here.now c.in-Some.back.now c.split_at_mut-front.ensures.front_len (c.split_at_mut-front.ensures.value ∙ ap (λ l. c.split_at_mut-front.result.0.now ++ l) c.in-Some.ensures.cases.0) c.requires.tree c.args.place (c.args.place - c.args.size / 2 - 1) past))

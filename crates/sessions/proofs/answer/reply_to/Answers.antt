@@ -5,7 +5,7 @@ use Rattle.prevalence_store.specs.declared.failure.Unadded.{Unadded}
 use Rattle.prevalence_store.specs.steps.Batch.{IsNotAdded}
 use Rattle.prevalence_store.specs.steps.Failure.{is_refusal}
 use Rattle.sessions.proofs.answer.reply_to.Goals as goal
-use Rattle.prevalence_store.specs.meaning.Acceptance.{transacted}
+use Rattle.prevalence_store.specs.meaning.Acceptance.{transaction_value}
 
 pub returns-in_ok-line-in-Ok-clause-replies : goal.returns-in_ok-line-in-Ok-clause-replies
 returns-in_ok-line-in-Ok-clause-replies g c = (Ok c.in-Ok.evaluated, (c.in-Ok.ensures.value, c.in-Ok.ensures.argument, c.in-Ok.ensures.taken, search rules, refl))
@@ -17,7 +17,7 @@ returns-in_ok-line-in-Err-Refused-clause-replies g c =
     let same = e.ensures.unchanged (ap (λ (cause : Unadded). is_refusal cause) is) in (
       Err (Refused e.number),
       (
-        subst (λ (f : Unadded). IsNotAdded (transacted g.R.Meaning.Meaning.functions.names c.args.world.now.0 (object_of c.args.form.now.datum)) f) is e.ensures.cause,
+        subst (λ (f : Unadded). IsNotAdded (transaction_value g.R.Meaning.Meaning.functions.names c.args.world.now.0 (object_of c.args.form.now.datum)) f) is e.ensures.cause,
         same.0,
         same.1,
         search rules,

@@ -2,7 +2,7 @@ use Rattle.std.proofs.Common.{◌≡◌, ◌<◌, ◌≤◌, ◌-◌, ℕ, List,
 use Rattle.plist_state.specs.State.{WorldState}
 use Rattle.plist_state.specs.Readers.{symbols_with_properties}
 use Rattle.plist_state.specs.Sound.{IsSoundWorldState}
-use Rattle.snapshot_text.specs.Built.{with_packages_of}
+use Rattle.snapshot_text.specs.BuiltWorlds.{with_packages_of}
 use Rattle.snapshot_text.specs.Rows.{row_text, text_after}
 use Rattle.snapshot_text.proofs.PropertyLines.{IsAtRow}
 use Rattle.snapshot_text.proofs.property_lines.read_rows.Given as goal

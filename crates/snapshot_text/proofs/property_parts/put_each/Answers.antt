@@ -4,7 +4,7 @@ use Rattle.plist_state.specs.State.{WorldState}
 use Rattle.plist_state.specs.Changes.{with_property}
 use Rattle.plist_state.specs.Views.{symbol_of}
 use Rattle.plist_state.specs.Sound.{IsSymbol, IsValue}
-use Rattle.snapshot_text.specs.Built.{with_each}
+use Rattle.snapshot_text.specs.BuiltWorlds.{with_each}
 use Rattle.snapshot_lines.specs.declared.error.BuildError.TheVariants.{OutOfMemory}
 use Rattle.snapshot_text.proofs.PropertyParts.{IsLeft, all_left, none_left, not_one, next_left}
 use Rattle.snapshot_text.proofs.property_parts.put_each.Goals as goal

@@ -5,7 +5,7 @@ use Rattle.plist_state.specs.Properties.{Plist}
 use Rattle.plist_state.specs.Views.{symbol_of}
 use Rattle.plist_state.specs.Sound.{IsSymbol, IsPlist}
 use Rattle.world_text.specs.Snapshot.{symbol_object}
-use Rattle.snapshot_text.specs.Built.{with_each}
+use Rattle.snapshot_text.specs.BuiltWorlds.{with_each}
 use Rattle.snapshot_text.proofs.PropertyParts.{IsLeft}
 use Rattle.snapshot_text.proofs.property_parts.put_each.Given as goal
 

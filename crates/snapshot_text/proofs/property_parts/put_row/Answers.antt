@@ -3,7 +3,7 @@ use Rattle.plist_state.specs.State.{WorldState}
 use Rattle.plist_state.specs.Views.{symbol_of}
 use Rattle.plist_state.specs.Sound.{IsSymbol}
 use Rattle.world_text.specs.Snapshot.{symbol_object}
-use Rattle.snapshot_text.specs.Built.{with_each}
+use Rattle.snapshot_text.specs.BuiltWorlds.{with_each}
 use Rattle.snapshot_lines.specs.declared.error.BuildError.TheVariants.{OutOfMemory}
 use Rattle.snapshot_text.proofs.ReadParts.{first_item}
 use Rattle.snapshot_text.proofs.PropertyParts.{flat, each_is_list}

@@ -7,7 +7,7 @@ use Rattle.readtable_core.proofs.Named.{same_case}
 use Rattle.plist_state.specs.State.{WorldState}
 use Rattle.plist_state.specs.Changes.{in_state, with_case}
 use Rattle.plist_state.specs.declared.error.ReadtableError.TheVariants.{OutOfMemory}
-use Rattle.snapshot_text.specs.Built.{with_table, IsWritable}
+use Rattle.snapshot_text.specs.BuiltWorlds.{with_table, IsWritable}
 use Rattle.snapshot_text.proofs.TableParts.{same_ok, refused, changed_to, table_twice}
 use Rattle.snapshot_text.proofs.ReadtableParts.{copied, copy_writable}
 use Rattle.snapshot_text.proofs.table_parts.make_readtable.Goals as goal

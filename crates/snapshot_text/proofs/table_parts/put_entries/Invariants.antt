@@ -4,7 +4,7 @@ use Rattle.lisp_object.specs.Datum.{object_of, is_proper}
 use Rattle.readtable_core.specs.Tables.{Table, standard}
 use Rattle.plist_state.specs.Sound.{IsNamed}
 use Rattle.world_text.specs.Snapshot.{entry_objects}
-use Rattle.snapshot_text.specs.Built.{IsWritable}
+use Rattle.snapshot_text.specs.BuiltWorlds.{IsWritable}
 use Rattle.snapshot_text.proofs.ReadtableParts.{IsMaking}
 use Rattle.snapshot_text.proofs.table_parts.put_entries.Given as goal
 

@@ -6,7 +6,7 @@ use Rattle.readtable_core.specs.Characters.{syntax_number}
 use Rattle.readtable_core.specs.Changes.{with_character_entry}
 use Rattle.readtable_core.proofs.Named.{same_number, number_known}
 use Rattle.world_text.specs.Snapshot.{number, dispatch_objects}
-use Rattle.snapshot_text.specs.Built.{with_table}
+use Rattle.snapshot_text.specs.BuiltWorlds.{with_table}
 use Rattle.snapshot_lines.specs.declared.error.BuildError.TheVariants.{OutOfMemory}
 use Rattle.snapshot_text.proofs.ReadParts.{item_count}
 use Rattle.snapshot_text.proofs.EntryParts.{entry_items, syntax_small, four_items}

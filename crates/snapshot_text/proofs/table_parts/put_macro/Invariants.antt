@@ -5,7 +5,7 @@ use Rattle.readtable_core.specs.Names.{is_dispatch_name}
 use Rattle.readtable_core.specs.Tables.{CharacterEntry, Table}
 use Rattle.readtable_core.specs.Changes.{macro_syntax}
 use Rattle.world_text.specs.Snapshot.{dispatch_objects}
-use Rattle.snapshot_text.specs.Built.{IsWritable, IsNamedEntry}
+use Rattle.snapshot_text.specs.BuiltWorlds.{IsWritable, IsNamedEntry}
 use Rattle.snapshot_text.proofs.MacroParts.{IsFilling, function_of}
 use Rattle.snapshot_text.proofs.table_parts.put_macro.Given as goal
 

@@ -7,7 +7,7 @@ use Rattle.package_table.specs.Table.{Name, keyword}
 use Rattle.plist_state.specs.State.{WorldState}
 use Rattle.plist_state.specs.Sound.{IsNamed, IsSymbol}
 use Rattle.world_text.specs.Snapshot.{entry_objects}
-use Rattle.snapshot_text.specs.Built.{with_table, CanBeMade, IsWritable}
+use Rattle.snapshot_text.specs.BuiltWorlds.{with_table, CanBeMade, IsWritable}
 use Rattle.snapshot_lines.specs.declared.error.BuildError.TheVariants.{OutOfMemory}
 use Rattle.snapshot_text.proofs.ReadParts.{item_count, three_items}
 use Rattle.snapshot_text.proofs.TableParts.{made_writable, table_twice}

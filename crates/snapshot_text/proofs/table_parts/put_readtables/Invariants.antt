@@ -3,7 +3,7 @@ use Rattle.lisp_object.specs.Datum.{object_of, is_proper}
 use Rattle.plist_state.specs.State.{WorldState}
 use Rattle.plist_state.specs.Sound.{IsSoundWorldState}
 use Rattle.world_text.specs.Snapshot.{readtables_object}
-use Rattle.snapshot_text.specs.Built.{with_properties_of}
+use Rattle.snapshot_text.specs.BuiltWorlds.{with_properties_of}
 use Rattle.snapshot_text.proofs.NamedTables.{IsNaming}
 use Rattle.snapshot_text.proofs.table_parts.put_readtables.Given as goal
 

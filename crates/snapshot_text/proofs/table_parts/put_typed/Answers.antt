@@ -2,7 +2,7 @@ use Rattle.std.proofs.Common.{◌≡◌, refl, subst, ◌∙◌, MatchResult}
 use Rattle.readtable_core.specs.declared.characters.Syntax.TheVariants.{Whitespace, Constituent, SingleEscape, MultipleEscape, Invalid}
 use Rattle.readtable_core.specs.Tables.{CharacterEntry}
 use Rattle.readtable_core.specs.Changes.{with_character_entry}
-use Rattle.snapshot_text.specs.Built.{with_table}
+use Rattle.snapshot_text.specs.BuiltWorlds.{with_table}
 use Rattle.snapshot_lines.specs.declared.error.BuildError.TheVariants.{OutOfMemory}
 use Rattle.snapshot_text.proofs.EntryParts.{standard_is}
 use Rattle.snapshot_text.proofs.table_parts.put_typed.Goals as goal

@@ -1,4 +1,4 @@
-use Rattle.store_reports.specs.Counted.{printed_properties, printed_symbols, sum_at_home}
+use Rattle.store_reports.specs.PropertyCounts.{printed_properties, printed_symbols, sum_at_home}
 use Rattle.store_reports.proofs.Joined.{counted_told}
 use Rattle.store_reports.proofs.counting.tally_homes.Goals as goal
 

@@ -1,5 +1,5 @@
 use Rattle.std.proofs.Common.{◌+◌, ℕ, min, ◌∙◌, ap}
-use Rattle.store_reports.specs.Counted.{printed_properties, printed_symbols}
+use Rattle.store_reports.specs.PropertyCounts.{printed_properties, printed_symbols}
 use Rattle.store_reports.proofs.Joined.{counted}
 use Rattle.store_reports.proofs.counting.tally_named.Goals as goal
 

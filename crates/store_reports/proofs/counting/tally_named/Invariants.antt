@@ -1,7 +1,7 @@
 use Rattle.std.proofs.Common.{◌≡◌, take}
 use Rattle.std.specs.List.{sum_by}
 use Rattle.package_table.specs.Readers.{names_of}
-use Rattle.store_reports.specs.Counted.{printed_properties, printed_symbols}
+use Rattle.store_reports.specs.PropertyCounts.{printed_properties, printed_symbols}
 use Rattle.store_reports.specs.Figures.{told_number}
 use Rattle.store_reports.proofs.counting.tally_named.Given as goal
 

@@ -1,6 +1,6 @@
 use Rattle.std.proofs.Common.{◌+◌, ℕ, min, ◌∙◌, ap}
 use Rattle.plist_state.specs.Readers.{borrowed_symbol}
-use Rattle.store_reports.specs.Counted.{taken_properties}
+use Rattle.store_reports.specs.PropertyCounts.{taken_properties}
 use Rattle.store_reports.proofs.Joined.{counted}
 use Rattle.store_reports.proofs.counting.tally_owners.Goals as goal
 

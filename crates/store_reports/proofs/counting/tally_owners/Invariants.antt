@@ -1,7 +1,7 @@
 use Rattle.std.proofs.Common.{◌≡◌, min, take}
 use Rattle.std.specs.List.{sum_by}
 use Rattle.plist_state.specs.Readers.{borrowed_symbols}
-use Rattle.store_reports.specs.Counted.{taken_properties}
+use Rattle.store_reports.specs.PropertyCounts.{taken_properties}
 use Rattle.store_reports.specs.Figures.{told_number}
 use Rattle.store_reports.proofs.counting.tally_owners.Given as goal
 

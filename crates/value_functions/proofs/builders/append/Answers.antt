@@ -4,10 +4,10 @@ use Rattle.std.proofs.lemmas.List.Elements.{All-append}
 use Rattle.std.proofs.lemmas.List.Sums.{list_all-from_AllPass}
 use Rattle.lisp_object.specs.Object.{pairs}
 use Rattle.lisp_object.specs.Datum.{object_of, is_proper}
-use Rattle.lisp_operators.specs.Evaluated.{IsProper, AreProper, objects}
+use Rattle.lisp_operators.specs.EvaluationAnswers.{IsProper, AreProper, objects}
 use Rattle.value_functions.specs.FunctionAnswers.{then_value, if_within}
 use Rattle.value_functions.specs.Sequences.{items_of}
-use Rattle.value_functions.specs.Building.{appended}
+use Rattle.value_functions.specs.Building.{appended_lists}
 use Rattle.value_functions.proofs.Appended.{append_next, append_stops}
 use Rattle.value_functions.proofs.builders.append.Goals as goal
 
@@ -34,8 +34,8 @@ loop-at-preserved c =
     let both : objects front ++ objects more ≡ objects c.append.new.self.items = sym (ap objects c.in_ok-append.ensures.items ∙ map-append object_of front more) in
     record {
       left = c.loop-at.invariant.left ∙ append_next ds at c.index-values-at.result (objects front) (objects more) inner there
-          ∙ ap (λ n. then_value (appended (objects (drop n ds))) (λ end. Ok (pairs (objects front ++ objects more) end))) next
-          ∙ ap (λ xs. then_value (appended (objects (drop (at + 1) ds))) (λ end. Ok (pairs xs end))) both;
+          ∙ ap (λ n. then_value (appended_lists (objects (drop n ds))) (λ end. Ok (pairs (objects front ++ objects more) end))) next
+          ∙ ap (λ xs. then_value (appended_lists (objects (drop (at + 1) ds))) (λ end. Ok (pairs xs end))) both;
       proper = subst AreProper (sym c.in_ok-append.ensures.items) (All-append IsProper front more c.loop-at.invariant.proper proper);
     }
 

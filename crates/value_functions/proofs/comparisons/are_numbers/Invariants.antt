@@ -1,6 +1,6 @@
 use Rattle.std.proofs.Common.{◌≡◌, drop}
 use Rattle.std.specs.List.{list_all}
-use Rattle.lisp_operators.specs.Evaluated.{objects}
+use Rattle.lisp_operators.specs.EvaluationAnswers.{objects}
 use Rattle.value_functions.specs.Comparisons.{is_number}
 use Rattle.value_functions.proofs.comparisons.are_numbers.Given as goal
 

@@ -1,6 +1,6 @@
 use Rattle.std.proofs.Common.{◌≡◌, drop}
 use Rattle.lisp_object.specs.Datum.{object_of}
-use Rattle.lisp_operators.specs.Evaluated.{IsProper, objects}
+use Rattle.lisp_operators.specs.EvaluationAnswers.{IsProper, objects}
 use Rattle.value_functions.specs.Comparisons.{is_chain}
 use Rattle.value_functions.proofs.comparisons.is_chain.Given as goal
 

@@ -1,7 +1,7 @@
 use Rattle.std.proofs.Common.{◌≡◌, drop}
 use Rattle.lisp_object.specs.Object.{pairs}
 use Rattle.lisp_object.specs.Datum.{object_of}
-use Rattle.lisp_operators.specs.Evaluated.{objects}
+use Rattle.lisp_operators.specs.EvaluationAnswers.{objects}
 use Rattle.value_functions.specs.Lists.{assoc}
 use Rattle.value_functions.specs.Parts.{end_of}
 use Rattle.value_functions.proofs.lists.assoc_in.Given as goal

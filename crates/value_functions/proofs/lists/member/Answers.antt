@@ -3,7 +3,7 @@ use Rattle.std.specs.List.{drop-map}
 use Rattle.std.proofs.lemmas.List.{take_rest}
 use Rattle.lisp_object.specs.Object.{pairs}
 use Rattle.lisp_object.specs.Datum.{object_of}
-use Rattle.lisp_operators.specs.Evaluated.{objects}
+use Rattle.lisp_operators.specs.EvaluationAnswers.{objects}
 use Rattle.value_functions.specs.Lists.{member}
 use Rattle.value_functions.specs.Parts.{end_of}
 use Rattle.value_functions.proofs.Ends.{end_no_pair}

@@ -1,5 +1,5 @@
 use Rattle.std.proofs.Common.{◌≡◌, ◌==◌, not, filter, take}
-use Rattle.lisp_operators.specs.Evaluated.{IsAscii}
+use Rattle.lisp_operators.specs.EvaluationAnswers.{IsAscii}
 use Rattle.value_functions.proofs.sequences.other_characters.Given as goal
 
 abbrev pub invariant-loop-byte : goal.invariant-loop-byte

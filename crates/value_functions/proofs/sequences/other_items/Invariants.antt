@@ -1,6 +1,6 @@
 use Rattle.std.proofs.Common.{◌≡◌, not, filter, take}
 use Rattle.lisp_object.specs.Datum.{object_of}
-use Rattle.lisp_operators.specs.Evaluated.{AreProper, objects}
+use Rattle.lisp_operators.specs.EvaluationAnswers.{AreProper, objects}
 use Rattle.value_functions.specs.Equality.{is_eql}
 use Rattle.value_functions.proofs.sequences.other_items.Given as goal
 

@@ -1,5 +1,5 @@
 use Rattle.std.proofs.Common.{reverse, ap, ◌∙◌}
-use Rattle.lisp_operators.specs.Evaluated.{objects}
+use Rattle.lisp_operators.specs.EvaluationAnswers.{objects}
 use Rattle.value_functions.proofs.Joins.{objects-reverse}
 use Rattle.value_functions.proofs.sequences.reversed_items.Goals as goal
 

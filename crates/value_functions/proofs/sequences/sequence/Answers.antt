@@ -1,5 +1,5 @@
 use Rattle.std.proofs.Common.{Some, ap, ◌∙◌}
-use Rattle.lisp_operators.specs.Evaluated.{objects}
+use Rattle.lisp_operators.specs.EvaluationAnswers.{objects}
 use Rattle.value_functions.specs.Sequences.{items}
 use Rattle.value_functions.proofs.Joins.{vector_sequence, vector_items_proper, list_sequence}
 use Rattle.value_functions.proofs.sequences.sequence.Goals as goal

@@ -1,5 +1,5 @@
 use Rattle.std.proofs.Common.{Some, ap, ◌∙◌}
-use Rattle.lisp_operators.specs.Evaluated.{objects}
+use Rattle.lisp_operators.specs.EvaluationAnswers.{objects}
 use Rattle.value_functions.proofs.Joins.{vector_items_of, vector_items_proper, list_no_vector}
 use Rattle.value_functions.proofs.sequences.vector.Goals as goal
 

@@ -1,5 +1,5 @@
 use Rattle.std.proofs.Common.{◌≡◌, drop, map}
-use Rattle.lisp_operators.specs.Evaluated.{objects}
+use Rattle.lisp_operators.specs.EvaluationAnswers.{objects}
 use Rattle.value_functions.specs.Arithmetic.{integer_in, from_left}
 use Rattle.value_functions.proofs.sums.from_left.Given as goal
 

@@ -1,6 +1,6 @@
 use Rattle.std.proofs.Common.{sym, subst, ◌∙◌}
 use Rattle.lisp_object.specs.Object.{nil}
-use Rattle.lisp_operators.specs.Evaluated.{Answers, done}
+use Rattle.lisp_operators.specs.EvaluationAnswers.{Answers, done}
 use Rattle.lisp_operators.specs.Evaluation.{gives}
 use Rattle.evaluator.specs.declared.wanted.Wanted.TheVariants.{Truth}
 use Rattle.evaluator.specs.StandIns.{seen}

@@ -1,7 +1,7 @@
 use Rattle.std.proofs.Common.{◌≡◌, ◌++◌, ℕ, List, [], Option, None, Some, map, sym, ap, subst}
 use Rattle.std.specs.Option.{option_map_or}
 use Rattle.feeding_laws.specs.Feeding.{FeedsAgain, FrameHanding, IsFirst}
-use Rattle.message_frames.specs.Frames.{Sent, sent}
+use Rattle.message_frames.specs.Frames.{Sent, sent_frame}
 use Rattle.message_session.specs.Account.{MessageAccount}
 use Rattle.prevalence_store.specs.calls.Store.{StoreView}
 use Rattle.law_tests.specs.FirstAnswers.{account_by}
@@ -15,7 +15,7 @@ none_answered {D} (Some p) store kept is = sym (ap (λ (o : Option (MessageAccou
 pub returns : goal.returns
 returns g c = λ kept is told sound honest keeps more image now left means.
     let functions = g.M.Meaning.Meaning.functions in
-    let frames = map sent c.args.frames.now in
+    let frames = map sent_frame c.args.frames.now in
     let none = none_answered c.args.self.now.position c.args.self.now.start.value kept is in
     let one : FrameHanding g.row.D.Denot g.row.M.Denot = record { store = c.args.store.now; bytes = c.args.bytes.now; frames = frames } in
     let first : IsFirst kept = record { none = none; told = told; sound = sound } in

@@ -1,6 +1,6 @@
 use Rattle.std.proofs.Common.{ℕ, List, [], length, get_or, ap, ◌∙◌, arith}
 use Rattle.std.proofs.lemmas.List.{get_or_past}
-use Rattle.package_sets.specs.Chained.{last_below}
+use Rattle.package_sets.specs.SymbolChains.{last_below}
 use Rattle.package_sets.proofs.chains.Chains.new.Goals as goal
 
 pub returns : goal.returns

@@ -1,6 +1,6 @@
 use Rattle.std.proofs.Common.{◌≡◌, ◌<◌, ◌-◌, ℕ, suc, cond, nat_eq, length, get_or, take, sym, ap, subst, ◌∙◌, arith}
-use Rattle.package_sets.specs.Kept.{pair_at}
-use Rattle.package_sets.specs.Chained.{external_name, AreChained}
+use Rattle.package_sets.specs.KeptSets.{pair_at}
+use Rattle.package_sets.specs.SymbolChains.{external_name, AreChained}
 use Rattle.package_sets.proofs.Chaining.{name_there, chained_pop, take_fits, take_holds}
 use Rattle.package_sets.proofs.chains.Chains.truncate.Goals as goal
 

@@ -1,6 +1,6 @@
 use Rattle.std.proofs.Common.{◌≤◌, ℕ, List, length, take}
 use Rattle.package_sets.specs.declared.chains.Chains.{Chains}
-use Rattle.package_sets.specs.Chained.{external_name, AreChained}
+use Rattle.package_sets.specs.SymbolChains.{external_name, AreChained}
 use Rattle.package_sets.proofs.chains.Chains.truncate.Given as goal
 
 -- the places are the first ones, and none of those that stay is gone

@@ -1,5 +1,5 @@
 use Rattle.std.proofs.Common.{◌≡◌, ◌<◌, ◌-◌, ℕ, suc, cond, nat_eq, length, get_or, take, sym, ap, subst, ◌∙◌, arith}
-use Rattle.package_sets.specs.Chained.{second_of, AreChained}
+use Rattle.package_sets.specs.SymbolChains.{second_of, AreChained}
 use Rattle.package_sets.proofs.Chaining.{name_there, chained_pop, take_fits, take_holds}
 use Rattle.package_sets.proofs.chains.Chains.truncate_seconds.Goals as goal
 

@@ -1,6 +1,6 @@
 use Rattle.std.proofs.Common.{◌≤◌, ℕ, List, length, take}
 use Rattle.package_sets.specs.declared.chains.Chains.{Chains}
-use Rattle.package_sets.specs.Chained.{second_of, AreChained}
+use Rattle.package_sets.specs.SymbolChains.{second_of, AreChained}
 use Rattle.package_sets.proofs.chains.Chains.truncate_seconds.Given as goal
 
 -- the places are the first ones, and none of those that stay is gone

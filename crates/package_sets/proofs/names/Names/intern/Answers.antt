@@ -3,7 +3,7 @@ use Rattle.std.specs.Prelude.{bytes_eq}
 use Rattle.std.specs.List.{list_any}
 use Rattle.package_sets.specs.declared.name.KeptName.{KeptName}
 use Rattle.std.proofs.lemmas.List.{map-append}
-use Rattle.package_sets.specs.Kept.{Name}
+use Rattle.package_sets.specs.KeptSets.{Name}
 use Rattle.package_sets.specs.Changes.{with_name, number_among}
 use Rattle.package_sets.proofs.Places.{any-map, position_or_len-map}
 use Rattle.package_sets.proofs.names.Names.intern.Goals as goal

@@ -1,5 +1,5 @@
 use Rattle.std.proofs.Common.{subst}
-use Rattle.package_sets.specs.Kept.{pair_eq}
+use Rattle.package_sets.specs.KeptSets.{pair_eq}
 use Rattle.package_sets.specs.Consistent.{AreDistinctPairs}
 use Rattle.package_sets.specs.Groups.{pair_of}
 use Rattle.package_sets.proofs.Places.{distinct-map}

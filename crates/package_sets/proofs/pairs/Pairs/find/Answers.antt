@@ -1,5 +1,5 @@
 use Rattle.std.proofs.Common.{sym, ap, ◌∙◌, position}
-use Rattle.package_sets.specs.Kept.{pair_eq}
+use Rattle.package_sets.specs.KeptSets.{pair_eq}
 use Rattle.package_sets.specs.Groups.{pair_of}
 use Rattle.package_sets.proofs.Places.{position-map}
 use Rattle.package_sets.proofs.pairs.Pairs.find.Goals as goal

@@ -1,7 +1,7 @@
 use Rattle.std.proofs.Common.{ap, sym, ◌∙◌, ℕ, List, map, length, lit<}
 use Rattle.std.specs.Global.{Vec}
 use Rattle.package_sets.specs.declared.pair.Pair.{Pair}
-use Rattle.package_sets.specs.Kept.{positions_of}
+use Rattle.package_sets.specs.KeptSets.{positions_of}
 use Rattle.package_sets.specs.Groups.{group_at, pair_of}
 use Rattle.package_sets.proofs.Positions.{no_positions}
 use Rattle.package_sets.proofs.pairs.Pairs.new.Goals as goal

@@ -3,7 +3,7 @@ use Rattle.std.specs.Prelude.{None}
 use Rattle.std.specs.List.{list_any}
 use Rattle.std.proofs.lemmas.List.{map-append, length-map, length_push}
 use Rattle.package_sets.specs.declared.pair.Pair.{Pair}
-use Rattle.package_sets.specs.Kept.{pair_eq}
+use Rattle.package_sets.specs.KeptSets.{pair_eq}
 use Rattle.package_sets.specs.Groups.{group_at, pair_of, IsGrouped}
 use Rattle.package_sets.proofs.Places.{position-map, none_any}
 use Rattle.package_sets.proofs.Positions.{grouped_push}

@@ -1,6 +1,6 @@
 use Rattle.std.proofs.Common.{List, length, get_or, ℕ, ap, subst}
-use Rattle.package_sets.specs.Kept.{Kept}
-use Rattle.package_sets.specs.Chained.{external_name, AreChained}
+use Rattle.package_sets.specs.KeptSets.{Kept}
+use Rattle.package_sets.specs.SymbolChains.{external_name, AreChained}
 use Rattle.package_sets.proofs.Chaining.{chained_kept}
 use Rattle.package_sets.proofs.sets.PackageSets.copy.Goals as goal
 

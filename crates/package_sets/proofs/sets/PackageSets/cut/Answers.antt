@@ -1,7 +1,7 @@
 use Rattle.std.proofs.Common.{◌≡◌, ℕ, List, length, take, sym, subst}
-use Rattle.package_sets.specs.Kept.{Kept, cut}
+use Rattle.package_sets.specs.KeptSets.{Kept, cut}
 use Rattle.package_sets.specs.Consistent.{IsGood}
-use Rattle.package_sets.specs.Chained.{external_name, AreChained}
+use Rattle.package_sets.specs.SymbolChains.{external_name, AreChained}
 use Rattle.package_sets.specs.Views.{kept_of}
 use Rattle.package_sets.proofs.Chaining.{chained_cut}
 use Rattle.package_sets.proofs.sets.PackageSets.cut.Goals as goal

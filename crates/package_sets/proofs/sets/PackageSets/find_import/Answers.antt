@@ -1,6 +1,6 @@
 use Rattle.std.proofs.Common.{◌≡◌, ℕ, List, length, get_or, sym, ap, ◌∙◌, arith}
 use Rattle.std.specs.Prelude.{option_map}
-use Rattle.package_sets.specs.Kept.{Kept, positions_of}
+use Rattle.package_sets.specs.KeptSets.{Kept, positions_of}
 use Rattle.package_sets.proofs.Namesakes.{no_imports}
 use Rattle.package_sets.proofs.sets.PackageSets.find_import.Goals as goal
 

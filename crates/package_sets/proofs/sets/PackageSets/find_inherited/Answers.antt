@@ -1,6 +1,6 @@
 use Rattle.std.proofs.Common.{◌≡◌, ◌-◌, ℕ, suc, is_some, length, position, sym, ap, subst, ◌∙◌, arith}
-use Rattle.package_sets.specs.Kept.{Kept, pair_at, pair_eq}
-use Rattle.package_sets.specs.Chained.{external_name, last_below}
+use Rattle.package_sets.specs.KeptSets.{Kept, pair_at, pair_eq}
+use Rattle.package_sets.specs.SymbolChains.{external_name, last_below}
 use Rattle.package_sets.specs.Views.{kept_of}
 use Rattle.package_sets.proofs.Seeking.{IsSought, sought_first, sought_end, sought_hit, sought_next}
 use Rattle.package_sets.proofs.sets.PackageSets.find_inherited.Goals as goal

@@ -1,9 +1,9 @@
 use Rattle.std.proofs.Common.{◌≡◌, ◌<◌, ◌++◌, ◌∷◌, [], ℕ, List, length, position, sym, ap, subst, ◌∙◌}
-use Rattle.package_sets.specs.Kept.{Kept, pair_eq}
+use Rattle.package_sets.specs.KeptSets.{Kept, pair_eq}
 use Rattle.package_sets.specs.Consistent.{IsGood}
 use Rattle.package_sets.specs.Changes.{symbol_named, number_among, with_name}
 use Rattle.package_sets.specs.Views.{kept_of}
-use Rattle.package_sets.specs.Chained.{external_name, AreChained}
+use Rattle.package_sets.specs.SymbolChains.{external_name, AreChained}
 use Rattle.package_sets.proofs.Chaining.{chained_symbol}
 use Rattle.package_sets.proofs.Growing.{absent_symbol, good_symbol}
 use Rattle.package_sets.proofs.sets.PackageSets.intern.Goals as goal

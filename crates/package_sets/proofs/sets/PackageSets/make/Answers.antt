@@ -1,6 +1,6 @@
 use Rattle.std.proofs.Common.{List, position, sym, ap, subst, ◌∙◌}
 use Rattle.std.specs.Prelude.{bytes_eq}
-use Rattle.package_sets.specs.Kept.{Kept, Name}
+use Rattle.package_sets.specs.KeptSets.{Kept, Name}
 use Rattle.package_sets.specs.Consistent.{IsGood}
 use Rattle.package_sets.specs.Views.{kept_of}
 use Rattle.package_sets.proofs.Growing.{good_package}

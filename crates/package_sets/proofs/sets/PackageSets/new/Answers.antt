@@ -1,7 +1,7 @@
 use Rattle.std.proofs.Common.{◌≡◌, ℕ, List, [], length, sym, subst}
-use Rattle.package_sets.specs.Kept.{Kept, nothing}
+use Rattle.package_sets.specs.KeptSets.{Kept, nothing}
 use Rattle.package_sets.specs.Consistent.{IsGood}
-use Rattle.package_sets.specs.Chained.{external_name, AreChained}
+use Rattle.package_sets.specs.SymbolChains.{external_name, AreChained}
 use Rattle.package_sets.proofs.Growing.{good_nothing}
 use Rattle.package_sets.proofs.sets.PackageSets.new.Goals as goal
 

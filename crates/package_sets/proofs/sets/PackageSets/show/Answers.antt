@@ -1,7 +1,7 @@
 use Rattle.std.proofs.Common.{◌<◌, ℕ, List, length, position, sym, ap, subst, ◌∙◌}
-use Rattle.package_sets.specs.Kept.{Kept, pair_eq}
+use Rattle.package_sets.specs.KeptSets.{Kept, pair_eq}
 use Rattle.package_sets.specs.Consistent.{IsGood}
-use Rattle.package_sets.specs.Chained.{external_name, AreChained}
+use Rattle.package_sets.specs.SymbolChains.{external_name, AreChained}
 use Rattle.package_sets.specs.Views.{kept_of}
 use Rattle.package_sets.proofs.Growing.{good_external}
 use Rattle.package_sets.proofs.Chaining.{chained_kept, chained_external}

@@ -1,5 +1,5 @@
 use Rattle.std.proofs.Common.{◌<◌, ℕ, List, length, position, sym, ap, subst, ◌∙◌}
-use Rattle.package_sets.specs.Kept.{Kept, pair_eq}
+use Rattle.package_sets.specs.KeptSets.{Kept, pair_eq}
 use Rattle.package_sets.specs.Consistent.{IsGood}
 use Rattle.package_sets.specs.Views.{kept_of}
 use Rattle.package_sets.proofs.Growing.{good_use}

@@ -1,6 +1,6 @@
 use Rattle.std.proofs.Common.{◌≡◌, ◌-◌, ℕ, suc, List, length, position, sym, ap, subst, ◌∙◌, arith}
-use Rattle.package_sets.specs.Kept.{pair_at, pair_eq}
-use Rattle.package_sets.specs.Chained.{second_of, last_below}
+use Rattle.package_sets.specs.KeptSets.{pair_at, pair_eq}
+use Rattle.package_sets.specs.SymbolChains.{second_of, last_below}
 use Rattle.package_sets.proofs.Namesakes.{IsLeft, left_first, left_none, left_hit, left_next}
 use Rattle.package_sets.proofs.symbols.Symbols.find.Goals as goal
 

@@ -1,5 +1,5 @@
 use Rattle.std.proofs.Common.{ℕ, List, [], length, sym, subst}
-use Rattle.package_sets.specs.Chained.{second_of, AreChained}
+use Rattle.package_sets.specs.SymbolChains.{second_of, AreChained}
 use Rattle.package_sets.proofs.symbols.Symbols.new.Goals as goal
 
 pub invariant_of-result : goal.invariant_of-result

@@ -1,5 +1,5 @@
 use Rattle.std.proofs.Common.{ℕ, List, length, sym, ap, subst, ◌∙◌}
-use Rattle.package_sets.specs.Chained.{second_of, AreChained}
+use Rattle.package_sets.specs.SymbolChains.{second_of, AreChained}
 use Rattle.package_sets.proofs.Chaining.{chained_kept, chained_second}
 use Rattle.package_sets.proofs.symbols.Symbols.push.Goals as goal
 

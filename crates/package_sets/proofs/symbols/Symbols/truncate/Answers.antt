@@ -1,5 +1,5 @@
 use Rattle.std.proofs.Common.{ℕ, List, length, sym, subst}
-use Rattle.package_sets.specs.Chained.{second_of, AreChained}
+use Rattle.package_sets.specs.SymbolChains.{second_of, AreChained}
 use Rattle.package_sets.proofs.Chaining.{chained_front}
 use Rattle.package_sets.proofs.symbols.Symbols.truncate.Goals as goal
 

@@ -2,7 +2,7 @@ use Rattle.std.proofs.Common.{◌≡◌, ◌∙◌, ◌<◌, Some, length, get_o
 use Rattle.std.specs.List.{AllByRecursion, slice_get}
 use Rattle.std.proofs.lemmas.List.{length-map}
 use Rattle.package_sets.specs.declared.sizes.Sizes.{Sizes}
-use Rattle.package_sets.specs.Kept.{Kept, cut}
+use Rattle.package_sets.specs.KeptSets.{Kept, cut}
 use Rattle.package_sets.specs.Consistent.{IsGood}
 use Rattle.package_table.specs.Numbers.{Tables}
 use Rattle.package_table.specs.Meaning.{numbered_of}

@@ -2,7 +2,7 @@ use Rattle.std.proofs.Common.{◌≡◌, ◌∙◌, ◌++◌, [], ◌∷◌, Lis
 use Rattle.std.proofs.lemmas.List.{length-map}
 use Rattle.std.specs.List.{AllByRecursion}
 use Rattle.package_sets.specs.declared.sizes.Sizes.{Sizes}
-use Rattle.package_sets.specs.Kept.{cut, sizes_of}
+use Rattle.package_sets.specs.KeptSets.{cut, sizes_of}
 use Rattle.package_table.specs.Numbers.{Tables, with_mark}
 use Rattle.package_table.specs.Meaning.{numbered_of}
 use Rattle.package_table.specs.Views.{IsMark, IsRising, tables_at}

@@ -2,7 +2,7 @@ use Rattle.std.proofs.Common.{◌≡◌, ◌<◌, ℕ, Some, length, ap, sym, su
 use Rattle.std.specs.Option.{option_map}
 use Rattle.lisp_object.specs.declared.datum.Datum.{Datum}
 use Rattle.lisp_object.specs.Datum.{object_of, is_proper}
-use Rattle.package_table.specs.Numbers.{numbered, names_of_symbol}
+use Rattle.package_table.specs.Numbers.{table_now, names_of_symbol}
 use Rattle.package_table.proofs.Names.{same_some}
 use Rattle.property_rows.specs.declared.property.NumberedProperty.{NumberedProperty}
 use Rattle.plist_state.specs.Properties.{Symbol}
@@ -22,7 +22,7 @@ unreachable-requires c =
 pub returns-clause-property : goal.returns-clause-property
 returns-clause-property c =
     let a = c.self.inside in
-    let s = numbered a.packages.now in
+    let s = table_now a.packages.now in
     let k = c.args.index in
     let p : NumberedProperty = item_at (items_in a.row) k in
     let within : k < length (items_in a.row) = within_row a c.args.self.now c.self.view_is k c.requires in

@@ -2,7 +2,7 @@ use Rattle.std.proofs.Common.{◌≡◌, ◌+◌, ◌-◌, ◌++◌, ◌∷◌, 
 use Rattle.std.proofs.lemmas.List.{length-map}
 use Rattle.std.specs.List.{slice_get}
 use Rattle.std.specs.Global.{Vec}
-use Rattle.package_table.specs.Numbers.{Numbered, numbered}
+use Rattle.package_table.specs.Numbers.{Numbered, table_now}
 use Rattle.plist_state.specs.declared.note.Note.{Note}
 use Rattle.plist_state.specs.declared.replaced.Replaced.{Replaced}
 use Rattle.plist_state.specs.State.{WorldState, Worlds}
@@ -80,8 +80,8 @@ invariant_of-self-2 c =
         indexed = c.undo_to.ensures.indexed;
         sizes = c.forget_since.ensures r u
             (subst (λ (vs : List (Vec Note)). slice_get (rests_at (marks_of vs) r) own ≡ Some u) (sym c.as_slice.ensures.value) c.undo_to.ensures.now) c.self.invariant.now.sizes;
-        owned = owned_at ts ms r rows c.self.invariant.now.marked own (numbered c.back_to.new.self) u c.back_to.ensures.now c.undo_to.ensures.now;
-        sound = sound_at ts ms r rows c.self.invariant.now.marked own (numbered c.back_to.new.self) u c.back_to.ensures.now c.undo_to.ensures.now;
+        owned = owned_at ts ms r rows c.self.invariant.now.marked own (table_now c.back_to.new.self) u c.back_to.ensures.now c.undo_to.ensures.now;
+        sound = sound_at ts ms r rows c.self.invariant.now.marked own (table_now c.back_to.new.self) u c.back_to.ensures.now c.undo_to.ensures.now;
         marked = subst (λ us. AreKept us ns u c.undo_to.new.stored.properties.items) (sym c.back_to.ensures.past)
             (kept_back ts ms r rows c.self.invariant.now.marked own ns u c.undo_to.ensures.past c.undo_to.new.stored.properties.items c.undo_to.ensures.journal);
       };
@@ -102,7 +102,7 @@ returns c =
     let states : marked_states c.back_to.new.self.1.marked (rests_at ns u) ≡ take own (marked_states ts (rests_at ms r)) =
     ap (λ us. marked_states us (rests_at ns u)) c.back_to.ensures.past ∙ states_take ts ms r rows c.self.invariant.now.marked own ns u c.undo_to.ensures.past in
     let at : c.args.mark ≡ length past + own = omega (arith, c.self.invariant.earlier.count, c.if-mark-self.false) in
-    back_within past (marked_states ts (rests_at ms r)) own (state_in (numbered c.back_to.new.self) u, past ++ marked_states c.back_to.new.self.1.marked (rests_at ns u))
+    back_within past (marked_states ts (rests_at ms r)) own (state_in (table_now c.back_to.new.self) u, past ++ marked_states c.back_to.new.self.1.marked (rests_at ns u))
     (ap (λ ss. past ++ ss) states)
-    (state_at ts ms r rows c.self.invariant.now.marked own (numbered c.back_to.new.self) u c.back_to.ensures.now c.undo_to.ensures.now)
+    (state_at ts ms r rows c.self.invariant.now.marked own (table_now c.back_to.new.self) u c.back_to.ensures.now c.undo_to.ensures.now)
     c.args.mark at c.args.self.now (ap (λ (w : Worlds). w.1) c.self.view_is)

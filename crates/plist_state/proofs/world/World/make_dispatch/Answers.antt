@@ -1,7 +1,7 @@
 use Rattle.std.proofs.Common.{Ok}
 use Rattle.readtable_core.specs.Tables.{Table}
 use Rattle.readtable_core.specs.Changes.{with_character_entry, dispatching_entry}
-use Rattle.package_table.specs.Numbers.{numbered}
+use Rattle.package_table.specs.Numbers.{table_now}
 use Rattle.plist_state.specs.State.{WorldState}
 use Rattle.plist_state.specs.MarkedWorlds.{state_in}
 use Rattle.plist_state.specs.Views.{rest_of}
@@ -11,7 +11,7 @@ use Rattle.plist_state.proofs.world.World.make_dispatch.Goals as goal
 
 pub invariant_of-self : goal.invariant_of-self
 invariant_of-self c =
-    let s : WorldState = state_in (numbered c.self.inside.packages) (rest_of c.self.inside.stored) in
+    let s : WorldState = state_in (table_now c.self.inside.packages) (rest_of c.self.inside.stored) in
     let e = c.make_dispatch.ensures in
     left_kept c.self.inside c.make_dispatch.new.tables c.make_dispatch.new.marks c.make_dispatch.result e.unchanged e.marked _ e.gives c.self.invariant
     (sound_changed s c.args.name.now (λ (t : Table). Ok (with_character_entry t c.args.c (dispatching_entry c.args.non_terminating))) c.self.invariant.now.sound

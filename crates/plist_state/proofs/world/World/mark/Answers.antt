@@ -1,6 +1,6 @@
 use Rattle.std.proofs.Common.{◌≡◌, ◌+◌, ◌++◌, [], ◌∷◌, List, length, sym, ap, subst, ◌∙◌, append_assoc, arith}
 use Rattle.std.proofs.lemmas.List.{map_push}
-use Rattle.package_table.specs.Numbers.{Numbered, Tables, numbered, with_mark}
+use Rattle.package_table.specs.Numbers.{Numbered, Tables, table_now, with_mark}
 use Rattle.plist_state.specs.declared.note.Note.{Note}
 use Rattle.plist_state.specs.State.{WorldState, Worlds}
 use Rattle.plist_state.specs.Lists.{IsOwned}
@@ -17,7 +17,7 @@ use Rattle.plist_state.proofs.world.World.mark.Goals as goal
 pub invariant_of-self-2 : goal.invariant_of-self-2
 invariant_of-self-2 c =
     let a = c.self.inside in
-    let t : Numbered = numbered a.packages in
+    let t : Numbered = table_now a.packages in
     let ts : List Numbered = a.packages.1.marked in
     let ms : List (List Note) = marks_of a.marks.items in
     let r : NumberedRest = rest_of a.stored in
@@ -30,8 +30,8 @@ invariant_of-self-2 c =
         values = c.self.invariant.now.values;
         indexed = c.self.invariant.now.indexed;
         sizes = c.self.invariant.now.sizes;
-        owned = subst (λ (us : Tables). IsOwned (numbered us) r.properties) (sym changed) c.self.invariant.now.owned;
-        sound = subst (λ (us : Tables). IsSoundWorldState (state_in (numbered us) r)) (sym changed) c.self.invariant.now.sound;
+        owned = subst (λ (us : Tables). IsOwned (table_now us) r.properties) (sym changed) c.self.invariant.now.owned;
+        sound = subst (λ (us : Tables). IsSoundWorldState (state_in (table_now us) r)) (sym changed) c.self.invariant.now.sound;
         marked = subst (λ (us : Tables). AreKept us.1.marked (marks_of c.push_reserved.new.self.items) r rows) (sym changed)
             (subst (λ ns. AreKept (ts ++ t ∷ []) ns r rows) (sym items) (kept_push ts ms r rows c.self.invariant.now.marked t c.self.invariant.now.owned c.self.invariant.now.sound));
       };
@@ -41,7 +41,7 @@ invariant_of-self-2 c =
 pub returns-clause-ok : goal.returns-clause-ok
 returns-clause-ok c =
     let a = c.self.inside in
-    let t : Numbered = numbered a.packages in
+    let t : Numbered = table_now a.packages in
     let ts : List Numbered = a.packages.1.marked in
     let ms : List (List Note) = marks_of a.marks.items in
     let r : NumberedRest = rest_of a.stored in
@@ -51,8 +51,8 @@ returns-clause-ok c =
     ap marks_of (c.push_reserved.ensures.items ∙ ap (λ xs. xs ++ c.clear.new.self ∷ []) c.in_ok-reserve.ensures.items) ∙ map_push notes_of a.marks.items c.clear.new.self ∙ ap (λ n. ms ++ n ∷ []) c.clear.ensures.items in
     let states : marked_states (ts ++ t ∷ []) (rests_at (ms ++ [] ∷ []) r) ≡ ss ++ state_in t r ∷ [] = states_push ts ms r a.stored.properties.items c.self.invariant.now.marked t in
     let past : List WorldState = earlier_states a.earlier.items in
-    let now : ◌≡◌ {A = Worlds} (state_in (numbered c.mark.new.self) r, past ++ marked_states c.mark.new.self.1.marked (rests_at (marks_of c.push_reserved.new.self.items) r)) (state_in t r, past ++ marked_states (ts ++ t ∷ []) (rests_at (ms ++ [] ∷ []) r)) =
-    λ i. (state_in (numbered (changed i)) r, past ++ marked_states (changed i).1.marked (rests_at (items i) r)) in
+    let now : ◌≡◌ {A = Worlds} (state_in (table_now c.mark.new.self) r, past ++ marked_states c.mark.new.self.1.marked (rests_at (marks_of c.push_reserved.new.self.items) r)) (state_in t r, past ++ marked_states (ts ++ t ∷ []) (rests_at (ms ++ [] ∷ []) r)) =
+    λ i. (state_in (table_now (changed i)) r, past ++ marked_states (changed i).1.marked (rests_at (items i) r)) in
     let then : ◌≡◌ {A = Worlds} (state_in t r, past ++ marked_states (ts ++ t ∷ []) (rests_at (ms ++ [] ∷ []) r)) (state_in t r, (past ++ ss) ++ state_in t r ∷ []) =
     λ i. (state_in t r, (ap (λ us. past ++ us) states ∙ sym (append_assoc past ss (state_in t r ∷ []))) i) in
     let all : length c.args.self.now.1 ≡ a.earlier_marks + length a.marks.items =

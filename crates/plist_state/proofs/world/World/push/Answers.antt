@@ -1,11 +1,11 @@
 use Rattle.std.proofs.Common.{◌≡◌, Some, Result, Ok, Err, refl, sym, ap, subst, ◌∙◌}
 use Rattle.std.specs.Prelude.{OnErr}
 use Rattle.package_table.specs.Table.{symbol_count}
-use Rattle.package_table.specs.Numbers.{numbered}
+use Rattle.package_table.specs.Numbers.{table_now}
 use Rattle.lisp_object.specs.Datum.{object_of}
 use Rattle.plist_state.specs.Properties.{same_symbol, value_beside}
 use Rattle.plist_state.specs.Changes.{property}
-use Rattle.plist_state.specs.Pushed.{holds_pair, pair_size, pushed, with_pushed_by}
+use Rattle.plist_state.specs.PushedLists.{holds_pair, pair_size, pushed_list, with_pushed_by}
 use Rattle.plist_state.specs.State.{Worlds}
 use Rattle.plist_state.specs.Views.{NumberedRest, symbol_of, rest_of}
 use Rattle.plist_state.specs.Sound.{IsSymbol, IsValue, IsSoundWorldState}
@@ -35,19 +35,19 @@ number-indicator-requires c =
 
 pub push-requires-clause-list : goal.push-requires-clause-list
 push-requires-clause-list c =
-    let owner_is = number_by (numbered c.self.inside.packages) c.number-owner.result c.borrowed.ensures c.number-owner.ensures in
-    let indicator_is = number_by (numbered c.self.inside.packages) c.number-indicator.result c.borrowed-2.ensures c.number-indicator.ensures in
-    let s = numbered c.self.inside.packages in
+    let owner_is = number_by (table_now c.self.inside.packages) c.number-owner.result c.borrowed.ensures c.number-owner.ensures in
+    let indicator_is = number_by (table_now c.self.inside.packages) c.number-indicator.result c.borrowed-2.ensures c.number-indicator.ensures in
+    let s = table_now c.self.inside.packages in
     ap holds_pair (property_seen c.self.inside c.self.invariant c.args.self.now c.self.view_is (symbol_of c.args.symbol.now) (symbol_of c.args.indicator.now) (symbol_count s.0) c.numbering.ensures
     c.number-owner.result c.number-indicator.result owner_is indicator_is)
     ∙ c.requires.list
 
 pub invariant_of-self : goal.invariant_of-self
 invariant_of-self c =
-    let owner_is = number_by (numbered c.self.inside.packages) c.number-owner.result c.borrowed.ensures c.number-owner.ensures in
-    let indicator_is = number_by (numbered c.self.inside.packages) c.number-indicator.result c.borrowed-2.ensures c.number-indicator.ensures in
+    let owner_is = number_by (table_now c.self.inside.packages) c.number-owner.result c.borrowed.ensures c.number-owner.ensures in
+    let indicator_is = number_by (table_now c.self.inside.packages) c.number-indicator.result c.borrowed-2.ensures c.number-indicator.ensures in
     let a = c.self.inside in
-    let s = numbered a.packages in
+    let s = table_now a.packages in
     let r : NumberedRest = rest_of a.stored in
     let u : NumberedRest = rest_of c.push.new.stored in
     let x = symbol_of c.args.symbol.now in
@@ -59,8 +59,8 @@ invariant_of-self c =
     let made : NumberedRest = with_changed_row r n (λ ps. with_pushed_by same_number ps j v) in
     let at_home : IsSymbol s.0 x = subst (λ (w : Worlds). IsSymbol w.0.packages x) (sym c.self.view_is) c.requires.symbol in
     let indicator : IsSymbol s.0 i = subst (λ (w : Worlds). IsSymbol w.0.packages i) (sym c.self.view_is) c.requires.indicator in
-    let value : IsValue s.0 (pushed v (property (state_in s r) x i)) = subst (λ (w : Worlds). IsValue w.0.packages (pushed v (property w.0 x i))) (sym c.self.view_is) c.requires.value in
-    let numbers = all_with same_number (λ p. IsNumber s p.0) row j (pushed v (value_beside same_number row j)) (number_is s (symbol_count s.0) c.numbering.ensures i j indicator_is) (λ p k. k) (c.self.invariant.now.owned.indicators n) in
+    let value : IsValue s.0 (pushed_list v (property (state_in s r) x i)) = subst (λ (w : Worlds). IsValue w.0.packages (pushed_list v (property w.0 x i))) (sym c.self.view_is) c.requires.value in
+    let numbers = all_with same_number (λ p. IsNumber s p.0) row j (pushed_list v (value_beside same_number row j)) (number_is s (symbol_count s.0) c.numbering.ensures i j indicator_is) (λ p k. k) (c.self.invariant.now.owned.indicators n) in
     let same : named_plist s (with_pushed_by same_number row j v) ≡ with_pushed_by same_symbol (named_plist s row) i v =
     pushed_named s (symbol_count s.0) c.numbering.ensures i j indicator_is row (c.self.invariant.now.owned.indicators n) v in
     record {
@@ -74,17 +74,17 @@ invariant_of-self c =
             c.push.ensures.marked (fits_now a.stored.properties.items r refl) c.push.ensures.wider;
         sound = kept_rest c.push.result (λ q. IsSoundWorldState (state_in s q)) r made u c.push.ensures.ok c.push.ensures.err c.self.invariant.now.sound
             (subst IsSoundWorldState (sym (state_listed s (symbol_count s.0) c.numbering.ensures x n owner_is r (λ ps. with_pushed_by same_number ps j v) (λ ps. with_pushed_by same_symbol ps i v) same))
-            (sound_put (state_in s r) x i (pushed v (property (state_in s r) x i)) c.self.invariant.now.sound at_home indicator value));
+            (sound_put (state_in s r) x i (pushed_list v (property (state_in s r) x i)) c.self.invariant.now.sound at_home indicator value));
       };
       earlier = c.self.invariant.earlier;
     }
 
 pub invariant_of-self-2 : goal.invariant_of-self-2
 invariant_of-self-2 c =
-    let owner_is = number_by (numbered c.self.inside.packages) c.number-owner.result c.borrowed.ensures c.number-owner.ensures in
-    let indicator_is = number_by (numbered c.self.inside.packages) c.number-indicator.result c.borrowed-2.ensures c.number-indicator.ensures in
+    let owner_is = number_by (table_now c.self.inside.packages) c.number-owner.result c.borrowed.ensures c.number-owner.ensures in
+    let indicator_is = number_by (table_now c.self.inside.packages) c.number-indicator.result c.borrowed-2.ensures c.number-indicator.ensures in
     let a = c.self.inside in
-    let s = numbered a.packages in
+    let s = table_now a.packages in
     let r : NumberedRest = rest_of a.stored in
     let u : NumberedRest = rest_of c.push.new.stored in
     let x = symbol_of c.args.symbol.now in
@@ -96,19 +96,19 @@ invariant_of-self-2 c =
     let made : NumberedRest = with_changed_row r n (λ ps. with_pushed_by same_number ps j v) in
     let at_home : IsSymbol s.0 x = subst (λ (w : Worlds). IsSymbol w.0.packages x) (sym c.self.view_is) c.requires.symbol in
     let indicator : IsSymbol s.0 i = subst (λ (w : Worlds). IsSymbol w.0.packages i) (sym c.self.view_is) c.requires.indicator in
-    let value : IsValue s.0 (pushed v (property (state_in s r) x i)) = subst (λ (w : Worlds). IsValue w.0.packages (pushed v (property w.0 x i))) (sym c.self.view_is) c.requires.value in
-    let numbers = all_with same_number (λ p. IsNumber s p.0) row j (pushed v (value_beside same_number row j)) (number_is s (symbol_count s.0) c.numbering.ensures i j indicator_is) (λ p k. k) (c.self.invariant.now.owned.indicators n) in
+    let value : IsValue s.0 (pushed_list v (property (state_in s r) x i)) = subst (λ (w : Worlds). IsValue w.0.packages (pushed_list v (property w.0 x i))) (sym c.self.view_is) c.requires.value in
+    let numbers = all_with same_number (λ p. IsNumber s p.0) row j (pushed_list v (value_beside same_number row j)) (number_is s (symbol_count s.0) c.numbering.ensures i j indicator_is) (λ p k. k) (c.self.invariant.now.owned.indicators n) in
     let same : named_plist s (with_pushed_by same_number row j v) ≡ with_pushed_by same_symbol (named_plist s row) i v =
     pushed_named s (symbol_count s.0) c.numbering.ensures i j indicator_is row (c.self.invariant.now.owned.indicators n) v in
-    let size_is : pair_size (Some (pushed v (value_in r.properties n j))) ≡ Some c.args.size =
-    ap (λ o. pair_size (Some (pushed v o))) (property_seen a c.self.invariant c.args.self.now c.self.view_is x i (symbol_count s.0) c.numbering.ensures n j owner_is indicator_is) ∙ c.requires.size in
+    let size_is : pair_size (Some (pushed_list v (value_in r.properties n j))) ≡ Some c.args.size =
+    ap (λ o. pair_size (Some (pushed_list v o))) (property_seen a c.self.invariant c.args.self.now c.self.view_is x i (symbol_count s.0) c.numbering.ensures n j owner_is indicator_is) ∙ c.requires.size in
     record {
       now = record {
         values = c.push.ensures.wider.values c.self.invariant.now.values;
         indexed = c.push.ensures.indexed;
         sizes = c.note.ensures u.properties
             (subst (λ (q : NumberedRest). AreOtherSizes q.properties n j a.sizes.entries) (sym c.in_ok-push.ensures.ok)
-            (others_with r.properties n j a.sizes.entries c.self.invariant.now.sizes (pushed v (value_in r.properties n j))))
+            (others_with r.properties n j a.sizes.entries c.self.invariant.now.sizes (pushed_list v (value_in r.properties n j))))
             (subst (λ (q : NumberedRest). pair_size (value_in q.properties n j) ≡ Some c.args.size) (sym c.in_ok-push.ensures.ok) (size_pushed r.properties n j v c.args.size size_is));
         owned = kept_rest c.push.result (λ q. IsOwned s q.properties) r made u c.push.ensures.ok c.push.ensures.err c.self.invariant.now.owned
             (owned_put s (symbol_count s.0) c.numbering.ensures r.properties x n _ owner_is numbers c.self.invariant.now.owned);
@@ -116,17 +116,17 @@ invariant_of-self-2 c =
             c.push.ensures.marked (fits_now a.stored.properties.items r refl) c.push.ensures.wider;
         sound = kept_rest c.push.result (λ q. IsSoundWorldState (state_in s q)) r made u c.push.ensures.ok c.push.ensures.err c.self.invariant.now.sound
             (subst IsSoundWorldState (sym (state_listed s (symbol_count s.0) c.numbering.ensures x n owner_is r (λ ps. with_pushed_by same_number ps j v) (λ ps. with_pushed_by same_symbol ps i v) same))
-            (sound_put (state_in s r) x i (pushed v (property (state_in s r) x i)) c.self.invariant.now.sound at_home indicator value));
+            (sound_put (state_in s r) x i (pushed_list v (property (state_in s r) x i)) c.self.invariant.now.sound at_home indicator value));
       };
       earlier = c.self.invariant.earlier;
     }
 
 pub returns-clause-ok : goal.returns-clause-ok
 returns-clause-ok c =
-    let owner_is = number_by (numbered c.self.inside.packages) c.number-owner.result c.borrowed.ensures c.number-owner.ensures in
-    let indicator_is = number_by (numbered c.self.inside.packages) c.number-indicator.result c.borrowed-2.ensures c.number-indicator.ensures in
+    let owner_is = number_by (table_now c.self.inside.packages) c.number-owner.result c.borrowed.ensures c.number-owner.ensures in
+    let indicator_is = number_by (table_now c.self.inside.packages) c.number-indicator.result c.borrowed-2.ensures c.number-indicator.ensures in
     let a = c.self.inside in
-    let s = numbered a.packages in
+    let s = table_now a.packages in
     let i = symbol_of c.args.indicator.now in
     let n = c.number-owner.result in
     let j = c.number-indicator.result in

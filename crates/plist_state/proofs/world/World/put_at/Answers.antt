@@ -1,6 +1,6 @@
 use Rattle.std.proofs.Common.{sym, subst}
 use Rattle.package_table.specs.Table.{symbol_count}
-use Rattle.package_table.specs.Numbers.{numbered}
+use Rattle.package_table.specs.Numbers.{table_now}
 use Rattle.lisp_object.specs.Datum.{object_of}
 use Rattle.plist_state.specs.Properties.{with_value, with_value_by}
 use Rattle.plist_state.specs.State.{Worlds}
@@ -37,7 +37,7 @@ returns-clause-ok c =
     let j = c.number-indicator.result in
     let v = object_of c.args.value in
     world_listed c.put.result (earlier_states a.earlier.items) a.packages (marks_of a.marks.items) (marks_of c.put.new.marks.items) (rest_of a.stored) (rest_of c.put.new.stored) c.put.ensures.marked.same
-    c.args.self.now c.self.view_is (symbol_count (numbered a.packages).0) c.numbering.ensures (symbol_named c.args.symbol) n c.number-owner.ensures
+    c.args.self.now c.self.view_is (symbol_count (table_now a.packages).0) c.numbering.ensures (symbol_named c.args.symbol) n c.number-owner.ensures
     (λ ps. with_value_by same_number ps j v) (λ ps. with_value ps i v)
     (same_list a.packages a.stored a.marks.items a.sizes.entries c.self.invariant.now c.numbering.ensures (symbol_named c.args.symbol) i n j c.number-owner.ensures c.number-indicator.ensures v)
     c.put.ensures.ok

@@ -2,7 +2,7 @@ use Rattle.std.proofs.Common.{◌≡◌, Option, Some, None, true, refl, sym, ap
 use Rattle.std.specs.Prelude.{IfOk, OnErr}
 use Rattle.lisp_object.specs.Object.{Object}
 use Rattle.package_table.specs.Table.{symbol_count}
-use Rattle.package_table.specs.Numbers.{numbered, number_of}
+use Rattle.package_table.specs.Numbers.{table_now, number_of}
 use Rattle.plist_state.specs.Properties as properties
 use Rattle.plist_state.specs.Properties.{without_value, without_value_by}
 use Rattle.plist_state.specs.Changes.{property}
@@ -30,28 +30,28 @@ number-owner-requires c =
 
 pub returns-in_default-clause-ok : goal.returns-in_default-clause-ok
 returns-in_default-clause-ok c =
-    let owner_is = number_by (numbered c.self.inside.packages) c.number-owner.result c.borrowed.ensures c.number-owner.ensures in
+    let owner_is = number_by (table_now c.self.inside.packages) c.number-owner.result c.borrowed.ensures c.number-owner.ensures in
     let x : properties.Symbol = symbol_of c.args.symbol.now in
     let i : properties.Symbol = symbol_of c.args.indicator.now in
-    let s = numbered c.self.inside.packages in
+    let s = table_now c.self.inside.packages in
     let none : number_of s i.0 i.1 ≡ None = (λ k. number_of s (sym c.home.ensures k) (sym c.name.ensures k)) ∙ sym c.in_default.ensures in
     let absent : property c.args.self.now.0 x i ≡ None = no_property c.self.inside c.self.invariant c.args.self.now c.self.view_is x i c.number-owner.result owner_is none in
     sym (property_out c.self.inside c.self.invariant c.args.self.now c.self.view_is x i absent)
 
 pub returns-in_default-clause-had : goal.returns-in_default-clause-had
 returns-in_default-clause-had c =
-    let owner_is = number_by (numbered c.self.inside.packages) c.number-owner.result c.borrowed.ensures c.number-owner.ensures in
+    let owner_is = number_by (table_now c.self.inside.packages) c.number-owner.result c.borrowed.ensures c.number-owner.ensures in
     let x : properties.Symbol = symbol_of c.args.symbol.now in
     let i : properties.Symbol = symbol_of c.args.indicator.now in
-    let s = numbered c.self.inside.packages in
+    let s = table_now c.self.inside.packages in
     let none : number_of s i.0 i.1 ≡ None = (λ k. number_of s (sym c.home.ensures k) (sym c.name.ensures k)) ∙ sym c.in_default.ensures in
     sym (ap is_some (no_property c.self.inside c.self.invariant c.args.self.now c.self.view_is x i c.number-owner.result owner_is none))
 
 pub invariant_of-self : goal.invariant_of-self
 invariant_of-self c =
-    let owner_is = number_by (numbered c.self.inside.packages) c.number-owner.result c.borrowed.ensures c.number-owner.ensures in
+    let owner_is = number_by (table_now c.self.inside.packages) c.number-owner.result c.borrowed.ensures c.number-owner.ensures in
     let a = c.self.inside in
-    let s = numbered a.packages in
+    let s = table_now a.packages in
     let r : NumberedRest = rest_of a.stored in
     let u : NumberedRest = rest_of c.remove.new.stored in
     let x : properties.Symbol = symbol_of c.args.symbol.now in
@@ -85,9 +85,9 @@ invariant_of-self c =
 
 pub returns-clause-ok : goal.returns-clause-ok
 returns-clause-ok c =
-    let owner_is = number_by (numbered c.self.inside.packages) c.number-owner.result c.borrowed.ensures c.number-owner.ensures in
+    let owner_is = number_by (table_now c.self.inside.packages) c.number-owner.result c.borrowed.ensures c.number-owner.ensures in
     let a = c.self.inside in
-    let s = numbered a.packages in
+    let s = table_now a.packages in
     let i : properties.Symbol = symbol_of c.args.indicator.now in
     let n = c.number-owner.result in
     let j = c.in-Some.indicator in
@@ -106,10 +106,10 @@ returns-clause-err c =
 
 pub returns-clause-had : goal.returns-clause-had
 returns-clause-had c =
-    let owner_is = number_by (numbered c.self.inside.packages) c.number-owner.result c.borrowed.ensures c.number-owner.ensures in
+    let owner_is = number_by (table_now c.self.inside.packages) c.number-owner.result c.borrowed.ensures c.number-owner.ensures in
     let x : properties.Symbol = symbol_of c.args.symbol.now in
     let i : properties.Symbol = symbol_of c.args.indicator.now in
-    let s = numbered c.self.inside.packages in
+    let s = table_now c.self.inside.packages in
     let is : number_of s i.0 i.1 ≡ Some c.in-Some.indicator = (λ k. number_of s (sym c.home.ensures k) (sym c.name.ensures k)) ∙ sym c.in-Some.ensures in
     subst (λ (o : Option Object). IfOk c.remove.result (λ had. had ≡ is_some o))
     (property_seen c.self.inside c.self.invariant c.args.self.now c.self.view_is x i (symbol_count s.0) c.numbering.ensures c.number-owner.result c.in-Some.indicator owner_is is)
@@ -117,10 +117,10 @@ returns-clause-had c =
 
 pub returns-clause-absent : goal.returns-clause-absent
 returns-clause-absent c =
-    let owner_is = number_by (numbered c.self.inside.packages) c.number-owner.result c.borrowed.ensures c.number-owner.ensures in
+    let owner_is = number_by (table_now c.self.inside.packages) c.number-owner.result c.borrowed.ensures c.number-owner.ensures in
     let x : properties.Symbol = symbol_of c.args.symbol.now in
     let i : properties.Symbol = symbol_of c.args.indicator.now in
-    let s = numbered c.self.inside.packages in
+    let s = table_now c.self.inside.packages in
     let is : number_of s i.0 i.1 ≡ Some c.in-Some.indicator = (λ k. number_of s (sym c.home.ensures k) (sym c.name.ensures k)) ∙ sym c.in-Some.ensures in
     subst (λ (o : Option Object). OnErr c.remove.result (is_some o ≡ true))
     (property_seen c.self.inside c.self.invariant c.args.self.now c.self.view_is x i (symbol_count s.0) c.numbering.ensures c.number-owner.result c.in-Some.indicator owner_is is)

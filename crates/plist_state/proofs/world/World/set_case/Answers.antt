@@ -1,6 +1,6 @@
 use Rattle.std.proofs.Common.{Ok}
 use Rattle.readtable_core.specs.Tables.{Table}
-use Rattle.package_table.specs.Numbers.{numbered}
+use Rattle.package_table.specs.Numbers.{table_now}
 use Rattle.plist_state.specs.State.{WorldState}
 use Rattle.plist_state.specs.MarkedWorlds.{state_in}
 use Rattle.plist_state.specs.Views.{rest_of}
@@ -10,7 +10,7 @@ use Rattle.plist_state.proofs.world.World.set_case.Goals as goal
 
 pub invariant_of-self : goal.invariant_of-self
 invariant_of-self c =
-    let s : WorldState = state_in (numbered c.self.inside.packages) (rest_of c.self.inside.stored) in
+    let s : WorldState = state_in (table_now c.self.inside.packages) (rest_of c.self.inside.stored) in
     let e = c.set_case.ensures in
     left_kept c.self.inside c.set_case.new.tables c.set_case.new.marks c.set_case.result e.unchanged e.marked _ e.gives c.self.invariant
     (sound_changed s c.args.name.now (λ (t : Table). Ok (record t { letters = c.args.letters })) c.self.invariant.now.sound

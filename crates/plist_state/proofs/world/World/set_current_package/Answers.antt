@@ -3,7 +3,7 @@ use Rattle.std.specs.Global.{Vec}
 use Rattle.package_table.specs.Table.{IsPackage}
 use Rattle.plist_state.specs.Sound.{IsSoundWorldState}
 use Rattle.plist_state.specs.declared.note.Note.TheVariants.{InPackage}
-use Rattle.package_table.specs.Numbers.{numbered}
+use Rattle.package_table.specs.Numbers.{table_now}
 use Rattle.plist_state.specs.State.{WorldState}
 use Rattle.plist_state.specs.Views.{NumberedRest, rest_of}
 use Rattle.plist_state.specs.MarkedWorlds.{state_in}
@@ -19,7 +19,7 @@ invariant_of-self-2 c =
     let a = c.self.inside in
     let r : NumberedRest = rest_of a.stored in
     let u : NumberedRest = record r { current_package = c.replace-before.new.dest.items } in
-    let s : WorldState = state_in (numbered a.packages) r in
+    let s : WorldState = state_in (table_now a.packages) r in
     let there : IsPackage s.packages c.args.name.now = search rules in
     let named : c.replace-before.new.dest.items ≡ c.args.name.now = ap (λ (v : Vec ℕ). v.items) c.replace-before.ensures.after ∙ c.in_ok-name.ensures.name in
     record {

@@ -3,7 +3,7 @@ use Rattle.package_table.specs.Table.{keyword}
 use Rattle.plist_state.specs.Sound.{IsSymbol}
 use Rattle.readtable_core.specs.Tables.{Table}
 use Rattle.readtable_core.specs.Changes.{with_character_entry, macro_entry}
-use Rattle.package_table.specs.Numbers.{numbered}
+use Rattle.package_table.specs.Numbers.{table_now}
 use Rattle.plist_state.specs.State.{WorldState, Worlds}
 use Rattle.plist_state.specs.MarkedWorlds.{state_in}
 use Rattle.plist_state.specs.Views.{rest_of}
@@ -13,7 +13,7 @@ use Rattle.plist_state.proofs.world.World.set_macro.Goals as goal
 
 pub invariant_of-self : goal.invariant_of-self
 invariant_of-self c =
-    let s : WorldState = state_in (numbered c.self.inside.packages) (rest_of c.self.inside.stored) in
+    let s : WorldState = state_in (table_now c.self.inside.packages) (rest_of c.self.inside.stored) in
     let e = c.set_macro.ensures in
     let at_home : IsSymbol s.packages (keyword, c.args.function) = subst (λ (w : Worlds). IsSymbol w.0.packages (keyword, c.args.function)) (sym c.self.view_is) c.requires.keyword in
     left_kept c.self.inside c.set_macro.new.tables c.set_macro.new.marks c.set_macro.result e.unchanged e.marked _ e.gives c.self.invariant

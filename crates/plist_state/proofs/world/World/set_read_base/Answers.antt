@@ -1,5 +1,5 @@
 use Rattle.std.proofs.Common.{refl}
-use Rattle.package_table.specs.Numbers.{numbered}
+use Rattle.package_table.specs.Numbers.{table_now}
 use Rattle.plist_state.specs.declared.note.Note.TheVariants.{InBase}
 use Rattle.plist_state.specs.Views.{NumberedRest, rest_of}
 use Rattle.plist_state.specs.Journal.{marks_of}
@@ -21,7 +21,7 @@ invariant_of-self-2 c =
         indexed = c.self.invariant.now.indexed;
         sizes = c.self.invariant.now.sizes;
         owned = c.self.invariant.now.owned;
-        sound = sound_base (state_in (numbered a.packages) r) c.args.base c.self.invariant.now.sound c.requires.lowest_base c.requires.highest_base;
+        sound = sound_base (state_in (table_now a.packages) r) c.args.base c.self.invariant.now.sound c.requires.lowest_base c.requires.highest_base;
         marked = kept_continued a.packages.1.marked (marks_of a.marks.items) r a.stored.properties.items c.self.invariant.now.marked (marks_of c.push_note.new.marks.items) u a.stored.properties.items
             (continues_noted (marks_of a.marks.items) _ (marks_of c.push_note.new.marks.items) (InBase r.read_base) r u c.in_ok-reserve_note.ensures.same c.push_note.ensures tt refl)
             (fits_now a.stored.properties.items r refl) (wider_same a.stored.properties.items a.stored.properties.items refl);

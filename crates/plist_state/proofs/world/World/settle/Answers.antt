@@ -1,5 +1,5 @@
 use Rattle.std.proofs.Common.{◌≡◌, [], ◌++◌, sym, ap, subst, ◌∙◌}
-use Rattle.package_table.specs.Numbers.{Numbered, Tables, numbered, without_marks}
+use Rattle.package_table.specs.Numbers.{Numbered, Tables, table_now, without_marks}
 use Rattle.plist_state.specs.State.{Worlds}
 use Rattle.plist_state.specs.Lists.{IsOwned}
 use Rattle.plist_state.specs.Views.{NumberedRest, rest_of}
@@ -19,7 +19,7 @@ invariant_of-self c =
     let u : NumberedRest = rest_of c.tidy.new.stored in
     let rest : u ≡ r = c.tidy.ensures.same in
     let packages : c.settle.new.self ≡ without_marks a.packages = c.settle.ensures in
-    let both : ◌≡◌ {A = Numbered × NumberedRest} (numbered c.settle.new.self, u) (numbered a.packages, r) = λ i. (numbered (packages i), rest i) in
+    let both : ◌≡◌ {A = Numbered × NumberedRest} (table_now c.settle.new.self, u) (table_now a.packages, r) = λ i. (table_now (packages i), rest i) in
     record {
       now = record {
         values = c.tidy.ensures.wider.values c.self.invariant.now.values;
@@ -40,6 +40,6 @@ returns c =
     let u : NumberedRest = rest_of c.tidy.new.stored in
     let rest : u ≡ r = c.tidy.ensures.same in
     let packages : c.settle.new.self ≡ without_marks a.packages = c.settle.ensures in
-    let now : ◌≡◌ {A = Worlds} (state_in (numbered c.settle.new.self) u, earlier_states c.clear.new.self.items ++ marked_states c.settle.new.self.1.marked (rests_at (marks_of c.let_go.new.marks.items) u)) (state_in (numbered a.packages) r, []) =
-    λ i. (state_in (numbered (packages i)) (rest i), earlier_states (c.clear.ensures.items i) ++ marked_states (packages i).1.marked (rests_at (marks_of c.let_go.new.marks.items) (rest i))) in
+    let now : ◌≡◌ {A = Worlds} (state_in (table_now c.settle.new.self) u, earlier_states c.clear.new.self.items ++ marked_states c.settle.new.self.1.marked (rests_at (marks_of c.let_go.new.marks.items) u)) (state_in (table_now a.packages) r, []) =
+    λ i. (state_in (table_now (packages i)) (rest i), earlier_states (c.clear.ensures.items i) ++ marked_states (packages i).1.marked (rests_at (marks_of c.let_go.new.marks.items) (rest i))) in
     now ∙ ap (λ (w : Worlds). (w.0, [])) c.self.view_is

@@ -1,12 +1,12 @@
 use Rattle.std.proofs.Common.{◌≡◌, true, refl, sym, ap, subst, ◌∙◌}
 use Rattle.package_table.specs.Table.{symbol_count}
-use Rattle.package_table.specs.Numbers.{numbered}
+use Rattle.package_table.specs.Numbers.{table_now}
 use Rattle.lisp_object.specs.Object.{Object}
 use Rattle.plist_state.specs.Properties.{same_symbol, value_beside}
 use Rattle.plist_state.specs.State.{Worlds}
 use Rattle.plist_state.specs.Changes.{property}
-use Rattle.plist_state.specs.Pushed.{holds_pair}
-use Rattle.plist_state.specs.Popped.{popped, with_popped_by}
+use Rattle.plist_state.specs.PushedLists.{holds_pair}
+use Rattle.plist_state.specs.PoppedLists.{popped_list, with_popped_by}
 use Rattle.plist_state.specs.Views.{NumberedRest, symbol_of, rest_of}
 use Rattle.plist_state.specs.Sound.{IsSymbol, IsValue, IsSoundWorldState}
 use Rattle.plist_state.specs.Lists.{same_number, plist_of_number, IsNumber, named_plist, IsOwned}
@@ -35,19 +35,19 @@ number-indicator-requires c =
 
 pub pop-requires-clause-list : goal.pop-requires-clause-list
 pop-requires-clause-list c =
-    let owner_is = number_by (numbered c.self.inside.packages) c.number-owner.result c.borrowed.ensures c.number-owner.ensures in
-    let indicator_is = number_by (numbered c.self.inside.packages) c.number-indicator.result c.borrowed-2.ensures c.number-indicator.ensures in
-    let s = numbered c.self.inside.packages in
+    let owner_is = number_by (table_now c.self.inside.packages) c.number-owner.result c.borrowed.ensures c.number-owner.ensures in
+    let indicator_is = number_by (table_now c.self.inside.packages) c.number-indicator.result c.borrowed-2.ensures c.number-indicator.ensures in
+    let s = table_now c.self.inside.packages in
     ap holds_pair (property_seen c.self.inside c.self.invariant c.args.self.now c.self.view_is (symbol_of c.args.symbol.now) (symbol_of c.args.indicator.now) (symbol_count s.0) c.numbering.ensures
     c.number-owner.result c.number-indicator.result owner_is indicator_is)
     ∙ c.requires.list
 
 pub invariant_of-self : goal.invariant_of-self
 invariant_of-self c =
-    let owner_is = number_by (numbered c.self.inside.packages) c.number-owner.result c.borrowed.ensures c.number-owner.ensures in
-    let indicator_is = number_by (numbered c.self.inside.packages) c.number-indicator.result c.borrowed-2.ensures c.number-indicator.ensures in
+    let owner_is = number_by (table_now c.self.inside.packages) c.number-owner.result c.borrowed.ensures c.number-owner.ensures in
+    let indicator_is = number_by (table_now c.self.inside.packages) c.number-indicator.result c.borrowed-2.ensures c.number-indicator.ensures in
     let a = c.self.inside in
-    let s = numbered a.packages in
+    let s = table_now a.packages in
     let r : NumberedRest = rest_of a.stored in
     let u : NumberedRest = rest_of c.pop.new.stored in
     let x = symbol_of c.args.symbol.now in
@@ -55,12 +55,12 @@ invariant_of-self c =
     let n = c.number-owner.result in
     let j = c.number-indicator.result in
     let row = plist_of_number r.properties n in
-    let rest : Object = popped (value_beside same_number row j) in
+    let rest : Object = popped_list (value_beside same_number row j) in
     let made : NumberedRest = with_changed_row r n (λ ps. with_popped_by same_number ps j) in
     let at_home : IsSymbol s.0 x = subst (λ (w : Worlds). IsSymbol w.0.packages x) (sym c.self.view_is) c.requires.symbol in
     let indicator : IsSymbol s.0 i = subst (λ (w : Worlds). IsSymbol w.0.packages i) (sym c.self.view_is) c.requires.indicator in
     let there : holds_pair (property (state_in s r) x i) ≡ true = subst (λ (w : Worlds). holds_pair (property w.0 x i) ≡ true) (sym c.self.view_is) c.requires.list in
-    let value : IsValue s.0 (popped (property (state_in s r) x i)) = rest_value s.0 (property (state_in s r) x i) (λ v. sound_value (state_in s r) x i v c.self.invariant.now.sound) there in
+    let value : IsValue s.0 (popped_list (property (state_in s r) x i)) = rest_value s.0 (property (state_in s r) x i) (λ v. sound_value (state_in s r) x i v c.self.invariant.now.sound) there in
     let numbers = all_with same_number (λ p. IsNumber s p.0) row j rest (number_is s (symbol_count s.0) c.numbering.ensures i j indicator_is) (λ p k. k) (c.self.invariant.now.owned.indicators n) in
     let same : named_plist s (with_popped_by same_number row j) ≡ with_popped_by same_symbol (named_plist s row) i =
     popped_named s (symbol_count s.0) c.numbering.ensures i j indicator_is row (c.self.invariant.now.owned.indicators n) in
@@ -77,17 +77,17 @@ invariant_of-self c =
             c.pop.ensures.marked (fits_now a.stored.properties.items r refl) c.pop.ensures.wider;
         sound = kept_rest c.pop.result (λ q. IsSoundWorldState (state_in s q)) r made u c.pop.ensures.ok c.pop.ensures.err c.self.invariant.now.sound
             (subst IsSoundWorldState (sym (state_listed s (symbol_count s.0) c.numbering.ensures x n owner_is r (λ ps. with_popped_by same_number ps j) (λ ps. with_popped_by same_symbol ps i) same))
-            (sound_put (state_in s r) x i (popped (property (state_in s r) x i)) c.self.invariant.now.sound at_home indicator value));
+            (sound_put (state_in s r) x i (popped_list (property (state_in s r) x i)) c.self.invariant.now.sound at_home indicator value));
       };
       earlier = c.self.invariant.earlier;
     }
 
 pub returns-clause-ok : goal.returns-clause-ok
 returns-clause-ok c =
-    let owner_is = number_by (numbered c.self.inside.packages) c.number-owner.result c.borrowed.ensures c.number-owner.ensures in
-    let indicator_is = number_by (numbered c.self.inside.packages) c.number-indicator.result c.borrowed-2.ensures c.number-indicator.ensures in
+    let owner_is = number_by (table_now c.self.inside.packages) c.number-owner.result c.borrowed.ensures c.number-owner.ensures in
+    let indicator_is = number_by (table_now c.self.inside.packages) c.number-indicator.result c.borrowed-2.ensures c.number-indicator.ensures in
     let a = c.self.inside in
-    let s = numbered a.packages in
+    let s = table_now a.packages in
     let i = symbol_of c.args.indicator.now in
     let n = c.number-owner.result in
     let j = c.number-indicator.result in

@@ -4,7 +4,7 @@ use Rattle.lisp_object.specs.Object.{Object, list_of}
 use Rattle.lisp_object.specs.Datum.{object_of}
 use Rattle.plist_state.specs.Properties.{Symbol}
 use Rattle.plist_state.specs.Views.{symbol_of}
-use Rattle.lisp_operators.specs.Evaluated.{AreProper, objects}
+use Rattle.lisp_operators.specs.EvaluationAnswers.{AreProper, objects}
 use Rattle.lisp_operators.specs.Members.{symbols_in}
 use Rattle.kept_functions.specs.declared.environment.Binding.{Binding}
 use Rattle.kept_functions.specs.declared.reader_definition.StoredReader.{StoredReader}

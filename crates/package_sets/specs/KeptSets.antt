@@ -36,11 +36,11 @@ stored_code =
     (coded× (coded_list name_code)
     (coded× pairs_code (coded× pairs_code (coded× (coded_list coded_ℕ) (coded× pairs_code pairs_code)))))
 
-abbrev pub stored : Kept → Stored
-stored k = (k.names, (k.packages, (k.symbols, (k.imports, (k.imported, (k.externals, k.uses))))))
+abbrev pub stored_sets : Kept → Stored
+stored_sets k = (k.names, (k.packages, (k.symbols, (k.imports, (k.imported, (k.externals, k.uses))))))
 
-abbrev pub restored : Stored → Kept
-restored p = record {
+abbrev pub restored_sets : Stored → Kept
+restored_sets p = record {
   names = p.0;
   packages = p.1.0;
   symbols = p.1.1.0;
@@ -52,7 +52,7 @@ restored p = record {
 
 -- what is kept is told apart by its parts
 abbrev pub kept_code : Coded Kept
-kept_code = code_by Stored stored_code stored restored (λ _. refl)
+kept_code = code_by Stored stored_code stored_sets restored_sets (λ _. refl)
 
 -- no packages and nothing else
 abbrev pub nothing : Kept

@@ -3,7 +3,7 @@
 -- A place is kept as one more than it, and 0 for none.
 use Rattle.std.specs.Prelude.{◌≡◌, ◌<◌, ℕ, zero, suc, nat_eq, if◌then◌else◌, List, length, get_or}
 use Rattle.package_sets.specs.declared.chains.Chains.{Chains}
-use Rattle.package_sets.specs.Kept.{pair_at}
+use Rattle.package_sets.specs.KeptSets.{pair_at}
 
 -- the number of the name of the external symbol at the place x
 abbrev pub external_name : List (ℕ × ℕ) → List (ℕ × ℕ) → ℕ → ℕ

@@ -22,12 +22,12 @@ abbrev pub with_popped : WorldState → Symbol → Symbol → WorldState
 with_popped s x i = with_rest s x i (property s x i)
 
 -- a value without its first item. Where there is none, it is NIL.
-abbrev pub popped : Option Object → Object
-popped value = without_first (unwrap_or value nil)
+abbrev pub popped_list : Option Object → Object
+popped_list value = without_first (unwrap_or value nil)
 
 -- with the list beside the key without its first item
 abbrev pub with_popped_by : {K : Type 0} → (K → K → Bool) → List (K × Object) → K → List (K × Object)
-with_popped_by same ps i = with_value_by same ps i (popped (value_beside same ps i))
+with_popped_by same ps i = with_value_by same ps i (popped_list (value_beside same ps i))
 
 -- the same, by numbers
 abbrev pub with_popped_in : NumberedLists → ℕ → ℕ → NumberedLists

@@ -5,6 +5,6 @@ use Rattle.plist_state.specs.declared.note.Note.{Note}
 use Rattle.plist_state.specs.declared.note.Note.TheVariants.{Property}
 
 -- the number of the symbol of that list
-abbrev pub shortened : Note → Option ℕ
-shortened (Property number (Removed index property)) = Some number
-shortened _ = None
+abbrev pub shortened_symbol : Note → Option ℕ
+shortened_symbol (Property number (Removed index property)) = Some number
+shortened_symbol _ = None

@@ -1,7 +1,7 @@
 -- The external symbols of a name in the packages that another uses.
 use Rattle.std.specs.Prelude.{◌≡◌, ◌<◌, ℕ, true, is_some, length, position}
-use Rattle.package_sets.specs.Kept.{Kept, pair_at, pair_eq}
-use Rattle.package_sets.specs.Chained.{external_name}
+use Rattle.package_sets.specs.KeptSets.{Kept, pair_at, pair_eq}
+use Rattle.package_sets.specs.SymbolChains.{external_name}
 use Rattle.package_sets.specs.declared.look_ups.Inherited.{Inherited}
 use Rattle.package_sets.specs.declared.look_ups.Inherited.TheVariants.{External, Nothing, Unknown}
 

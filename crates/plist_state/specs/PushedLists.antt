@@ -17,16 +17,16 @@ pair_size (Some (pair x xs)) = Some (min (object_size (pair x xs)) (2 ^ 64 - 1))
 pair_size _ = None
 
 -- a value, with another one before it. Where there is none, NIL stands for it.
-abbrev pub pushed : Object → Option Object → Object
-pushed x value = pair x (unwrap_or value nil)
+abbrev pub pushed_list : Object → Option Object → Object
+pushed_list x value = pair x (unwrap_or value nil)
 
 -- with this value before the one beside the key
 abbrev pub with_pushed_by : {K : Type 0} → (K → K → Bool) → List (K × Object) → K → Object → List (K × Object)
-with_pushed_by same ps i x = with_value_by same ps i (pushed x (value_beside same ps i))
+with_pushed_by same ps i x = with_value_by same ps i (pushed_list x (value_beside same ps i))
 
 -- with this value before the one beside the indicator
 abbrev pub with_pushed : WorldState → Symbol → Symbol → Object → WorldState
-with_pushed s x i v = with_property s x i (pushed v (property s x i))
+with_pushed s x i v = with_property s x i (pushed_list v (property s x i))
 
 -- the same, by numbers
 abbrev pub with_pushed_in : NumberedLists → ℕ → ℕ → Object → NumberedLists

@@ -6,7 +6,7 @@ use Rattle.package_table.specs.Lookup.{is_symbol}
 use Rattle.plist_state.specs.Lists.{symbols}
 use Rattle.plist_state.specs.Properties.{Symbol}
 use Rattle.plist_state.specs.State.{WorldState}
-use Rattle.forgotten_names.specs.Needed.{is_needed}
+use Rattle.forgotten_names.specs.NeededSymbols.{is_needed}
 
 -- the package p with those of its names that are kept
 abbrev pub kept_package : (Name → Name → Bool) → Name → Package → Package
