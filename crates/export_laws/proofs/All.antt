@@ -23,9 +23,10 @@ use Rattle.plist_state.proofs.Orders.{symbol_total}
 use Rattle.snapshot_text.specs.BuiltWorlds.{with_each, with_packages_of, with_properties, with_properties_of}
 use Rattle.snapshot_text.specs.Rows.{row_symbol_at, IsUpTo}
 use Rattle.snapshot_text.proofs.PropertyParts.{at_first, at_last, each_is_list, next_up_to, row_at}
-use Rattle.export_laws.specs.Objects.{after_each, property_object, property_objects}
-use Rattle.export_laws.proofs.There.{value_there}
-use Rattle.export_laws.proofs.One.{property_set}
+use Rattle.text_laws.specs.Objects.{property_object}
+use Rattle.export_laws.specs.Objects.{after_each, property_objects}
+use Rattle.text_laws.proofs.There.{value_there}
+use Rattle.text_laws.proofs.One.{property_set}
 
 -- ---- forms, one after the other
 

@@ -19,13 +19,13 @@ use Rattle.form_eval.proofs.KnownSymbols.{known_symbols}
 use Rattle.prevalence_store.specs.meaning.Acceptance.{form_limits}
 use Rattle.session_words.specs.declared.content.Content.TheVariants.{Data}
 use Rattle.world_forms.specs.Forms.{current_form, package_form, reading_forms}
-use Rattle.export_laws.specs.Objects.{call}
+use Rattle.text_laws.specs.Objects.{call}
 use Rattle.export_laws.proofs.OneForm.{IsForm}
 use Rattle.export_laws.proofs.PackageForms.{named_so}
 use Rattle.export_laws.proofs.PackageText.{IsOperator, list_is_form, operator_read, room, text_short}
-use Rattle.export_laws.proofs.PartsRead.{deeper, listed_is_read, no_more, one_more}
-use Rattle.export_laws.proofs.Symbols.{text_is_read}
-use Rattle.export_laws.proofs.There.{lisp_there, nil_there, pair_there}
+use Rattle.text_laws.proofs.PartsRead.{deeper, listed_is_read, no_more, one_more}
+use Rattle.text_laws.proofs.Symbols.{text_is_read}
+use Rattle.text_laws.proofs.There.{lisp_there, nil_there, pair_there}
 
 abbrev pub enter_object : Name → Object
 enter_object p = call (codes "IN-PACKAGE") (text p ∷ [])

@@ -1,8 +1,4 @@
-pub mod There
-pub mod One
 pub mod All
-pub mod PartsRead
-pub mod Symbols
 pub mod PropertyText
 pub mod OneForm
 pub mod Lines

@@ -27,10 +27,10 @@ use Rattle.evaluator.specs.Value.{value_by, values_by, value_over}
 use Rattle.form_eval.specs.Acceptance.{accepted_by}
 use Rattle.form_eval.proofs.KnownSymbols.{known_symbols}
 use Rattle.world_forms.specs.Tokens.{is_too_long, prefix_length}
-use Rattle.export_laws.specs.Objects.{call}
-use Rattle.export_laws.proofs.One.{two_values}
+use Rattle.text_laws.specs.Objects.{call}
+use Rattle.text_laws.proofs.One.{two_values}
 use Rattle.export_laws.proofs.PackageText.{change_argument}
-use Rattle.export_laws.proofs.There.{lisp_there, nil_there, pair_there, there_alone}
+use Rattle.text_laws.proofs.There.{lisp_there, nil_there, pair_there, there_alone}
 use Rattle.prevalence_store.specs.meaning.Acceptance.{transaction_value}
 use Rattle.prevalence_store.specs.meaning.Forgetting.{is_forgetting}
 use Rattle.prevalence_store.proofs.meaning.Transactions.{not_forgetting}

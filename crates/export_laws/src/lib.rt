@@ -34,7 +34,8 @@ ghost use Rattle.user_macros.specs.Functions.{Functions};
 ghost use Rattle.session_words.specs.declared.content.Content.TheVariants.{Data};
 ghost use Rattle.world_forms.specs.Forms.{forms};
 ghost use Rattle.world_forms.specs.Properties.{left_out_lines, property_lines};
-ghost use Rattle.export_laws.specs.Objects.{after_each, property_object, property_objects};
+ghost use Rattle.text_laws.specs.Objects.{property_object};
+ghost use Rattle.export_laws.specs.Objects.{after_each, property_objects};
 ghost use Rattle.export_laws.specs.Texts.{Makes, ReadsAsExported, with_data_of};
 
 use plist_state::World;

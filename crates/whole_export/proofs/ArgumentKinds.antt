@@ -22,12 +22,12 @@ use Rattle.prevalence_store.specs.meaning.Acceptance.{form_limits}
 use Rattle.world_text.proofs.Atoms.{home_ascii, own_ascii}
 use Rattle.world_text.proofs.Spelling.{IsAscii}
 use Rattle.world_forms.specs.Tokens.{call_text, is_too_long, symbol_text, text_argument, value_text}
-use Rattle.export_laws.specs.Objects.{call}
-use Rattle.export_laws.proofs.One.{interned_value}
+use Rattle.text_laws.specs.Objects.{call}
+use Rattle.text_laws.proofs.One.{interned_value}
 use Rattle.export_laws.proofs.PackageText.{name_short as name_text_short, room, text_short}
-use Rattle.export_laws.proofs.PartsRead.{IsRead, deeper, object_is_read}
-use Rattle.export_laws.proofs.Symbols.{call_is_read, lisp_is_read, symbol_is_read, text_is_read}
-use Rattle.export_laws.proofs.There.{lisp_there, nil_there, pair_there, there_alone}
+use Rattle.text_laws.proofs.PartsRead.{IsRead, deeper, object_is_read}
+use Rattle.text_laws.proofs.Symbols.{call_is_read, lisp_is_read, symbol_is_read, text_is_read}
+use Rattle.text_laws.proofs.There.{lisp_there, nil_there, pair_there, there_alone}
 use Rattle.whole_export.proofs.Arguments.{IsArgument}
 
 -- what evaluates to a keyword that names a readtable: itself, or what INTERN finds

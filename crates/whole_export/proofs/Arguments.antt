@@ -17,10 +17,10 @@ use Rattle.form_eval.proofs.KnownSymbols.{known_symbols}
 use Rattle.lisp_reading.specs.declared.found.Found.TheVariants.{One as one}
 use Rattle.prevalence_store.specs.meaning.Acceptance.{form_limits, transaction_value}
 use Rattle.world_text.proofs.Begun.{begun}
-use Rattle.export_laws.specs.Objects.{call}
+use Rattle.text_laws.specs.Objects.{call}
 use Rattle.export_laws.proofs.PackageText.{IsOperator, operator_read, room}
-use Rattle.export_laws.proofs.PartsRead.{AreRead, IsRead, deeper, list_read, listed_is_read, no_more, one_more}
-use Rattle.export_laws.proofs.There.{lisp_there, nil_there, pair_there}
+use Rattle.text_laws.proofs.PartsRead.{AreRead, IsRead, deeper, list_read, listed_is_read, no_more, one_more}
+use Rattle.text_laws.proofs.There.{lisp_there, nil_there, pair_there}
 use Rattle.prevalence_store.specs.meaning.Forgetting.{is_forgetting}
 use Rattle.prevalence_store.proofs.meaning.Transactions.{not_forgetting}
 

@@ -23,13 +23,13 @@ use Rattle.snapshot_text.proofs.KeysSoFar.{AreApart, keys_apart}
 use Rattle.snapshot_text.proofs.PropertyParts.{each_is_list}
 use Rattle.world_forms.specs.Properties.{is_form, plist_lines, property_form, property_line, property_lines}
 use Rattle.world_forms.specs.Tokens.{line_of_form}
-use Rattle.export_laws.specs.Objects.{property_object}
+use Rattle.text_laws.specs.Objects.{property_object}
 use Rattle.export_laws.specs.Texts.{Makes, ReadsAsExported}
 use Rattle.export_laws.proofs.All.{MayBe, all_may_be, each_put}
-use Rattle.export_laws.proofs.One.{property_set}
+use Rattle.text_laws.proofs.One.{property_set}
 use Rattle.export_laws.proofs.OneForm.{one_more_made}
 use Rattle.export_laws.proofs.PropertyText.{property_is_form}
-use Rattle.export_laws.proofs.There.{value_there}
+use Rattle.text_laws.proofs.There.{value_there}
 use Rattle.whole_export.specs.KeptWorld.{IsWithoutLeftOut, kept_properties}
 
 abbrev eq : Symbol → Symbol → Bool

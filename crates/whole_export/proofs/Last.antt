@@ -27,13 +27,13 @@ use Rattle.prevalence_store.specs.meaning.Acceptance.{form_limits, transaction_v
 use Rattle.session_words.specs.declared.content.Content.TheVariants.{World}
 use Rattle.world_forms.specs.Forms.{current_form}
 use Rattle.world_forms.specs.Tokens.{value_text}
-use Rattle.export_laws.specs.Objects.{call}
+use Rattle.text_laws.specs.Objects.{call}
 use Rattle.export_laws.specs.Texts.{Makes, ReadsAsExported}
 use Rattle.export_laws.proofs.Current.{enter_object, enter_value, is_enter, is_progn}
 use Rattle.export_laws.proofs.OneForm.{next_made}
 use Rattle.export_laws.proofs.PackageText.{IsOperator, operator_read, room}
-use Rattle.export_laws.proofs.PartsRead.{AreRead, deeper, list_read, no_more, one_more}
-use Rattle.export_laws.proofs.There.{lisp_there, nil_there, pair_there}
+use Rattle.text_laws.proofs.PartsRead.{AreRead, deeper, list_read, no_more, one_more}
+use Rattle.text_laws.proofs.There.{lisp_there, nil_there, pair_there}
 use Rattle.whole_export.proofs.Arguments.{AreArguments, IsList, accepted_so, argument, call_is_read, call_short, call_there, call_values, no_argument}
 use Rattle.whole_export.proofs.ArgumentKinds.{base_is, base_variable, table_form, table_is, text_is}
 use Rattle.whole_export.proofs.Joined.{last_same}

@@ -27,7 +27,7 @@ use Rattle.evaluator.specs.Value.{value_by, values_by, value_over}
 use Rattle.snapshot_text.specs.BuiltWorlds.{CanBeMade, IsSubFunction, IsWritable, with_table}
 use Rattle.snapshot_text.proofs.ReadtableParts.{copied}
 use Rattle.snapshot_text.proofs.TableParts.{changed_to, dispatched_is}
-use Rattle.export_laws.specs.Objects.{call}
+use Rattle.text_laws.specs.Objects.{call}
 use Rattle.whole_export.proofs.ArgumentKinds.{flag}
 
 -- a function that is covered, and is not STD-DISPATCH, may be named

@@ -1,4 +1,4 @@
-use Rattle.export_laws.proofs.One.{property_set}
+use Rattle.text_laws.proofs.One.{property_set}
 use Rattle.export_laws.proofs.All.{properties_made}
 use Rattle.export_laws.proofs.properties_are_made.Goals as goal
 

@@ -31,7 +31,7 @@ use Rattle.world_text.proofs.Begun.{under, begun, plain_call, quote_begun}
 use Rattle.world_text.proofs.Lists.{is_open, tail, tail_closed, tail_next}
 use Rattle.world_text.proofs.Spelling.{met_text}
 use Rattle.world_text.proofs.Whole.{ends_close, ends_space, list_opened, object_open, object_read, token_open, token_read}
-use Rattle.export_laws.specs.Objects.{call}
+use Rattle.text_laws.specs.Objects.{call}
 
 module _ (limits : Limits) (packages : Packages) (functions : Functions) (sound : AreSoundPackages packages) (room : 0 < limits.token) where
   abbrev s : Setting

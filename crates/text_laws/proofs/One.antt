@@ -26,8 +26,8 @@ use Rattle.evaluator.specs.Value.{value_by, values_by, value_over}
 use Rattle.form_eval.specs.Acceptance.{accept, accepted_by}
 use Rattle.form_eval.proofs.KnownSymbols.{known_symbols}
 use Rattle.world_forms.specs.Tokens.{is_too_long}
-use Rattle.export_laws.specs.Objects.{call, symbol_form, property_object}
-use Rattle.export_laws.proofs.There.{lisp_there, nil_there, pair_there, there_alone}
+use Rattle.text_laws.specs.Objects.{call, symbol_form, property_object}
+use Rattle.text_laws.proofs.There.{lisp_there, nil_there, pair_there, there_alone}
 
 module _ (names : List Name) (s : WorldState) (sound : packages.AreSoundPackages s.packages) where
   abbrev t : Table

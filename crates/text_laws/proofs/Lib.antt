@@ -1,0 +1,4 @@
+pub mod There
+pub mod One
+pub mod PartsRead
+pub mod Symbols

@@ -1,0 +1,2 @@
+-- forms as objects
+pub mod Objects
