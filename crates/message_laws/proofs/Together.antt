@@ -1,7 +1,8 @@
 -- Requests after one another, in one round or in batches.
 --     one_near, each_near      the next requests make the same of two rounds that are near
 --     cleared_left, cleared_last, cleared_tidy      a round without its position
---     StandsAt, batches_stand      batches, beside one round of all their requests
+--     cleared_silent, one_silent, one_least, nothing_done      a round in which no message wrote, and the last number
+--     StandsAt, closed_stands, batches_stand      batches, beside one round of all their requests
 use Rattle.std.proofs.Common.{◌≡◌, ℕ, Bool, true, false, ◌||◌, if◌then◌else◌, List, [], ◌∷◌, ◌++◌, Option, None, Some, is_some, unwrap_or, Result, Ok, Err, pos, length, codes, refl, sym, ap, subst, ◌∙◌, append_assoc, length-append, arith}
 use Rattle.std.specs.Prelude.{◌≤◌, ◌^◌, nat_le, nat_lt}
 use Rattle.std.specs.Option.{option_and_then}
@@ -13,6 +14,7 @@ use Rattle.plist_state.specs.State.{WorldState}
 use Rattle.plist_state.specs.Sound.{IsSoundWorldState}
 use Rattle.messages.specs.declared.request.Request.{Request}
 use Rattle.messages.specs.declared.request.TheConstants.{OLD_NUMBER}
+use Rattle.session_words.specs.declared.mode.Mode.{Mode}
 use Rattle.session_words.specs.declared.mode.Mode.TheVariants.{Current}
 use Rattle.prevalence_store.specs.calls.ExecuteAll.{logged_entries, world_left_after, told_of}
 use Rattle.prevalence_store.specs.meaning.Acceptance.{Acceptance, accepts, after, records_of}
@@ -22,7 +24,7 @@ use Rattle.messages.specs.Position.{number_of_object, position, position_propert
 use Rattle.messages.proofs.Positions.{position_out, position_put}
 use Rattle.prevalence_store.proofs.steps.Grouping.{one_replayed}
 use Rattle.user_macros.specs.Functions.{Functions}
-use Rattle.message_laws.specs.Batches.{IsAlike, BatchProgress, all_requests, at_first, in_batches, one_batch}
+use Rattle.message_laws.specs.Batches.{IsAlike, BatchProgress, all_requests, at_first, in_batches, one_batch, with_batch}
 use Rattle.message_laws.specs.NearRounds.{IsTidy, Near}
 use Rattle.message_laws.proofs.Tidy.{out_of_none, out_twice, sound_tidy, tidy_put, tidy_removed}
 use Rattle.message_laws.proofs.TidyForms.{given_tidy}
@@ -80,7 +82,7 @@ pub record More (n : ℕ) (a b later other : Round) : Type 0 where
   pub there : other.told ≡ b.told ++ told
   pub near : Near later other
 
-neither : (x y : Bool) → (x || y) ≡ false → (x ≡ false) × (y ≡ false)
+pub neither : (x y : Bool) → (x || y) ≡ false → (x ≡ false) × (y ≡ false)
 neither true y none = absurd (cc)
 neither false y none = (refl, none)
 
@@ -158,27 +160,27 @@ module _ (functions : Functions) where
   -- ---- a round in which no message wrote
 
   -- it has the world before it, but for the position
-  abbrev IsSilent : WorldState → Round → Type 0
+  abbrev pub IsSilent : WorldState → Round → Type 0
   IsSilent w r = r.wrote ≡ false → without_position r.left ≡ without_position w
 
-  nothing_done : (w : WorldState) (given : Result Acceptance ℕ) → after functions w (logged_entries Current given) ≡ Some (world_left_after w given) → wrote_by given ≡ false → world_left_after w given ≡ w
-  nothing_done w (Ok given) again none =
-      let here : Some w ≡ Some given.world = sym (ap (λ b. after functions w (records_of b Current given.text)) none) ∙ again in
+  pub nothing_done : (mode : Mode) (w : WorldState) (given : Result Acceptance ℕ) → after functions w (logged_entries mode given) ≡ Some (world_left_after w given) → wrote_by given ≡ false → world_left_after w given ≡ w
+  nothing_done mode w (Ok given) again none =
+      let here : Some w ≡ Some given.world = sym (ap (λ b. after functions w (records_of b mode given.text)) none) ∙ again in
       sym (ap (λ o. unwrap_or o w) here)
-  nothing_done w (Err number) again none = refl
+  nothing_done mode w (Err number) again none = refl
 
   module _ (w : WorldState) (r : Round) (tidy : IsTidy r.left.properties) (silent : IsSilent w r) where
-    cleared_silent : IsSilent w (without_its_position r)
+    pub cleared_silent : IsSilent w (without_its_position r)
     cleared_silent none =
         ap without_position (cleared_left r tidy) ∙ out_twice r.left position_symbol position_symbol tidy ∙ silent (sym (cleared_wrote r) ∙ none)
 
     message_silent : (number : ℕ) (text : List ℕ) → IsSilent w (with_message functions number text r)
     message_silent number text none =
         let parts = neither (without_its_position r).wrote (wrote_by (accepts functions (without_its_position r).left Current text)) none in
-        ap without_position (nothing_done (without_its_position r).left (accepts functions (without_its_position r).left Current text) (one_replayed functions Current (without_its_position r).left text).again parts.1)
+        ap without_position (nothing_done Current (without_its_position r).left (accepts functions (without_its_position r).left Current text) (one_replayed functions Current (without_its_position r).left text).again parts.1)
         ∙ cleared_silent parts.0
 
-    one_silent : (number : Option ℕ) (text : List ℕ) → IsSilent w (by_number functions r number text)
+    pub one_silent : (number : Option ℕ) (text : List ℕ) → IsSilent w (by_number functions r number text)
     one_silent None text = cleared_silent
     one_silent (Some number) text =
         elim (nat_le number r.last) as (λ b. IsSilent w (if b then with_old r else with_message functions number text r)) [ true ↦ silent | false ↦ message_silent number text ]
@@ -210,7 +212,7 @@ module _ (functions : Functions) where
   begun_again : (last n : ℕ) (w : WorldState) → (first_round last w).last ≤ n → (first_round n w).last ≡ n
   begun_again last n w least = omega (arith, least)
 
-  one_least : (number : Option ℕ) (text : List ℕ) (r : Round) → r.last ≤ (by_number functions r number text).last
+  pub one_least : (number : Option ℕ) (text : List ℕ) (r : Round) → r.last ≤ (by_number functions r number text).last
   one_least None text r = omega (arith, cleared_last r)
   one_least (Some number) text r =
       elim (nat_le number r.last) as (λ b. nat_le number r.last ≡ b → r.last ≤ (if b then with_old r else with_message functions number text r).last) [
@@ -261,18 +263,22 @@ module _ (functions : Functions) where
         raised = raised;
       }
 
-  pub one_stands : (batch : List Request) (far : Round) (now : BatchProgress) → StandsAt far now → StandsAt (each_request functions far batch) (one_batch functions now batch)
-  one_stands batch far now stands =
-      let before = first_round now.last now.world in
-      let more = each_near batch far before stands.near in
-      let r = each_request functions before batch in
-      let done = closed_near now.world now.last (each_request functions far batch) r r.wrote refl stands.near.other_tidy (each_silent batch now.world before stands.near.other_tidy (λ _. refl))
-      (each_least batch before) more.near in
+  -- what was answered beside it, and is closed, stands where it does
+  pub closed_stands : (n : ℕ) (far later : Round) (now : BatchProgress) (r : Round) → StandsAt far now → More n far (first_round now.last now.world) later r → IsSilent now.world r
+      → (first_round now.last now.world).last ≤ r.last → StandsAt later (with_batch now (with_its_position r))
+  closed_stands n far later now r stands more silent least =
+      let done = closed_near now.world now.last later r r.wrote refl stands.near.other_tidy silent least more.near in
       record {
         told = more.here ∙ (λ i. stands.told i ++ sym (done.told ∙ more.there) i);
         near = done.near;
         raised = done.raised;
       }
+
+  pub one_stands : (batch : List Request) (far : Round) (now : BatchProgress) → StandsAt far now → StandsAt (each_request functions far batch) (one_batch functions now batch)
+  one_stands batch far now stands =
+      let before = first_round now.last now.world in
+      closed_stands (length batch) far (each_request functions far batch) now (each_request functions before batch) stands (each_near batch far before stands.near)
+      (each_silent batch now.world before stands.near.other_tidy (λ _. refl)) (each_least batch before)
 
   pub batches_stand : (batches : List (List Request)) (far : Round) (now : BatchProgress) → StandsAt far now → StandsAt (each_request functions far (all_requests batches)) (in_batches functions now batches)
   batches_stand [] far now stands = stands

@@ -4,7 +4,7 @@
 --     IsAt, at_first      how far they have come
 --     at_next, at_last, at_none_left, at_fault      the next of them; the last one; where there is no more; and where one is not answered
 --     first_answered, most_answered, some_answered, by_world      what is said of the first of them
---     last_there      the last answer
+--     last_there, last_text      the last answer
 use Rattle.std.proofs.Common.{◌≡◌, ◌≢◌, ℕ, ◌+◌, ◌-◌, ◌<◌, ◌≤◌, nat_le, ◌==◌, Bool, true, false, if◌then◌else◌, List, [], ◌∷◌, ◌++◌, length, map, take, drop, get_or, sum_by, is_some, option_map, slice_get, Option, None, Some, Result, Ok, Err, IfOk, refl, sym, ap, subst, ◌∙◌, inl, arith, lit<}
 use Rattle.std.proofs.lemmas.Bool.{eq-eqb, leb-false, leb-true, ne_eqb}
 use Rattle.std.proofs.lemmas.List.{append-nil, append_assoc, drop_all, drop_more, length-append, length-map, take_more}
@@ -272,6 +272,10 @@ abbrev length_of : Option (List ℕ × Bool) → ℕ
 length_of None = 0
 length_of (Some answer) = length answer.0
 
+abbrev text_of : Option (List ℕ × Bool) → List ℕ
+text_of None = []
+text_of (Some answer) = answer.0
+
 module _ (items : List Answer) (told : List (List ℕ × Bool)) (answer : List ℕ × Bool) (is : map told_in items ≡ told ++ answer ∷ []) where
   last_told : option_map told_in (slice_get items (length items - 1)) ≡ Some answer
   last_told =
@@ -283,3 +287,6 @@ module _ (items : List Answer) (told : List (List ℕ × Bool)) (answer : List �
 
   pub last_there : (last : Answer) → Some last ≡ slice_get items (length items - 1) → length last.text.items ≡ length answer.0
   last_there last found = ap length_of (ap (option_map told_in) found ∙ last_told)
+
+  pub last_text : (last : Answer) → Some last ≡ slice_get items (length items - 1) → last.text.items ≡ answer.0
+  last_text last found = ap text_of (ap (option_map told_in) found ∙ last_told)

@@ -1,5 +1,6 @@
 -- The records of requests make the world after them, and fit the log.
 --     given_made      one message more
+--     form_made, form_round      a form more that is no message
 --     own_made      a form of the store's own more
 --     own_effect, own_not_refused      what such a form does
 use Rattle.std.proofs.Common.{◌≡◌, ℕ, ◌+◌, ◌≤◌, nat_lt, Bool, true, false, ◌||◌, if◌then◌else◌, List, [], ◌∷◌, ◌++◌, length, map, Option, None, Some, IsSome, pos, Result, Ok, Err, OnOk, refl, sym, ap, subst, ◌∙◌, arith}
@@ -28,10 +29,11 @@ use Rattle.messages.specs.declared.own.Own.TheVariants.{Clearing, Position}
 use Rattle.messages.specs.declared.request.Request.{Request}
 use Rattle.messages.specs.declared.round.Round.{Round as Held}
 use Rattle.prevalence_store.specs.declared.outcome.Outcome.{Outcome}
+use Rattle.session_words.specs.declared.mode.Mode.{Mode}
 use Rattle.session_words.specs.declared.mode.Mode.TheVariants.{Current, Rescue}
 use Rattle.prevalence_store.specs.meaning.Acceptance.{Acceptance, accepts, after, accepted_record, records_of, transaction_value}
 use Rattle.prevalence_store.specs.calls.ExecuteAll.{logged_entries, world_left_after, told_by, told_of}
-use Rattle.messages.specs.Answers.{Round, answer_in, answer_to_question, after_question, by_number, without_its_position, given_in, one_request, with_answer, with_asked, with_given, with_message, with_old, with_own, wrote_by}
+use Rattle.messages.specs.Answers.{Round, answer_in, answer_to_question, after_question, by_number, without_its_position, given_in, one_request, with_answer, with_asked, with_form_given, with_given, with_message, with_old, with_own, wrote_by}
 use Rattle.messages.specs.Position.{own_form, own_left, own_text, position_property, with_position, without_position}
 use Rattle.messages.specs.Rounds.{MayBeLogged, IsNeeded, IsOwnForm, round_in, told_in}
 use Rattle.prevalence_store.specs.steps.Batch.{IsNotAdded, entries_in}
@@ -123,6 +125,12 @@ module _ (functions : Functions) where
         let made = entries_made (logged_entries Current (accepts functions round.left Current text)) _ one.again one.fit in
         record { again = made.0; fit = made.1 }
 
+    pub form_made : (text : List ℕ) → MayBeLogged functions w (with_form_given (accepts functions round.left Rescue text) round)
+    form_made text =
+        let one = one_replayed functions Rescue round.left text in
+        let made = entries_made (logged_entries Rescue (accepts functions round.left Rescue text)) _ one.again one.fit in
+        record { again = made.0; fit = made.1 }
+
     pub own_made : (own : Own) → after functions round.left (accepted_record Rescue (own_text own) ∷ []) ≡ Some (own_left own round.left)
         → AllByRecursion IsLogRecord (accepted_record Rescue (own_text own) ∷ []) → MayBeLogged functions w (with_own own round)
     own_made own again fit =
@@ -167,16 +175,16 @@ module _ (functions : Functions) where
 -- ---- answers
 
 -- whether a text wrote shows in how many records there are
-wrote_shown : (given : Result Acceptance ℕ) (old new : List LogRecord) → new ≡ old ++ logged_entries Current given → nat_lt (length old) (length new) ≡ wrote_by given
-wrote_shown (Ok given) old new is = by given.wrote refl where
+wrote_shown : (mode : Mode) (given : Result Acceptance ℕ) (old new : List LogRecord) → new ≡ old ++ logged_entries mode given → nat_lt (length old) (length new) ≡ wrote_by given
+wrote_shown mode (Ok given) old new is = by given.wrote refl where
   by : (b : Bool) → given.wrote ≡ b → nat_lt (length old) (length new) ≡ b
   by true wrote =
-      let longer : length new ≡ length old + 1 = ap length is ∙ length-append old (logged_entries Current (Ok given)) ∙ ap (λ (b : Bool). length old + length (records_of b Current given.text)) wrote in
+      let longer : length new ≡ length old + 1 = ap length is ∙ length-append old (logged_entries mode (Ok given)) ∙ ap (λ (b : Bool). length old + length (records_of b mode given.text)) wrote in
       lt-ltb (length old) (length new) (omega (arith, longer))
   by false wrote =
-      let same : length new ≡ length old + 0 = ap length is ∙ length-append old (logged_entries Current (Ok given)) ∙ ap (λ (b : Bool). length old + length (records_of b Current given.text)) wrote in
+      let same : length new ≡ length old + 0 = ap length is ∙ length-append old (logged_entries mode (Ok given)) ∙ ap (λ (b : Bool). length old + length (records_of b mode given.text)) wrote in
       le-ltb (length old) (length new) (omega (arith, same))
-wrote_shown (Err number) old new is =
+wrote_shown mode (Err number) old new is =
     let same : length new ≡ length old + 0 = ap length is ∙ length-append old [] in
     le-ltb (length old) (length new) (omega (arith, same))
 
@@ -187,12 +195,29 @@ pub given_round : (held : Held) (batch : Batch) (outcome : Outcome) (w v : World
     → with_answer text (nat_lt kept now) (round_in (record held { batch = batch; last = number; wrote = both }) v) ≡ with_given number given (round_in held w)
 given_round held batch outcome w v given number text kept now both kept_is now_is both_is turn text_is =
     let wrote : nat_lt kept now ≡ wrote_by given =
-    ap (λ n. nat_lt n now) kept_is ∙ ap (nat_lt (length (entries_in held.batch))) now_is ∙ wrote_shown given (entries_in held.batch) (entries_in batch) turn.entries in
+    ap (λ n. nat_lt n now) kept_is ∙ ap (nat_lt (length (entries_in held.batch))) now_is ∙ wrote_shown Current given (entries_in held.batch) (entries_in batch) turn.entries in
     let answer : text ≡ answer_in (world_left_after w given) (told_of given) = text_is ∙ (λ i. answer_in (turn.left i) (turn.told i)) in
     let any : both ≡ (held.wrote || wrote_by given) = both_is ∙ ap (λ (b : Bool). held.wrote || b) wrote in
     λ i. record {
       told = map told_in held.answers.items ++ (answer i, wrote i) ∷ [];
       last = number;
+      left = turn.left i;
+      entries = turn.entries i;
+      wrote = any i;
+    }
+
+-- a form that is no message, and was evaluated
+pub form_round : (held : Held) (batch : Batch) (outcome : Outcome) (w v : WorldState) (given : Result Acceptance ℕ) (kept now : ℕ) (both : Bool)
+    → kept ≡ length (entries_in held.batch) → now ≡ length (entries_in batch) → both ≡ (held.wrote || nat_lt kept now)
+    → IsTurn Rescue given w v (entries_in held.batch) (entries_in batch) outcome
+    → round_in (record held { batch = batch; wrote = both }) v ≡ with_form_given given (round_in held w)
+form_round held batch outcome w v given kept now both kept_is now_is both_is turn =
+    let wrote : nat_lt kept now ≡ wrote_by given =
+    ap (λ n. nat_lt n now) kept_is ∙ ap (nat_lt (length (entries_in held.batch))) now_is ∙ wrote_shown Rescue given (entries_in held.batch) (entries_in batch) turn.entries in
+    let any : both ≡ (held.wrote || wrote_by given) = both_is ∙ ap (λ (b : Bool). held.wrote || b) wrote in
+    λ i. record {
+      told = map told_in held.answers.items;
+      last = held.last;
       left = turn.left i;
       entries = turn.entries i;
       wrote = any i;

@@ -1,5 +1,5 @@
 -- What is answered to messages and questions one after the other, and what comes of them.
-use Rattle.std.specs.Prelude.{ℕ, ◌==◌, nat_le, max, Bool, false, ◌||◌, if◌then◌else◌, List, [], ◌∷◌, ◌++◌, fold, Option, None, Some, is_some, unwrap_or, Result, Ok, Err, codes}
+use Rattle.std.specs.Prelude.{ℕ, ◌==◌, nat_le, max, Bool, false, true, ◌||◌, if◌then◌else◌, List, [], ◌∷◌, ◌++◌, fold, Option, None, Some, is_some, unwrap_or, Result, Ok, Err, codes}
 use Rattle.std.specs.Prelude.{decimal}
 use Rattle.std.specs.Prelude.{length}
 use Rattle.canon_printer.specs.Printed.{printed}
@@ -9,6 +9,8 @@ use Rattle.lisp_object.specs.Refusal.{name_of}
 use Rattle.lisp_object.specs.declared.refusal.TheConstants.{END_OF_FILE, TEXT_LEFT_OVER}
 use Rattle.lisp_operators.specs.Evaluation.{Evaluation}
 use Rattle.lisp_reading.specs.Reading.{Outcome as Reading, form, empty, refused}
+use Rattle.plist_state.specs.Changes.{with_property}
+use Rattle.plist_state.specs.Properties.{Symbol}
 use Rattle.plist_state.specs.State.{WorldState}
 use Rattle.messages.specs.declared.request.Request.{Request}
 use Rattle.messages.specs.declared.request.TheConstants.{OLD_NUMBER, QUESTION_WRITES}
@@ -96,6 +98,18 @@ with_given number given round = record {
   left = world_left_after round.left given;
   entries = round.entries ++ logged_entries Current given;
   wrote = round.wrote || wrote_by given;
+}
+
+-- a form more that is no message, by what it gives in Rescue: its records are logged with those of the messages
+abbrev pub with_form_given : Result Acceptance ℕ → Round → Round
+with_form_given given round = record round { left = world_left_after round.left given; entries = round.entries ++ logged_entries Rescue given; wrote = round.wrote || wrote_by given }
+
+-- a property of a symbol more, and the record of a form that sets it
+abbrev pub with_set : Symbol → Symbol → Object → List ℕ → Round → Round
+with_set owner indicator value text round = record round {
+  left = with_property round.left owner indicator value;
+  entries = round.entries ++ accepted_record Rescue text ∷ [];
+  wrote = true;
 }
 
 -- a message is carried out in a world without the position

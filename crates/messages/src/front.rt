@@ -75,8 +75,8 @@ impl Round {
         Ok(())
     }
 
-    // How many bytes the last answer has.
-    fn last_length(&self) -> usize
+    /// How many bytes the last answer has.
+    pub fn last_length(&self) -> usize
         ensures { (told : List (List ℕ × Bool)) (answer : List ℕ × Bool)
             → map told_in self.now.answers.items ≡ told ++ answer ∷ []
             → result ≡ length answer.0 }
@@ -87,9 +87,9 @@ impl Round {
         }
     }
 
-    // Makes the number of the last message the position, if a message wrote.
+    /// Makes the number of the last message the position, if a message wrote.
     #[tactic(auto, using(crate::proofs::Owned::not_closed))]
-    fn close<R: MacroFunctions>(
+    pub fn close<R: MacroFunctions>(
         &mut self,
         world: &mut World,
         macros: &WholeMacros<R>,

@@ -17,11 +17,15 @@
 //! - `place`: the property that is the position; `own`: the store's own forms, by which it is changed
 //! - `round`: requests that are answered one after the other, and logged together; `front`: until their answers have so many bytes;
 //!   `first_requests`: as a turn
+//! - `more`: what a crate above needs to answer requests of its own in a round (`Round`): forms that are no messages
 //! - `ask`: a question
 //!
 //! # Laws for the crates above
 //!
-//! - proofs/Positions.antt: the position as a property (`position_put`, `position_out`).
+//! - proofs/Positions.antt: the position as a property (`position_put`, `position_out`). proofs/Shapes.antt: lists of two or three data
+//!   (`of_two`, `of_three`). proofs/Making.antt: the records of a round (`form_made`).
+//! - proofs/Fronts.antt: requests that are answered one after the other (`one_answer`); proofs/Owned.antt: which number is that of a device
+//!   fault (`no_device`).
 //! - proofs/Settling.antt: what is left of requests that are not answered (`unchanged_or_failed`).
 #![tactic(auto)]
 
@@ -30,6 +34,7 @@ mod calls;
 mod first_requests;
 mod front;
 mod laws;
+mod more;
 mod own;
 mod place;
 mod request;
@@ -38,6 +43,9 @@ mod texts;
 
 pub use calls::{answer_first_requests, answer_requests, begin_messages, position};
 pub use laws::refusals_have_causes;
+pub use place::number_of;
 pub use request::{
     ANSWER_BYTES, Answer, NO_POSITION, OLD_NUMBER, QUESTION_WRITES, Replies, Request,
 };
+pub use round::Round;
+pub use texts::{text_of_number, text_of_refusal};

@@ -47,6 +47,9 @@ impl PositionPlace {
     pub(crate) fn is_taken(&self, world: &World) -> bool
         ensures { result ≡ is_some (position_property world.now.0) }
     {
+        if world.plist(&self.symbol).is_empty() {
+            return false;
+        }
         self.value(world).is_some()
     }
 
@@ -73,8 +76,8 @@ impl PositionPlace {
     }
 }
 
-// The number of 64 bits that a datum is.
-fn number_of(datum: &Datum) -> Option<u64>
+/// The number of 64 bits that a datum is.
+pub fn number_of(datum: &Datum) -> Option<u64>
     requires { is_proper datum.now ≡ true }
     ensures { result ≡ number_of_object (object_of datum.now) }
 {

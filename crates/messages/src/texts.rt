@@ -26,11 +26,7 @@ pub(crate) fn text_of_value(
 }
 
 /// A refusal of this number and name.
-pub(crate) fn text_of_refusal(
-    alloc: Global,
-    number: u16,
-    name: &[u8],
-) -> Result<Vec<u8>, AllocError>
+pub fn text_of_refusal(alloc: Global, number: u16, name: &[u8]) -> Result<Vec<u8>, AllocError>
     ensures { IfOk result (λ text. text.items ≡ refusal_text number name.now) }
 {
     let digits = number.to_string(alloc)?;
@@ -42,7 +38,7 @@ pub(crate) fn text_of_refusal(
 }
 
 /// A refusal of a form.
-pub(crate) fn text_of_number(alloc: Global, number: u16) -> Result<Vec<u8>, AllocError>
+pub fn text_of_number(alloc: Global, number: u16) -> Result<Vec<u8>, AllocError>
     ensures { IfOk result (λ text. text.items ≡ refusal_answer number) }
 {
     text_of_refusal(alloc, number, name_of(number).as_bytes())
