@@ -2,12 +2,13 @@
 use Rattle.std.specs.Prelude.{◌≡◌, ◌⊎◌, ℕ, Bool, List, Option}
 use Rattle.disk_trait.specs.Disk.{State}
 use Rattle.message_session.specs.Account.{MessageAccount}
-use Rattle.message_session.specs.Sessions.{ServesMessages}
+use Rattle.message_session.specs.Sessions.{ServesMessages, message_end_after_cut}
 use Rattle.message_session.specs.Standing.{AcknowledgesNoFrame}
 use Rattle.message_session.specs.declared.ended.Ended.{Ended}
 use Rattle.message_session.specs.declared.ended.Ended.TheVariants as way
 use Rattle.prevalence_store.specs.calls.Open.{IsOpened, IsUnopened}
 use Rattle.prevalence_store.specs.calls.Store.{StoreView}
+use Rattle.prevalence_store.specs.calls.Zeros.{TriesToCutZeros}
 use Rattle.store_commands.specs.Commands.{IsUntouched}
 use Rattle.store_commands.specs.Session.{half_limit}
 use Rattle.store_commands.specs.declared.status.Status.{Status}
@@ -20,13 +21,18 @@ session_status way.End = Done
 session_status (way.NoFrame place) = FormRefused
 session_status (way.Fault number) = Fault number
 
--- The store that a disk holds was opened with these macro functions, it served the frames of the input, and it was closed: this is its disk.
--- A recipient that keeps account has this one at the end.
+-- The store that a disk holds was opened with these macro functions, and it served the frames of the input. It may have written zeros ahead,
+-- which were cut then, and it was closed: this is its disk. What failed in the cut is how the session ended. A recipient
+-- that keeps account has this one at the end.
 pub record IsMessageSession (functions : Functions) {D R : Type 0} (state : D → State) (disk : D) (macros : R) (had has held written : Option (List ℕ)) (account : Option (MessageAccount D)) (ended : Ended) (back : D) : Type 0 where
   pub opened : StoreView D R
   pub is_opened : IsOpened functions state disk macros half_limit opened
+  pub served : StoreView D R
+  pub served_ended : Ended
+  pub serves : ServesMessages functions state opened served is_opened.world had has held written served_ended
   pub closed : StoreView D R
-  pub serves : ServesMessages functions state opened closed is_opened.world had has held written ended
+  pub cuts : TriesToCutZeros functions state served closed
+  pub ended_is : ended ≡ message_end_after_cut cuts.result served_ended
   pub under_way : AcknowledgesNoFrame functions state account closed
   pub disk_is : back ≡ closed.disk
 

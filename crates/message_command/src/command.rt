@@ -134,9 +134,16 @@ where
     match opening.open() {
         Ok(store) => {
             let mut store = store;
+            // a snapshot leaves the half that was in use as it is, with zeros behind it
+            store.write_zeros_ahead(if snapshot_every == 0 { u64::MAX } else { 0 });
+            let (generation, records) = (store.generation(), store.record_count());
             let ended = serve_messages(alloc, &mut store, input, output, snapshot_every);
+            // zeros come with the second record
+            let more = store.record_count() > records.saturating_add(1);
+            let wrote = more | (store.generation() != generation);
+            let cut = store.cut_zeros(wrote);
             let (disk, _macros) = store.close();
-            (ended, disk)
+            (ended.after_cut(cut), disk)
         }
         Err(unopened) => (Ended::Fault(unopened.number), unopened.disk),
     }

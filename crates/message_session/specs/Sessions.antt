@@ -1,5 +1,5 @@
 -- How a session of messages goes, and how it ends.
-use Rattle.std.specs.Prelude.{ℕ, ◌+◌, ◌≡◌, ◌≢◌, ◌⊎◌, List, [], ◌++◌, length, Option, Some, Ok, Err}
+use Rattle.std.specs.Prelude.{ℕ, ◌+◌, ◌≡◌, ◌≢◌, ◌⊎◌, ◌==◌, if◌then◌else◌, List, [], ◌++◌, length, Option, Some, Result, Ok, Err}
 use Rattle.std.specs.Io.KnownBytes.{Consumes, IsAtEnd}
 use Rattle.std.specs.List.{flat_map}
 use Rattle.disk_trait.specs.Disk.{State}
@@ -200,3 +200,9 @@ module _ (functions : Functions) {D R : Type 0} (state : D → State) where
 -- A session over a store that has met a device fault does nothing.
 abbrev pub SessionAsksToReopen : {D R I O : Type 0} → (old new : StoreView D R) → (input left : I) → (held written : O) → Ended → Type 0
 SessionAsksToReopen old new input left held written ended = (ended ≡ Fault REOPEN) × (new ≡ old) × (left ≡ input) × (written ≡ held)
+
+-- How a session ended, where zeros were cut behind the half in use after it: with the number of what failed there, else as it ended. A store
+-- that met a device fault before cuts nothing.
+abbrev pub message_end_after_cut : Result Unit ℕ → Ended → Ended
+message_end_after_cut (Ok done) ended = ended
+message_end_after_cut (Err number) ended = if number == REOPEN then ended else Fault number

@@ -3,4 +3,5 @@ pub mod LeftAlone
 pub mod Telling
 pub mod Executing
 pub mod Snapshotting
+pub mod CuttingZeros
 pub mod Running

@@ -2,6 +2,7 @@
 pub mod Store
 pub mod Execute
 pub mod Snapshot
+pub mod Zeros
 pub mod Run
 pub mod ExecuteAll
 pub mod Open

@@ -7,7 +7,7 @@
 //! - *What a call survives* (`Survives`): a crash at any moment of the call, inside a device call too, leaves files that mean
 //!   the world after some of the forms that the call took, in order, from the first on; once it has ended, at least after
 //!   those that it acknowledged. `execute` takes its one form, and acknowledges it if it answers `Accepted`; `run` takes those of its
-//!   steps; `snapshot` and `close` take none.
+//!   steps; `snapshot`, `cut_zeros` and `close` take none.
 //! - *Between calls* (`Store::keeps_its_world`): whatever a crash leaves while a store is in no call means the world that it has.
 //! - *What opening gives* (`Reopens`): if the files mean a world, `Store::open` gives that world, or a refusal that is no
 //!   word on the files. While it opens, a crash leaves what the files might have meant before. A refusal gives the disk back.
@@ -31,11 +31,12 @@
 //!   none, each with its cause (`IsMade`, `IsNotMade`). All calls above that log a form are turns. Of what a turn makes, nothing is answered
 //!   before it is stored.
 //! - `Store::visit` shows the world to a guest, who may evaluate there, and leaves it as it is (`Visit`).
+//! - `Store::write_zeros_ahead` has the log write zeros behind its half, and `Store::cut_zeros` cuts them again (`CutsZeros`).
 //! - `refusal_name` gives the name of a refusal by its number, empty for a number that is none.
 //!
 //! # Modules
 //!
-//! - `store` with `open`, `execute`, `execute_all`, `snapshot` and `run`: the store. `batch`: forms that are evaluated one after the other
+//! - `store` with `open`, `execute`, `execute_all`, `snapshot`, `zeros` and `run`: the store. `batch`: forms that are evaluated one after the other
 //!   and logged together, one or many, all or none; `log`: the halves of `gate_log`, and whether the device has failed. `group`
 //!   adds texts to a batch;
 //!   `replay` makes the world again from the records of a log. `named` carries SETF of a property out from the text of a record;
@@ -55,6 +56,7 @@
 //! - proofs/calls/Executing.antt: what is known of a store that is open (`known_world`), and of a form that was read (`form_places`,
 //!   `own_whole`); proofs/calls/LeftAlone.antt: a half that is left alone (`alone_both`, `alone_still`); proofs/calls/Running.antt: the
 //!   world after a form (`stores_left`).
+//! - proofs/calls/CuttingZeros.antt: what was done before zeros were cut is all that was done (`cut_after`).
 //! - proofs/meaning/Replaying.antt: the replay of records; proofs/meaning/Covering.antt: the world that files mean names known macro
 //!   functions alone; proofs/meaning/Numbered.antt: the numbers with which a text is refused;
 //!   proofs/meaning/Transactions.antt: a form that is not FORGET-NAMES is what form_eval says (`not_forgetting`, `no_operator`);

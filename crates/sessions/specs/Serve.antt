@@ -5,13 +5,13 @@
 -- `ServesInput` is all of these over a reader, and `ServesWanted`, which contracts cite, adds places and strict sessions.
 --
 -- There `lines` is how many forms were answered, and `lines` of a `Progress` their bytes; `taken` are the records of the forms that wrote.
-use Rattle.std.specs.Prelude.{◌≡◌, ◌≢◌, ◌⊎◌, ℕ, zero, suc, ◌+◌, ◌-◌, ◌<◌, ◌≤◌, max, List, [], ◌∷◌, ◌++◌, length, take, drop, Option, Some, Err, Bool, true, false}
+use Rattle.std.specs.Prelude.{◌≡◌, ◌≢◌, ◌⊎◌, ℕ, zero, suc, ◌+◌, ◌-◌, ◌<◌, ◌≤◌, ◌==◌, if◌then◌else◌, max, List, [], ◌∷◌, ◌++◌, length, take, drop, Option, Some, Result, Ok, Err, Bool, true, false}
 use Rattle.std.specs.List.{sum_by}
 use Rattle.disk_trait.specs.Disk.{State, IsHonest}
 use Rattle.disk_trait.specs.Half.{opposite_of}
 use Rattle.disk_trait.specs.declared.half.Half.{Half}
 use Rattle.gate_log.specs.Layout.{Contents, LogRecord, with_records, written_version}
-use Rattle.lisp_object.specs.declared.refusal.TheConstants.{DEVICE, LOG_FULL, SNAPSHOT_TOO_LARGE, INPUT, OUTPUT, NO_MEMORY}
+use Rattle.lisp_object.specs.declared.refusal.TheConstants.{DEVICE, LOG_FULL, REOPEN, SNAPSHOT_TOO_LARGE, INPUT, OUTPUT, NO_MEMORY}
 use Rattle.session_words.specs.declared.mode.Mode.{Mode}
 use Rattle.sessions.specs.declared.ending.Ended.{Ended}
 use Rattle.sessions.specs.declared.ending.Ended.TheVariants as ways
@@ -369,3 +369,11 @@ ServesWanted functions state wanted old new world had has held written (ways.Una
 ServesWanted functions state wanted old new world had has held written (ways.Store number) =
     (served : ServesInput functions state wanted.group (pace_wanted wanted) old new world wanted.mode had has held written (Store number))
     × (wanted.strict ≡ true → AreAccepted served.serves.forms served.serves.lines served.serves.far served.serves.answered)
+
+-- ---- after a session
+
+-- How it ended, where zeros were cut behind the half in use: with the number of what failed there, else as it ended. A store that met a
+-- device fault before cuts nothing.
+abbrev pub ended_after_cut : Result Unit ℕ → Ended → Ended
+ended_after_cut (Ok done) ended = ended
+ended_after_cut (Err number) ended = if number == REOPEN then ended else ways.Store number

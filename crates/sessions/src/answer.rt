@@ -174,7 +174,7 @@ pub(crate) fn answer_form<D: Disk, R: MacroFunctions, W: Recipient<D, R>>(
     ensures first { W.first writer.new ≡ W.first writer.old }
     ensures honest { (D.state store.new.disk).honest ≡ (D.state store.old.disk).honest }
 {
-    match fit_form(store, writer, mode, form) {
+    match fit_form(store, writer, mode, form, schedule.ratio) {
         Ok(answered) => match renew_after_form(store, schedule, answered.is_logged()) {
             None => Ok(answered),
             Some(number) => Err(number),
@@ -190,6 +190,7 @@ fn fit_form<D: Disk, R: MacroFunctions, W: Recipient<D, R>>(
     writer: &mut W,
     mode: Mode,
     form: &SessionForm<'_>,
+    ratio: u64,
 ) -> Result<Answered, u16>
     requires form { IsFormOf R.Meaning.functions store.old.world mode form.now.read.now form.now.own.now }
     requires stands { StandsAtForm R.Meaning.functions D.state (W.account writer.old) store.old
@@ -213,7 +214,7 @@ fn fit_form<D: Disk, R: MacroFunctions, W: Recipient<D, R>>(
                 return Err(number);
             }
             // a half that was just begun holds the text of the world alone: what does not fit there fits nowhere
-            if let Err(number) = renew(store) {
+            if let Err(number) = renew(store, ratio) {
                 return Err(number);
             }
             try_form(store, writer, mode, form)

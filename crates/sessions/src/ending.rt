@@ -1,6 +1,9 @@
 // How a session ends, and where.
 ghost use Rattle.std.specs.Prelude.{◌≡◌};
+ghost use Rattle.sessions.specs.Serve.{ended_after_cut};
 ghost use Rattle.sessions.specs.steps.Serve.{ended_at};
+
+use lisp_object::refusal::REOPEN;
 
 /// How a session ended.
 #[derive(Clone, Copy, Debug, PartialEq, Eq)]
@@ -50,4 +53,23 @@ pub enum Ended {
     Unaccepted(u16, Place),
     /// At a fault of the store, the input or the output, with its number, which was not answered.
     Store(u16),
+}
+
+impl Ended {
+    /// How a session ended after which zeros were cut behind the half in use (`cut_zeros` of prevalence_store): with the number of what
+    /// failed there, else as it ended. A store that met a device fault before cuts nothing.
+    pub fn after_cut(self, cut: Result<(), u16>) -> Ended
+        ensures { result ≡ ended_after_cut cut self }
+    {
+        match cut {
+            Ok(()) => self,
+            Err(number) => {
+                if number == REOPEN {
+                    self
+                } else {
+                    Ended::Store(number)
+                }
+            }
+        }
+    }
 }

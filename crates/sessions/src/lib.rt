@@ -54,5 +54,6 @@ mod whole_forms;
 pub use ending::{Ended, Ending, Place};
 pub use laws::what_is_answered_is_stored;
 pub use recipient::{OutputFault, Recipient, SessionForm};
+pub use schedule::write_zeros_ahead;
 pub use serving::{serve, serve_wanted};
 pub use session_words::{Mode, Wanted};

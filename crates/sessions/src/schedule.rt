@@ -7,6 +7,7 @@ ghost use Rattle.sessions.specs.steps.Schedule.{CountsAll, IsBeforeDue, IsBefore
 use disk_trait::Disk;
 use lisp_object::refusal::SNAPSHOT_TOO_LARGE;
 use prevalence_store::{Outcome, Store};
+use session_words::Wanted;
 use user_macros::MacroFunctions;
 
 /// The least size of a half that has grown enough for a snapshot.
@@ -97,6 +98,30 @@ fn bytes_before_grown(ratio: u64, size: u64, first_size: u64) -> u64
     }
 }
 
+/// The offset at which the half in use has grown so many times; that of no file if it never has.
+fn grown_at<D: Disk, R: MacroFunctions>(store: &Store<D, R>, ratio: u64) -> u64
+    ensures { (size : ℕ) → size < 2 ^ 64 → HasGrown ratio size store.now.first_size → result ≤ size }
+{
+    match grown_size(ratio, store.first_size()) {
+        Some(least) => least,
+        None => u64::MAX,
+    }
+}
+
+/// Has a store write zeros ahead as a session may that is wanted so. Where a snapshot is due after so many forms, none: it leaves the half
+/// that was in use as it is, with the zeros behind it. Where one is due once the half has grown, none from there on, so that then there are
+/// none behind it.
+pub fn write_zeros_ahead<D: Disk, R: MacroFunctions>(store: &mut Store<D, R>, wanted: Wanted)
+    ensures { store.new ≡ store.old }
+{
+    let end = if wanted.snapshot_every == 0 {
+        grown_at(store, wanted.snapshot_ratio)
+    } else {
+        0
+    };
+    store.write_zeros_ahead(end);
+}
+
 // Whether the half in use has grown so many times.
 fn has_grown<D: Disk, R: MacroFunctions>(store: &Store<D, R>, ratio: u64) -> bool
     ensures { IsTrue result ↔ HasGrown ratio (fill_of store.now).size (fill_of store.now).first_size }
@@ -136,15 +161,18 @@ pub(crate) fn renew_after_form<D: Disk, R: MacroFunctions>(
     if !counted && !has_grown(store, schedule.ratio) {
         return None;
     }
-    match renew(store) {
+    match renew(store, schedule.ratio) {
         Ok(()) => None,
         Err(SNAPSHOT_TOO_LARGE) => None,
         Err(number) => Some(number),
     }
 }
 
-/// Takes a snapshot, or gives the number of its refusal.
-pub(crate) fn renew<D: Disk, R: MacroFunctions>(store: &mut Store<D, R>) -> Result<(), u16>
+/// Takes a snapshot, or gives the number of its refusal. If zeros are written ahead, they end where the new half has grown so many times.
+pub(crate) fn renew<D: Disk, R: MacroFunctions>(
+    store: &mut Store<D, R>,
+    ratio: u64,
+) -> Result<(), u16>
     requires is_open { IsSome store.old.world }
     ensures renews { (w : WorldState) → store.old.world ≡ Some w
         → Renewing R.Meaning.functions D.state store.old store.new w result }
@@ -152,6 +180,10 @@ pub(crate) fn renew<D: Disk, R: MacroFunctions>(store: &mut Store<D, R>) -> Resu
 {
     match store.snapshot() {
         Outcome::Refused(number) => Err(number),
-        Outcome::Accepted(_) | Outcome::Snapshotted => Ok(()),
+        Outcome::Accepted(_) | Outcome::Snapshotted => {
+            let end = grown_at(store, ratio);
+            store.end_zeros_at(end);
+            Ok(())
+        }
     }
 }

@@ -17,7 +17,7 @@ use Rattle.sessions.specs.Pace.{Pace}
 use Rattle.prevalence_store.specs.calls.Open.{fault_number}
 use Rattle.lisp_object.specs.Object.{Object}
 use Rattle.lisp_operators.specs.Evaluation.{Evaluation}
-use Rattle.lisp_reading.specs.Reading.{empty, refused}
+use Rattle.lisp_reading.specs.Reading.{Outcome as Reading, empty, refused}
 use Rattle.sessions.specs.Answers.{Progress, after_forms, first_progress, form_progress, last_line, one_form, one_form_more, onward, refusal_line}
 use Rattle.sessions.specs.Serve.{IsUnaccepted, Serves, ServesInput, ServesWanted}
 use Rattle.prevalence_store.specs.calls.Store.{StoreView}
@@ -157,6 +157,43 @@ module _ (functions : Functions) (mode : Mode) where
           ]
         ]
 
+    -- what a session wrote that answered all is a first part of the answers too
+    broken_done : {group : Bool} {pace : Pace} → ServesInput functions state group pace old new w mode had has held_now written End → (input held : List ℕ) → had ≡ Some input → held_now ≡ Some held
+        → IsBrokenOff functions mode input held written
+    broken_done served input held left holds =
+        let done = done_input served input held left holds in
+        record {
+          world = w;
+          read = input;
+          left = [];
+          parts = sym (append-nil input);
+          forms = done.0.forms;
+          far = done.0.far;
+          far_is = done.0.far_is;
+          front = done.0.far.lines ++ [];
+          unwritten = last_line (read_in functions done.0.far.world mode done.0.far.rest);
+          lines = no_more done.0.far.lines [] (last_line (read_in functions done.0.far.world mode done.0.far.rest)) refl;
+          all = done.0.all;
+        }
+
+    broken_refused : {group : Bool} {pace : Pace} (number : ℕ) → ServesInput functions state group pace old new w mode had has held_now written (Reader number) → (input held : List ℕ) → had ≡ Some input → held_now ≡ Some held
+        → IsBrokenOff functions mode input held written
+    broken_refused number served input held left holds =
+        let answers = refused_input number served input held left holds in
+        record {
+          world = w;
+          read = input;
+          left = [];
+          parts = sym (append-nil input);
+          forms = answers.0.forms;
+          far = answers.0.far;
+          far_is = answers.0.far_is;
+          front = answers.0.far.lines ++ refusal_line number;
+          unwritten = [];
+          lines = ap (λ (r : Reading). answers.0.far.lines ++ last_line r) answers.1.1 ∙ sym (append-nil (answers.0.far.lines ++ refusal_line number));
+          all = answers.0.all;
+        }
+
     pub ends_at_end : {group : Bool} {pace : Pace} → ServesInput functions state group pace old new w mode had has held_now written End → (input : List ℕ) → had ≡ Some input → has ≡ Some []
     ends_at_end served input left = let read = served.reads input left in read.2.1 ∙ ap (λ l. Some l) read.2.0
 
@@ -292,6 +329,29 @@ module _ (functions : Functions) (wanted : Wanted) {D R : Type 0} (state : D →
       → IsBrokenOff functions wanted.mode input held written
   broken_at ended number is served =
       broken_input functions wanted.mode state old new w had has held_now written number (subst ServesSo is served).0
+
+  -- and so it is of each session, however it ended
+  pub broken_anyhow : (ended : Ended) → ServesSo ended → (input held : List ℕ) → had ≡ Some input → held_now ≡ Some held → IsBrokenOff functions wanted.mode input held written
+  broken_anyhow ways.End served input held left holds = broken_done functions wanted.mode state old new w had has held_now written served.0 input held left holds
+  broken_anyhow (Unreadable number place) served input held left holds =
+      broken_refused functions wanted.mode state old new w had has held_now written number served.0 input held left holds
+  broken_anyhow (Unaccepted number place) served input held left holds =
+      let s = served.2 in
+      let read = served.3 input left in
+      record {
+        world = w;
+        read = served.1;
+        left = read.0;
+        parts = read.1;
+        forms = s.forms;
+        far = s.far;
+        far_is = s.advances.far_is;
+        front = s.far.lines;
+        unwritten = last_line (read_in functions s.far.world wanted.mode s.far.rest);
+        lines = refl;
+        all = s.advances.lines held holds;
+      }
+  broken_anyhow (ways.Store number) served input held left holds = broken_at (ways.Store number) number refl served input held left holds
 
   pub reads_to_end : (ended : Ended) → ServesSo ended → (input : List ℕ) → had ≡ Some input → ReadsToEnd (status_of_ended ended) has
   reads_to_end ways.End served input left = ends_at_end functions wanted.mode state old new w had has held_now written served.0 input left

@@ -1,22 +1,23 @@
 -- From what a task does to all that is promised of it.
-use Rattle.std.proofs.Common.{◌≡◌, ◌⊎◌, ◌++◌, ℕ, Bool, true≢false, List, [], Option, None, Some, refl, sym, ap, subst, ◌∙◌, inl, inr, append-nil, arith}
+use Rattle.std.proofs.Common.{◌≡◌, ◌⊎◌, ◌++◌, ℕ, Bool, true, true≢false, List, [], Option, None, Some, refl, sym, ap, subst, ◌∙◌, inl, inr, append-nil, arith}
 use Rattle.disk_trait.specs.Disk.{State}
 use Rattle.disk_trait.specs.declared.half.Half.TheVariants.{A}
 use Rattle.lisp_object.specs.declared.refusal.TheConstants.{DEVICE, INPUT, NO_MEMORY}
 use Rattle.clap.specs.Words.{Text}
-use Rattle.plist_state.specs.State.{initial}
+use Rattle.plist_state.specs.State.{WorldState, initial}
 use Rattle.world_text.specs.Snapshot.{snapshot}
 use Rattle.world_forms.specs.Forms.{forms}
 use Rattle.user_macros.specs.Functions.{Functions}
 use Rattle.sessions.specs.declared.ending.Ended.{Ended}
 use Rattle.sessions.specs.declared.ending.Ended.TheVariants.{End, Store, Unaccepted, Unreadable}
 use Rattle.session_words.specs.declared.wanted.Wanted.{Wanted}
-use Rattle.store_commands.specs.Commands.{IsCarriedOutOn, DoesOn, IsEarlyFault, IsUntouched, Performs, TaskBreaksOff, TaskReads, TaskWrites, TellsUnopened}
+use Rattle.store_commands.specs.Commands.{IsCarriedOutOn, DoesOn, IsEarlyFault, IsUntouched, Performs, TaskBreaksOff, TaskReads, TaskWrites, TellsUnopened, is_of_opening}
 use Rattle.store_commands.specs.Report.{IsExport, IsReport, IsSnapshot, IsUpgrade, half_line, position_line, version_line}
 use Rattle.prevalence_store.specs.calls.Open.{IsUnopened}
+use Rattle.prevalence_store.specs.calls.Store.{StoreView}
 use Rattle.sessions.specs.Serve.{ServesWanted}
 use Rattle.store_commands.specs.Session.{AnswersInput, IsSession, IsStatusAfter, ReadsToEnd, half_limit}
-use Rattle.store_commands.specs.Status.{HasFaultNumber, IsFaultNumber, TakesWords}
+use Rattle.store_commands.specs.Status.{HasFaultNumber, IsFaultNumber, TakesWords, status_of_ended}
 use Rattle.store_commands.specs.EndLines.{IsToldOf, left_out_of}
 use Rattle.store_commands.specs.declared.told.Told.{Told}
 use Rattle.store_commands.specs.declared.told.Told.TheVariants.{Nothing}
@@ -27,15 +28,28 @@ use Rattle.command_words.specs.declared.words.Report.TheVariants.{Dump, Verify}
 use Rattle.command_words.specs.declared.words.Task.{Task}
 use Rattle.command_words.specs.declared.words.Task.TheVariants.{Export, Run, Snapshot, Tell, Upgrade}
 use Rattle.store_commands.proofs.Reports.{report_breaks, report_writes, text_fault, text_of_no_opening, text_taken}
-use Rattle.store_commands.proofs.SessionLaws.{answers_input, broken_at, fault_of_session, no_opening_at, nothing_written, number_of_opening, reads_to_end}
+use Rattle.store_commands.proofs.SessionLaws.{answers_input, broken_anyhow, broken_at, fault_of_session, no_opening_at, nothing_written, number_of_opening, reads_to_end}
 use Rattle.store_commands.proofs.Snapshots.{snapshot_breaks, snapshot_fault, snapshot_of_no_opening, snapshot_taken, snapshot_writes}
 use Rattle.store_commands.proofs.Upgrades.{forms_break, forms_fault, forms_of_no_opening, forms_taken, forms_written, upgrade_breaks, upgrade_fault, upgrade_of_no_opening, upgrade_taken, upgrade_writes}
 use Rattle.session_words.specs.declared.content.Content.{Content}
-use Rattle.store_commands.proofs.Statuses.{end_at, taken_at_end}
+use Rattle.store_commands.proofs.Accounts.{IsFaultOfCut, ends_as}
+use Rattle.store_commands.proofs.Statuses.{end_at, other_number, taken_at_end}
 
 -- a session that answered nothing met no fault
 no_fault : (number : ℕ) → Unanswered ≡ Fault number → ⊥
 no_fault number is = absurd (cc)
+
+-- what a cut of zeros is refused with
+same_number : (number given : ℕ) → Fault number ≡ Fault given → number ≡ given
+same_number number given is = cc
+
+cut_of_no_opening : (number : ℕ) → IsFaultOfCut number → is_of_opening number ≡ true → ⊥
+cut_of_no_opening number (inl device) of = other_number number DEVICE device refl of
+cut_of_no_opening number (inr memory) of = other_number number NO_MEMORY memory refl of
+
+cut_fault : (number : ℕ) → IsFaultOfCut number → IsFaultNumber number
+cut_fault number (inl device) = inl device
+cut_fault number (inr memory) = inr (inr memory)
 
 -- after a fault, with nothing read and nothing written
 module _ (functions : Functions) (input had : List ℕ) (left written : Option (List ℕ)) where
@@ -105,40 +119,67 @@ module _ (functions : Functions) {D R : Type 0} (state : D → State) (macros : 
       subst (PerformedHere folder task) (sym is) (untouched functions remaining contents input left held written told folder task number same (number_of_opening number unopened.fault unopened.number_is)
       (λ none. absurd (named none)))
 
+  module _ (folder : Text) (wanted : Wanted) (status : Status) (opened served : StoreView D R) (world : WorldState) (named : folder ≡ [] → ⊥) where
+    abbrev ServesSo : Ended → Type 0
+    ServesSo = ServesWanted functions state wanted opened served world (remaining input) (remaining left) (contents held) (contents written)
+
+    -- a session that ended as it served
+    performs_served : (ended : Ended) → IsStatusAfter functions wanted ended status → IsToldOf ended told → ServesSo ended → PerformedHere folder (Run wanted) status
+    performs_served ended (inr (strict, at_end, is)) tells serves =
+        let ended_well = subst ServesSo at_end serves in
+        record {
+          taken = subst TakesWords (sym is) tt;
+          nameless = λ none. absurd (named none);
+          unread = λ none. absurd (true≢false none);
+          unopened = λ number fault of. absurd (no_fault number (sym is ∙ fault));
+          fault = λ number fault. absurd (no_fault number (sym is ∙ fault));
+          reads = λ text had. subst (λ (s : Status). ReadsToEnd s (remaining left)) (sym is)
+              (reads_to_end functions wanted state opened served world _ _ _ _ End ended_well text had);
+          writes = λ text had reads holds. subst (λ (s : Status). AnswersInput functions wanted s told text had (contents written)) (sym is)
+              (strict, answers_input functions wanted state opened served world _ _ _ _ End told tt ended_well text had reads holds);
+          breaks_off = λ text had number reads holds fault. absurd (no_fault number (sym is ∙ fault));
+        }
+    performs_served ended (inl is) tells serves = record {
+      taken = taken_at_end status status ended refl is;
+      nameless = λ none. absurd (named none);
+      unread = λ none. absurd (true≢false none);
+      unopened = λ number fault of. absurd (no_opening_at functions wanted state opened served world _ _ _ _ ended number (end_at status status ended number refl is fault) serves of);
+      fault = subst HasFaultNumber (sym is) (fault_of_session functions wanted state opened served world _ _ _ _ ended serves);
+      reads = λ text had. subst (λ (s : Status). ReadsToEnd s (remaining left)) (sym is)
+          (reads_to_end functions wanted state opened served world _ _ _ _ ended serves text had);
+      writes = λ text had reads holds. subst (λ (s : Status). AnswersInput functions wanted s told text had (contents written)) (sym is)
+          (answers_input functions wanted state opened served world _ _ _ _ ended told tells serves text had reads holds);
+      breaks_off = λ text had number reads holds fault.
+          broken_at functions wanted state opened served world _ _ _ _ ended number (end_at status status ended number refl is fault) serves text had reads holds;
+    }
+
+    -- or one after which zeros could not be cut
+    performs_uncut : (served_ended ended : Ended) (number : ℕ) → IsStatusAfter functions wanted ended status → ended ≡ Store number → IsFaultOfCut number → ServesSo served_ended
+        → PerformedHere folder (Run wanted) status
+    performs_uncut served_ended ended number (inr (strict, at_end, is)) failed of_cut serves = let bad : Store number ≡ End = sym failed ∙ at_end in absurd (cc)
+    performs_uncut served_ended ended number (inl after) failed of_cut serves =
+        let is : status ≡ Fault number = after ∙ ap status_of_ended failed in
+        record {
+          taken = subst TakesWords (sym is) tt;
+          nameless = λ none. absurd (named none);
+          unread = λ none. absurd (true≢false none);
+          unopened = λ given fault of. absurd (cut_of_no_opening given (subst IsFaultOfCut (same_number number given (sym is ∙ fault)) of_cut) of);
+          fault = λ given fault. cut_fault given (subst IsFaultOfCut (same_number number given (sym is ∙ fault)) of_cut);
+          reads = λ text had. subst (λ (s : Status). ReadsToEnd s (remaining left)) (sym is) tt;
+          writes = λ text had reads holds. subst (λ (s : Status). AnswersInput functions wanted s told text had (contents written)) (sym is) tt;
+          breaks_off = λ text had given reads holds fault. broken_anyhow functions wanted state opened served world _ _ _ _ served_ended serves text had reads holds;
+        }
+
   performs_session : (disk back : D) (folder : Text) (wanted : Wanted) (status : Status) → (folder ≡ [] → ⊥)
       → IsCarriedOutOn functions state macros whole remaining contents input left held written disk back (Run wanted) status told
       → PerformedHere folder (Run wanted) status
-  performs_session disk back folder wanted status named (ended, inr (strict, at_end, is), tells, session) =
-      let served = subst (λ (e : Ended). ServesWanted functions state wanted session.opened session.closed session.is_opened.world
-      (remaining input) (remaining left) (contents held) (contents written) e) at_end session.serves in
-      record {
-        taken = subst TakesWords (sym is) tt;
-        nameless = λ none. absurd (named none);
-        unread = λ none. absurd (true≢false none);
-        unopened = λ number fault of. absurd (no_fault number (sym is ∙ fault));
-        fault = λ number fault. absurd (no_fault number (sym is ∙ fault));
-        reads = λ text had. subst (λ (s : Status). ReadsToEnd s (remaining left)) (sym is)
-            (reads_to_end functions wanted state session.opened session.closed session.is_opened.world _ _ _ _ End served text had);
-        writes = λ text had reads holds. subst (λ (s : Status). AnswersInput functions wanted s told text had (contents written)) (sym is)
-            (strict, answers_input functions wanted state session.opened session.closed session.is_opened.world _ _ _ _ End told tt served text had reads holds);
-        breaks_off = λ text had number reads holds fault. absurd (no_fault number (sym is ∙ fault));
-      }
-  performs_session disk back folder wanted status named (ended, inl is, tells, session) = record {
-    taken = taken_at_end status status ended refl is;
-    nameless = λ none. absurd (named none);
-    unread = λ none. absurd (true≢false none);
-    unopened = λ number fault of. absurd (no_opening_at functions wanted state session.opened session.closed session.is_opened.world
-        _ _ _ _ ended number (end_at status status ended number refl is fault) session.serves of);
-    fault = subst HasFaultNumber (sym is) (fault_of_session functions wanted state session.opened session.closed session.is_opened.world
-        _ _ _ _ ended session.serves);
-    reads = λ text had. subst (λ (s : Status). ReadsToEnd s (remaining left)) (sym is)
-        (reads_to_end functions wanted state session.opened session.closed session.is_opened.world _ _ _ _ ended session.serves text had);
-    writes = λ text had reads holds. subst (λ (s : Status). AnswersInput functions wanted s told text had (contents written)) (sym is)
-        (answers_input functions wanted state session.opened session.closed session.is_opened.world _ _ _ _ ended told tells session.serves text had reads holds);
-    breaks_off = λ text had number reads holds fault.
-        broken_at functions wanted state session.opened session.closed session.is_opened.world _ _ _ _ ended number
-        (end_at status status ended number refl is fault) session.serves text had reads holds;
-  }
+  performs_session disk back folder wanted status named (ended, after, tells, session) =
+      elim (ends_as functions state session.served session.closed session.cuts session.served_ended ended session.ended_is) [
+        | inl same ↦ performs_served folder wanted status session.opened session.served session.is_opened.world named ended after tells
+            (subst (ServesSo folder wanted status session.opened session.served session.is_opened.world named) (sym same) session.serves)
+        | inr uncut ↦
+            performs_uncut folder wanted status session.opened session.served session.is_opened.world named session.served_ended ended uncut.0 after uncut.1 uncut.2 session.serves
+      ]
 
   performs_snapshot : (disk back : D) (folder : Text) (status : Status) → (folder ≡ [] → ⊥)
       → IsCarriedOutOn functions state macros whole remaining contents input left held written disk back Snapshot status told

@@ -13,8 +13,9 @@ use Rattle.user_macros.specs.Functions.{Functions}
 use Rattle.sessions.specs.Account.{first_account}
 use Rattle.prevalence_store.specs.calls.Open.{IsOpened}
 use Rattle.sessions.specs.Answers.{Progress, after_forms, last_line, refusal_line}
-use Rattle.sessions.specs.Serve.{IsPlace, IsUnaccepted, ServesWanted}
+use Rattle.sessions.specs.Serve.{IsPlace, IsUnaccepted, ServesWanted, ended_after_cut}
 use Rattle.prevalence_store.specs.calls.Store.{StoreView}
+use Rattle.prevalence_store.specs.calls.Zeros.{TriesToCutZeros}
 use Rattle.diagnostics.specs.declared.refusal.Refusal.{Refusal}
 use Rattle.session_ledger.specs.OutgoingLines.{Went}
 use Rattle.store_commands.specs.Status.{status_of_ended}
@@ -27,13 +28,17 @@ use Rattle.store_commands.specs.declared.told.Told.TheVariants.{Refused}
 abbrev pub half_limit : ℕ
 half_limit = 1073741824
 
--- The store that a disk holds was opened with these macro functions, it served the input as was wanted, and it was closed: this is its
--- disk.
+-- The store that a disk holds was opened with these macro functions, and it served the input as was wanted. It may have written zeros ahead,
+-- which were cut then, and it was closed: this is its disk. What failed in the cut is how the session ended.
 pub record IsSession (functions : Functions) (wanted : Wanted) {D R : Type 0} (state : D → State) (disk : D) (macros : R) (had has held written : Option (List ℕ)) (ended : Ended) (back : D) : Type 0 where
   pub opened : StoreView D R
   pub is_opened : IsOpened functions state disk macros half_limit opened
+  pub served : StoreView D R
+  pub served_ended : Ended
+  pub serves : ServesWanted functions state wanted opened served is_opened.world had has held written served_ended
   pub closed : StoreView D R
-  pub serves : ServesWanted functions state wanted opened closed is_opened.world had has held written ended
+  pub cuts : TriesToCutZeros functions state served closed
+  pub ended_is : ended ≡ ended_after_cut cuts.result served_ended
   -- what went out, and when: by then it was stored
   pub went : Went functions state (first_account is_opened.world wanted.mode had opened.disk) closed held written
   pub disk_is : back ≡ closed.disk

@@ -26,6 +26,7 @@
 //!
 //! - proofs/Reports.antt: from what is written of an open store to what the commands promise.
 //! - proofs/FolderLaws.antt: from how the files of a folder were opened to what a command tells of it.
+//! - proofs/Accounts.antt: a store that is to write zeros ahead is the one that was opened (`opened_still`).
 //! - proofs/Statuses.antt: which statuses come after which words.
 #![tactic(auto)]
 

@@ -11,7 +11,7 @@ use crate::recipient::SessionRecipient;
 use disk_trait::Disk;
 use prevalence_store::Unopened;
 use session_ledger::serve_recorded;
-use sessions::{Ended, Wanted};
+use sessions::{Ended, Wanted, write_zeros_ahead};
 use std::io::Read;
 use user_macros::MacroFunctions;
 
@@ -49,8 +49,14 @@ where
     ensures given_back { IfErr result (λ e. e.macros ≡ opening.macros) }
 {
     let mut store = opening.open()?;
+    write_zeros_ahead(&mut store, wanted);
     output.begin(&store, input, wanted.mode);
+    let (generation, records) = (store.generation(), store.record_count());
     let ended = serve_recorded(&mut store, input, output, wanted);
+    // zeros come with the second record
+    let more = store.record_count() > records.saturating_add(1);
+    let wrote = more | (store.generation() != generation);
+    let cut = store.cut_zeros(wrote);
     let (disk, macros) = store.close();
-    Ok((ended, disk, macros))
+    Ok((ended.after_cut(cut), disk, macros))
 }
