@@ -3,13 +3,13 @@ use Rattle.std.proofs.Common.{◌≡◌, ◌⊎◌, inl, inr, ℕ, List, [], ◌
 use Rattle.std.specs.List.{AllByRecursion}
 use Rattle.disk_trait.specs.Disk.{Image, State, IsHonest}
 use Rattle.gate_log.specs.Layout.{LogRecord}
-use Rattle.feeding_laws.specs.Feeding.{FramesAreHanded, ArePlaced, FeedsAgain, FrameHanding, IsFirst, account_after_frames, request_of, rounds_of_frames}
-use Rattle.feeding_laws.proofs.Stands.{Stands, alike, fed_later, first_stands, stands_after}
+use Rattle.feeding_laws.specs.Feeding.{FramesAreHanded, ArePlaced, FeedsAgain, FrameHanding, HaveNoNames, IsFirst, account_after_frames, request_of, rounds_of_frames}
+use Rattle.feeding_laws.proofs.Over.{names_both}
+use Rattle.feeding_laws.proofs.Stands.{Stands, fed_later, first_stands, requests_alike, stands_after}
 use Rattle.message_frames.specs.Frames.{IsFrame, Sent}
 use Rattle.message_session.specs.Account.{MessageAccount, FramesAreLogged, AreNext, AnswersAreStored, FramesAreUnderWay, round_after, with_frames}
 use Rattle.message_session.specs.Answers.{each_frame}
 use Rattle.message_session.specs.Sessions.{text_limit}
-use Rattle.message_session.proofs.Rounds.{same_rounds}
 use Rattle.plist_state.specs.State.{WorldState}
 use Rattle.prevalence_store.specs.Theorem.{Keeps}
 use Rattle.prevalence_store.specs.calls.ExecuteAll.{MeansAllOrNone}
@@ -39,9 +39,9 @@ abbrev records_at : Functions → {D : Type 0} → MessageAccount D → List Sen
 records_at functions account frames = entries_by (round_after functions account frames).wrote (round_after functions account frames).entries
 
 module _ (functions : Functions) {D : Type 0} where
-  round_at : (place : Place) (account : MessageAccount D) → ArePlaced place account → (frames : List Sent) → round_after_requests functions (begun_from place) (map request_of frames) ≡ round_after functions account frames
-  round_at place account placed frames =
-      ap with_its_position (same_rounds functions (map request_of frames) frames (begun_from place) (alike frames)) ∙ (λ i. with_its_position (each_frame functions (first_round (placed.last i) (placed.world i)) frames))
+  round_at : (place : Place) (account : MessageAccount D) → ArePlaced place account → (frames : List Sent) → HaveNoNames frames → round_after_requests functions (begun_from place) (map request_of frames) ≡ round_after functions account frames
+  round_at place account placed frames unnamed =
+      ap with_its_position (requests_alike functions frames (begun_from place) unnamed) ∙ (λ i. with_its_position (each_frame functions (first_round (placed.last i) (placed.world i)) frames))
 
 -- How it stands with an account: the frames that were answered, and what a crash leaves.
 pub record IsAt (functions : Functions) {D : Type 0} (state : D → State) (first_last : ℕ) (first : WorldState) (account : MessageAccount D) : Type 0 where
@@ -53,21 +53,21 @@ module _ (functions : Functions) {D : Type 0} (state : D → State) where
   module _ (first_last : ℕ) (first : WorldState) where
     -- what an image means while these frames are under way
     module _ (account : MessageAccount D) (at : IsAt functions state first_last first account) (frames : List Sent) (next : AreNext account frames) (made : after functions account.now (records_at functions account frames) ≡ Some (left_at functions account frames))
-        (more : List Sent) (image : Image) (now : WorldState) (means : MeansWorld functions image now) where
+        (more : List Sent) (unnamed : HaveNoNames frames) (later_unnamed : HaveNoNames more) (image : Image) (now : WorldState) (means : MeansWorld functions image now) where
       three : (account.answered ++ frames) ++ more ≡ account.answered ++ (frames ++ more)
       three = append_assoc account.answered frames more
 
       before : now ≡ account.now → FeedsAgain functions first_last first (account.answered ++ (frames ++ more)) now
       before same =
           subst (FeedsAgain functions first_last first (account.answered ++ (frames ++ more))) (sym same)
-          (fed_later functions first_last first account.answered account.last account.now at.stands (frames ++ more)).feeds
+          (fed_later functions first_last first account.answered account.last account.now at.stands (frames ++ more) (names_both frames more unnamed later_unnamed)).feeds
 
       afterwards : now ≡ left_at functions account frames → FeedsAgain functions first_last first (account.answered ++ (frames ++ more)) now
       afterwards same =
-          let later = stands_after functions first_last first account.answered account.last account.now at.stands frames (each_next account frames next) in
+          let later = stands_after functions first_last first account.answered account.last account.now at.stands frames unnamed (each_next account frames next) in
           subst (FeedsAgain functions first_last first (account.answered ++ (frames ++ more))) (sym same)
           (subst (λ fs. FeedsAgain functions first_last first fs (left_at functions account frames)) three
-          (fed_later functions first_last first (account.answered ++ frames) (round_after functions account frames).last (left_at functions account frames) later more).feeds)
+          (fed_later functions first_last first (account.answered ++ frames) (round_after functions account frames).last (left_at functions account frames) later more later_unnamed).feeds)
 
       pub fed_by_image : MeansAllOrNone functions account.now (records_at functions account frames) image → FeedsAgain functions first_last first (account.answered ++ (frames ++ more)) now
       fed_by_image (inl none) = before (one_world functions image now account.now means none)
@@ -86,9 +86,9 @@ module _ (functions : Functions) {D R : Type 0} (state : D → State) where
   -- ---- one more
 
   pub handed_further : (handings : List (FrameHanding D R)) (account : MessageAccount D) (last : FrameHanding D R) → FramesAreHanded functions state account handings
-      → AnswersAreStored functions state (account_after_frames functions account handings) last.store last.frames last.bytes → FramesAreHanded functions state account (handings ++ last ∷ [])
-  handed_further [] account last handed stored = (stored, tt)
-  handed_further (one ∷ more) account last handed stored = (handed.0, handed_further more (with_frames functions one.frames one.store account) last handed.1 stored)
+      → AnswersAreStored functions state (account_after_frames functions account handings) last.store last.frames last.bytes → HaveNoNames last.frames → FramesAreHanded functions state account (handings ++ last ∷ [])
+  handed_further [] account last handed stored unnamed = (stored, unnamed, tt)
+  handed_further (one ∷ more) account last handed stored unnamed = (handed.0, handed.1, handed_further more (with_frames functions one.frames one.store account) last handed.2 stored unnamed)
 
   pub account_further : (handings : List (FrameHanding D R)) (account : MessageAccount D) (last : FrameHanding D R)
       → account_after_frames functions account (handings ++ last ∷ []) ≡ with_frames functions last.frames last.store (account_after_frames functions account handings)
@@ -102,10 +102,10 @@ module _ (functions : Functions) {D R : Type 0} (state : D → State) where
       → (with_frames functions one.frames one.store account).now ≡ left_at functions account one.frames
   now_after account one stored = ap (λ o. unwrap_or o account.now) stored.known
 
-  one_placed : (place : Place) (account : MessageAccount D) → ArePlaced place account → (one : FrameHanding D R) → AnswersAreStored functions state account one.store one.frames one.bytes
+  one_placed : (place : Place) (account : MessageAccount D) → ArePlaced place account → (one : FrameHanding D R) → HaveNoNames one.frames → AnswersAreStored functions state account one.store one.frames one.bytes
       → ArePlaced (with_round place (round_after_requests functions (begun_from place) (map request_of one.frames))) (with_frames functions one.frames one.store account)
-  one_placed place account placed one stored =
-      let same = round_at functions place account placed one.frames in
+  one_placed place account placed one unnamed stored =
+      let same = round_at functions place account placed one.frames unnamed in
       record {
         world = (λ i. left_after (same i).wrote (placed.world i) (same i).left) ∙ sym (now_after account one stored);
         last = ap (λ (r : Round). r.last) same;
@@ -116,44 +116,44 @@ module _ (functions : Functions) {D R : Type 0} (state : D → State) where
   placed_after [] place account placed handed = placed
   placed_after (one ∷ more) place account placed handed =
       placed_after more (with_round place (round_after_requests functions (begun_from place) (map request_of one.frames))) (with_frames functions one.frames one.store account)
-      (one_placed place account placed one handed.0) handed.1
+      (one_placed place account placed one handed.1 handed.0) handed.2
 
   -- ---- fed again
 
   module _ (first_last : ℕ) (first : WorldState) where
-    at_next : (account : MessageAccount D) → IsAt functions state first_last first account → (one : FrameHanding D R) → AnswersAreStored functions state account one.store one.frames one.bytes
+    at_next : (account : MessageAccount D) → IsAt functions state first_last first account → (one : FrameHanding D R) → HaveNoNames one.frames → AnswersAreStored functions state account one.store one.frames one.bytes
         → IsAt functions state first_last first (with_frames functions one.frames one.store account)
-    at_next account at one stored =
+    at_next account at one unnamed stored =
         let survives = stored.stored.survives at.honest in
         let now = now_after account one stored in
         record {
           stands = subst (Stands functions first_last first (account.answered ++ one.frames) (round_after functions account one.frames).last) (sym now)
-              (stands_after functions first_last first account.answered account.last account.now at.stands one.frames (each_next account one.frames stored.next));
+              (stands_after functions first_last first account.answered account.last account.now at.stands one.frames unnamed (each_next account one.frames stored.next));
           honest = subst IsTrue (sym survives.honest) at.honest;
           keeps = subst (Keeps functions (state one.store.disk)) (sym now) (survives.kept (left_at functions account one.frames) stored.known);
         }
 
     at_after : (handings : List (FrameHanding D R)) (account : MessageAccount D) → IsAt functions state first_last first account → FramesAreHanded functions state account handings → IsAt functions state first_last first (account_after_frames functions account handings)
     at_after [] account at handed = at
-    at_after (one ∷ more) account at handed = at_after more (with_frames functions one.frames one.store account) (at_next account at one handed.0) handed.1
+    at_after (one ∷ more) account at handed = at_after more (with_frames functions one.frames one.store account) (at_next account at one handed.1 handed.0) handed.2
 
-  module _ (account : MessageAccount D) (handings : List (FrameHanding D R)) (more : List Sent) (image : Image) (now : WorldState) (first : IsFirst account)
+  module _ (account : MessageAccount D) (handings : List (FrameHanding D R)) (more : List Sent) (later_unnamed : HaveNoNames more) (image : Image) (now : WorldState) (first : IsFirst account)
       (honest : IsHonest (state account.disk)) (keeps : Keeps functions (state account.disk) account.now) (handed : FramesAreHanded functions state account handings) where
     here : IsAt functions state account.last account.now (account_after_frames functions account handings)
     here = at_after account.last account.now handings account (at_first functions state account first honest keeps) handed
 
-    pub while_stored : (one : FrameHanding D R) (stored : AnswersAreStored functions state (account_after_frames functions account handings) one.store one.frames one.bytes)
+    pub while_stored : (one : FrameHanding D R) (unnamed : HaveNoNames one.frames) (stored : AnswersAreStored functions state (account_after_frames functions account handings) one.store one.frames one.bytes)
         → (state one.store.disk).left_since (state (account_after_frames functions account handings).disk).moment image → MeansWorld functions image now
         → FeedsAgain functions account.last account.now ((account_after_frames functions account handings).answered ++ (one.frames ++ more)) now
-    while_stored one stored left means =
+    while_stored one unnamed stored left means =
         let far = account_after_frames functions account handings in
         fed_by_image functions state account.last account.now far here one.frames stored.next
-        ((stored.stored.survives here.honest).after_all (left_at functions far one.frames) stored.known) more image now means
+        ((stored.stored.survives here.honest).after_all (left_at functions far one.frames) stored.known) more unnamed later_unnamed image now means
         ((stored.stored.all_or_none here.honest).each image left)
 
     pub while_ended : (store : StoreView D R) (since : FramesAreUnderWay functions state (account_after_frames functions account handings) store)
-        → (state store.disk).left_since (state (account_after_frames functions account handings).disk).moment image → MeansWorld functions image now
+        → HaveNoNames since.frames → (state store.disk).left_since (state (account_after_frames functions account handings).disk).moment image → MeansWorld functions image now
         → FeedsAgain functions account.last account.now ((account_after_frames functions account handings).answered ++ (since.frames ++ more)) now
-    while_ended store since left means =
-        fed_by_image functions state account.last account.now (account_after_frames functions account handings) here since.frames since.next (since.made here.honest) more image now means
+    while_ended store since unnamed left means =
+        fed_by_image functions state account.last account.now (account_after_frames functions account handings) here since.frames since.next (since.made here.honest) more unnamed later_unnamed image now means
         ((since.logged.all_or_none here.honest).each image left)

@@ -7,15 +7,18 @@ use Rattle.std.specs.Prelude.{◌^◌, nat_le, nat_lt}
 use Rattle.std.specs.List.{AllByRecursion}
 use Rattle.std.proofs.lemmas.Bool.{le-leb, leb-false, leb-true, ltb-false}
 use Rattle.std.proofs.lemmas.List.{append-nil}
-use Rattle.feeding_laws.specs.Feeding.{is_over, over}
+use Rattle.client_table.proofs.AskedTogether.{named_last, named_least}
+use Rattle.feeding_laws.specs.Feeding.{HasNoName, HaveNoNames, is_over, over}
 use Rattle.message_frames.specs.Frames.{IsFrame, Sent}
 use Rattle.message_frames.specs.declared.frame.Kind.{Kind}
-use Rattle.message_frames.specs.declared.frame.Kind.TheVariants.{Do, Ask}
+use Rattle.message_frames.specs.declared.frame.Kind.TheVariants.{Do, By, Ask}
 use Rattle.message_laws.specs.NearRounds.{Near}
 use Rattle.message_laws.proofs.Tidy.{out_twice}
-use Rattle.message_laws.proofs.Together.{More, cleared_last, cleared_left, cleared_tidy, near_itself, one_near}
-use Rattle.message_session.specs.Answers.{answers_to, each_frame, message_number, one_frame}
-use Rattle.messages.specs.Answers.{Round, by_number, without_its_position, with_asked, with_message, with_old}
+use Rattle.message_laws.proofs.Together.{More, cleared_last, cleared_left, cleared_tidy, near_itself}
+use Rattle.message_session.specs.Answers.{answers_to, by_kind, each_frame, one_frame}
+use Rattle.message_session.specs.declared.answer.TheConstants.{MOST_CLIENTS}
+use Rattle.message_session.proofs.Rounds.{kind_near}
+use Rattle.messages.specs.Answers.{Round, without_its_position, with_asked, with_message, with_old}
 use Rattle.messages.specs.Position.{position_symbol, without_position}
 use Rattle.user_macros.specs.Functions.{Functions}
 
@@ -26,6 +29,10 @@ over_true n one more is = ap (λ b. if b then one ∷ over n more else over n mo
 
 pub over_false : (n : ℕ) (one : Sent) (more : List Sent) → is_over n one.0 ≡ false → over n (one ∷ more) ≡ over n more
 over_false n one more is = ap (λ b. if b then one ∷ over n more else over n more) is
+
+pub names_both : (xs ys : List Sent) → HaveNoNames xs → HaveNoNames ys → HaveNoNames (xs ++ ys)
+names_both [] ys first second = second
+names_both (x ∷ xs) ys first second = (first.0, names_both xs ys first.1 second)
 
 pub over_append : (n : ℕ) (xs ys : List Sent) → over n (xs ++ ys) ≡ over n xs ++ over n ys
 over_append n [] ys = refl
@@ -43,9 +50,10 @@ single (x ∷ (y ∷ xs)) one = absurd (omega (arith, one))
 module _ (functions : Functions) where
   -- ---- one frame
 
-  one_least : (number : Option ℕ) (text : List ℕ) (r : Round) → r.last ≤ (by_number functions r number text).last
-  one_least None text r = omega (arith, cleared_last r)
-  one_least (Some number) text r =
+  one_least : (kind : Kind) (text : List ℕ) (r : Round) → r.last ≤ (by_kind functions r kind text).last
+  one_least Ask text r = omega (arith, cleared_last r)
+  one_least (By number) text r = named_least functions MOST_CLIENTS number text r
+  one_least (Do number) text r =
       elim (nat_le number r.last) as (λ b. nat_le number r.last ≡ b → r.last ≤ (if b then with_old r else with_message functions number text r).last) [
         | true ↦ λ _. omega arith
         | false ↦ λ more. omega (arith, leb-false number r.last more)
@@ -53,7 +61,7 @@ module _ (functions : Functions) where
 
   pub each_least : (frames : List Sent) (r : Round) → r.last ≤ (each_frame functions r frames).last
   each_least [] r = omega arith
-  each_least (frame ∷ frames) r = omega (arith, one_least (message_number frame.0) frame.1 r, each_least frames (one_frame functions r frame))
+  each_least (frame ∷ frames) r = omega (arith, one_least frame.0 frame.1 r, each_least frames (one_frame functions r frame))
 
   module _ (a b : Round) (near : Near a b) where
     near_asked : (text : List ℕ) → Near a (with_asked functions text b)
@@ -65,9 +73,10 @@ module _ (functions : Functions) where
     }
 
     -- a frame that is not over the number leaves it near
-    near_passed : (n : ℕ) → n ≤ b.last → (frame : Sent) → is_over n frame.0 ≡ false → Near a (one_frame functions b frame)
-    near_passed n least (Ask, text) not_over = near_asked text
-    near_passed n least (Do number, text) not_over =
+    near_passed : (n : ℕ) → n ≤ b.last → (frame : Sent) → HasNoName frame.0 → is_over n frame.0 ≡ false → Near a (one_frame functions b frame)
+    near_passed n least (Ask, text) unnamed not_over = near_asked text
+    near_passed n least (By number, text) unnamed not_over = absurd unnamed
+    near_passed n least (Do number, text) unnamed not_over =
         let old : nat_le number b.last ≡ true = le-leb number b.last (omega (arith, least, ltb-false n number not_over)) in
         subst (λ (x : Bool). Near a (if x then with_old b else with_message functions number text b)) (sym old)
         (record { last = near.last; tidy = near.tidy; other_tidy = near.other_tidy; same = near.same })
@@ -87,7 +96,7 @@ module _ (functions : Functions) where
   module _ (n : ℕ) (frame : Sent) (more : List Sent) (a b : Round) (near : Near a b) where
     fed_taken : is_over n frame.0 ≡ true → Fed n more (over n more) (one_frame functions a frame) (one_frame functions b frame) → Fed n (frame ∷ more) (frame ∷ over n more) a b
     fed_taken is rest =
-        let one = one_near functions a b near (message_number frame.0) frame.1 in
+        let one = kind_near functions frame.0 frame.1 a b near in
         let x = single one.told one.count in
         record {
           some = x.0 ∷ rest.some;
@@ -102,7 +111,7 @@ module _ (functions : Functions) where
 
     fed_passed : is_over n frame.0 ≡ false → Fed n more (over n more) a (one_frame functions b frame) → Fed n (frame ∷ more) (over n more) a b
     fed_passed is rest =
-        let one = one_near functions b b (near_itself functions b near.other_tidy) (message_number frame.0) frame.1 in
+        let one = kind_near functions frame.0 frame.1 b b (near_itself functions b near.other_tidy) in
         let x = single one.told one.count in
         record {
           some = rest.some;
@@ -115,8 +124,8 @@ module _ (functions : Functions) where
           near = rest.near;
         }
 
-  pub each_fed : (n : ℕ) (frames : List Sent) (a b : Round) → Near a b → n ≤ b.last → Fed n frames (over n frames) a b
-  each_fed n [] a b near least = record {
+  pub each_fed : (n : ℕ) (frames : List Sent) (a b : Round) → HaveNoNames frames → Near a b → n ≤ b.last → Fed n frames (over n frames) a b
+  each_fed n [] a b unnamed near least = record {
     some = [];
     all = [];
     here = sym (append-nil a.told);
@@ -126,24 +135,25 @@ module _ (functions : Functions) where
     same = refl;
     near = near;
   }
-  each_fed n (frame ∷ more) a b near least = by (λ x y closer more_least. each_fed n more x y closer more_least) (is_over n frame.0) refl where
+  each_fed n (frame ∷ more) a b unnamed near least = by (λ x y closer more_least. each_fed n more x y unnamed.1 closer more_least) (is_over n frame.0) refl where
     least_on : n ≤ (one_frame functions b frame).last
-    least_on = omega (arith, least, one_least (message_number frame.0) frame.1 b)
+    least_on = omega (arith, least, one_least frame.0 frame.1 b)
 
     by : ((x y : Round) → Near x y → n ≤ y.last → Fed n more (over n more) x y) → (x : Bool) → is_over n frame.0 ≡ x → Fed n (frame ∷ more) (over n (frame ∷ more)) a b
     by rest true is =
         subst (λ kept. Fed n (frame ∷ more) kept a b) (sym (over_true n frame more is))
         (fed_taken n frame more a b near is
-        (rest (one_frame functions a frame) (one_frame functions b frame) (one_near functions a b near (message_number frame.0) frame.1).near least_on))
+        (rest (one_frame functions a frame) (one_frame functions b frame) (kind_near functions frame.0 frame.1 a b near).near least_on))
     by rest false is =
         subst (λ kept. Fed n (frame ∷ more) kept a b) (sym (over_false n frame more is))
-        (fed_passed n frame more a b near is (rest a (one_frame functions b frame) (near_passed a b near n least frame is) least_on))
+        (fed_passed n frame more a b near is (rest a (one_frame functions b frame) (near_passed a b near n least frame unnamed.0 is) least_on))
 
   -- ---- none is over the last number
 
   -- the number of a message is no greater
   abbrev pub IsUpTo : ℕ → Kind → Type 0
   IsUpTo n (Do number) = number ≤ n
+  IsUpTo n (By number) = Unit {0}
   IsUpTo n Ask = Unit {0}
 
   abbrev pub AreUpTo : ℕ → List Sent → Type 0
@@ -151,6 +161,7 @@ module _ (functions : Functions) where
 
   is_up : (n m : ℕ) → n ≤ m → (kind : Kind) → IsUpTo n kind → IsUpTo m kind
   is_up n m more (Do number) up = omega (arith, more, up)
+  is_up n m more (By number) up = tt
   is_up n m more Ask up = tt
 
   pub are_up : (n m : ℕ) → n ≤ m → (frames : List Sent) → AreUpTo n frames → AreUpTo m frames
@@ -163,6 +174,7 @@ module _ (functions : Functions) where
 
   up_one : (frame : Sent) (r : Round) → IsUpTo (one_frame functions r frame).last frame.0
   up_one (Ask, text) r = tt
+  up_one (By number, text) r = tt
   up_one (Do number, text) r =
       elim (nat_le number r.last) as (λ b. nat_le number r.last ≡ b → number ≤ (if b then with_old r else with_message functions number text r).last) [
         | true ↦ λ old. leb-true number r.last old
@@ -178,6 +190,7 @@ module _ (functions : Functions) where
 
   not_over : (n : ℕ) (kind : Kind) → IsUpTo n kind → is_over n kind ≡ false
   not_over n (Do number) up = elim (nat_lt n number) as (λ b. nat_lt n number ≡ b → b ≡ false) [ true ↦ λ is. absurd (omega (arith, up, leb-true (suc n) number is)) | false ↦ λ _. refl ] refl
+  not_over n (By number) up = refl
   not_over n Ask up = refl
 
   pub none_over : (n : ℕ) (frames : List Sent) → AreUpTo n frames → over n frames ≡ []
@@ -194,6 +207,7 @@ module _ (functions : Functions) where
 
   bound_one : (limit : ℕ) (frame : Sent) (r : Round) → IsFrame limit frame → r.last < 2 ^ 64 → (one_frame functions r frame).last < 2 ^ 64
   bound_one limit (Ask, text) r is small = omega (arith, small, cleared_last r)
+  bound_one limit (By number, text) r is small = omega (arith, small, named_last functions MOST_CLIENTS number text r)
   bound_one limit (Do number, text) r is small =
       elim (nat_le number r.last) as (λ b. (if b then with_old r else with_message functions number text r).last < 2 ^ 64) [ true ↦ small | false ↦ is.kind ]
 

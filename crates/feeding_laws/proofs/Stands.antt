@@ -8,15 +8,22 @@ use Rattle.std.specs.List.{AllByRecursion}
 use Rattle.std.specs.Option.{option_and_then}
 use Rattle.std.proofs.lemmas.Bool.{lt-ltb, ltb-true}
 use Rattle.lisp_object.specs.Object.{Object, integer, rational, character, text, symbol, uninterned, pair, vector}
-use Rattle.feeding_laws.specs.Feeding.{FeedsAgain, IsFirst, over, request_of, told_position}
+use Rattle.client_table.specs.Named.{each_asked}
+use Rattle.client_table.specs.declared.asked.AnyRequest.{AnyRequest}
+use Rattle.client_table.specs.declared.asked.AnyRequest.TheVariants as asked
+use Rattle.client_table.proofs.AskedTogether.{asked_stands}
+use Rattle.feeding_laws.specs.Feeding.{FeedsAgain, HaveNoNames, IsFirst, over, request_of, told_position}
 use Rattle.feeding_laws.proofs.Over.{AreUpTo, Fed, are_up, bound_round, each_fed, each_least, none_over, none_told, over_append, up_both, up_to_round}
 use Rattle.message_frames.specs.Frames.{IsFrame, Sent}
+use Rattle.message_frames.specs.declared.frame.Kind.{Kind}
+use Rattle.message_frames.specs.declared.frame.Kind.TheVariants.{Do, By, Ask}
 use Rattle.message_laws.specs.Batches.{BatchProgress}
 use Rattle.message_laws.specs.NearRounds.{IsTidy, Near}
 use Rattle.message_laws.proofs.Tidy.{sound_tidy}
-use Rattle.message_laws.proofs.Together.{StandsAt, near_itself, one_stands, stands_first}
+use Rattle.message_laws.proofs.Together.{StandsAt, near_itself, stands_first}
 use Rattle.message_session.specs.Account.{MessageAccount}
-use Rattle.message_session.specs.Answers.{AskAlike, answers_of, answers_to, each_frame, parts_of_frame}
+use Rattle.message_session.specs.Answers.{AskAlike, answers_of, answers_to, each_frame, one_frame, parts_of_asked}
+use Rattle.message_session.specs.declared.answer.TheConstants.{MOST_CLIENTS}
 use Rattle.message_session.specs.Sessions.{text_limit}
 use Rattle.message_session.proofs.Rounds.{answers_append, both_rounds, same_rounds}
 use Rattle.plist_state.specs.State.{WorldState}
@@ -29,10 +36,30 @@ use Rattle.user_macros.specs.Functions.{Functions}
 pub near_back : (a b : Round) → Near a b → Near b a
 near_back a b near = record { last = sym near.last; tidy = near.other_tidy; other_tidy = near.tidy; same = sym near.same }
 
--- frames ask what their requests do
-pub alike : (frames : List Sent) → AskAlike (map request_of frames) frames
+-- what a frame asks; its text is nowhere in memory
+abbrev asked_by : Kind → List ℕ → AnyRequest
+asked_by (Do number) bytes = asked.Request (record { number = Some number; text = record { ref_ptr = (0, 0); now = bytes } })
+asked_by (By number) bytes = asked.Named (record { number = number; text = record { ref_ptr = (0, 0); now = bytes } })
+asked_by Ask bytes = asked.Request (record { number = None; text = record { ref_ptr = (0, 0); now = bytes } })
+
+abbrev asked_of : Sent → AnyRequest
+asked_of frame = asked_by frame.0 frame.1
+
+one_alike : (kind : Kind) (bytes : List ℕ) → parts_of_asked (asked_by kind bytes) ≡ (kind, bytes)
+one_alike (Do number) bytes = refl
+one_alike (By number) bytes = refl
+one_alike Ask bytes = refl
+
+alike : (frames : List Sent) → AskAlike (map asked_of frames) frames
 alike [] = refl
-alike (frame ∷ frames) = ap (λ l. parts_of_frame frame ∷ l) (alike frames)
+alike (frame ∷ frames) = ap (λ one. one ∷ map parts_of_asked (map asked_of frames)) (one_alike frame.0 frame.1) ∙ ap (λ rest. frame ∷ rest) (alike frames)
+
+-- frames without a name ask what their requests do
+pub requests_alike : (functions : Functions) (frames : List Sent) (round : Round) → HaveNoNames frames → each_request functions round (map request_of frames) ≡ each_frame functions round frames
+requests_alike functions [] round unnamed = refl
+requests_alike functions ((Do number, bytes) ∷ frames) round unnamed = requests_alike functions frames (one_frame functions round (Do number, bytes)) unnamed.1
+requests_alike functions ((By number, bytes) ∷ frames) round unnamed = absurd unnamed.0
+requests_alike functions ((Ask, bytes) ∷ frames) round unnamed = requests_alike functions frames (one_frame functions round (Ask, bytes)) unnamed.1
 
 -- what is told as a position has 64 bits
 number_bound : (x : Object) → unwrap_or (number_of_object x) 0 < 2 ^ 64
@@ -94,11 +121,11 @@ module _ (functions : Functions) (first_last : ℕ) (first : WorldState) where
     pub up_to : AreUpTo functions (first_round last now).last frames
     pub fed : AreFed frames now
 
-  module _ (frames : List Sent) (last : ℕ) (now : WorldState) (stands : Stands frames last now) (more : List Sent) where
+  module _ (frames : List Sent) (last : ℕ) (now : WorldState) (stands : Stands frames last now) (more : List Sent) (unnamed : HaveNoNames more) where
     -- ---- whatever comes after them
 
     later : Fed functions (told_position now) more (over (told_position now) more) (again now (over (told_position now) frames)) (all_of frames)
-    later = each_fed functions (told_position now) more _ _ stands.fed.feeds.near (omega (arith, stands.near.last))
+    later = each_fed functions (told_position now) more _ _ unnamed stands.fed.feeds.near (omega (arith, stands.near.last))
 
     over_both : over (told_position now) (frames ++ more) ≡ over (told_position now) frames ++ over (told_position now) more
     over_both = over_append (told_position now) frames more
@@ -154,23 +181,23 @@ module _ (functions : Functions) (first_last : ℕ) (first : WorldState) where
       near : Near x (first_round (with_its_position y).last (left_after (with_its_position y).wrote now (with_its_position y).left))
       raised : (first_round (with_its_position y).last (left_after (with_its_position y).wrote now (with_its_position y).left)).last ≡ (with_its_position y).last
 
-    by_requests : Closes (each_request functions (all_of frames) (map request_of more)) (each_request functions (first_round (first_round last now).last now) (map request_of more))
-    by_requests =
+    by_asked : Closes (each_asked functions MOST_CLIENTS (all_of frames) (map asked_of more)) (each_asked functions MOST_CLIENTS (first_round (first_round last now).last now) (map asked_of more))
+    by_asked =
         let at : StandsAt functions (all_of frames) (record { told = (all_of frames).told; last = (first_round last now).last; world = now }) = record {
           told = refl;
           near = subst (Near (all_of frames)) (sym same_begun) stands.near;
           raised = raised;
         } in
-        let one = one_stands functions (map request_of more) (all_of frames) (record { told = (all_of frames).told; last = (first_round last now).last; world = now }) at in
+        let one = asked_stands functions MOST_CLIENTS (map asked_of more) (all_of frames) (record { told = (all_of frames).told; last = (first_round last now).last; world = now }) at in
         record { near = one.near; raised = one.raised }
 
     closes : Closes (all_of (frames ++ more)) (each_frame functions (first_round last now) more)
     closes =
         subst (λ (x : Round). Closes x (each_frame functions (first_round last now) more))
-        (same_rounds functions (map request_of more) more (all_of frames) (alike more) ∙ sym all_both)
-        (subst (Closes (each_request functions (all_of frames) (map request_of more)))
-        (ap (λ (r : Round). each_request functions r (map request_of more)) same_begun ∙ same_rounds functions (map request_of more) more (first_round last now) (alike more))
-        by_requests)
+        (same_rounds functions (map asked_of more) more (all_of frames) (alike more) ∙ sym all_both)
+        (subst (Closes (each_asked functions MOST_CLIENTS (all_of frames) (map asked_of more)))
+        (ap (λ (r : Round). each_asked functions MOST_CLIENTS r (map asked_of more)) same_begun ∙ same_rounds functions (map asked_of more) more (first_round last now) (alike more))
+        by_asked)
 
     module _ (each : AllByRecursion (IsFrame text_limit) more) where
       small_after : (with_its_position (each_frame functions (first_round last now) more)).last < 2 ^ 64

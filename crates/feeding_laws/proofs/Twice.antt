@@ -6,7 +6,7 @@ use Rattle.feeding_laws.specs.Feeding.{FeedsAgain, is_over, over, told_position}
 use Rattle.feeding_laws.proofs.Over.{over_false, over_true}
 use Rattle.message_frames.specs.Frames.{Sent}
 use Rattle.message_frames.specs.declared.frame.Kind.{Kind}
-use Rattle.message_frames.specs.declared.frame.Kind.TheVariants.{Do, Ask}
+use Rattle.message_frames.specs.declared.frame.Kind.TheVariants.{Do, By, Ask}
 use Rattle.message_laws.specs.NearRounds.{Near}
 use Rattle.message_session.specs.Answers.{answers_of, each_frame}
 use Rattle.plist_state.specs.State.{WorldState}
@@ -19,6 +19,7 @@ near_on a b c one other = record { last = one.last ∙ other.last; tidy = one.ti
 module _ (n m : ℕ) (least : n ≤ m) where
   not_over : (kind : Kind) → is_over n kind ≡ false → is_over m kind ≡ false
   not_over (Do number) is = le-ltb m number (omega (arith, least, ltb-false n number is))
+  not_over (By number) is = refl
   not_over Ask is = refl
 
   -- those over the greater number are among those over the smaller one

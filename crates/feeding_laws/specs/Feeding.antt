@@ -1,13 +1,13 @@
 -- Frames whose answers were handed to the recipient of a session, and what they are answered if they are fed again.
-use Rattle.std.specs.Prelude.{◌≡◌, ℕ, ◌<◌, ◌≤◌, ◌^◌, nat_lt, Bool, false, if◌then◌else◌, List, [], ◌∷◌, ◌++◌, map, Option, Some, unwrap_or}
-use Rattle.std.specs.List.{flat_map}
+use Rattle.std.specs.Prelude.{◌≡◌, ℕ, ◌<◌, ◌≤◌, ◌^◌, nat_lt, Bool, false, if◌then◌else◌, List, [], ◌∷◌, ◌++◌, map, Option, None, Some, unwrap_or}
+use Rattle.std.specs.List.{AllByRecursion, flat_map}
 use Rattle.disk_trait.specs.Disk.{State}
 use Rattle.message_frames.specs.Frames.{Sent, answer_bytes, position_bytes}
 use Rattle.message_frames.specs.declared.frame.Kind.{Kind}
-use Rattle.message_frames.specs.declared.frame.Kind.TheVariants.{Do, Ask}
+use Rattle.message_frames.specs.declared.frame.Kind.TheVariants.{Do, By, Ask}
 use Rattle.message_laws.specs.NearRounds.{Near}
 use Rattle.message_session.specs.Account.{MessageAccount, AnswersAreStored, IsToldIn, with_frames}
-use Rattle.message_session.specs.Answers.{answers_of, each_frame, message_number}
+use Rattle.message_session.specs.Answers.{answers_of, each_frame}
 use Rattle.plist_state.specs.Sound.{IsSoundWorldState}
 use Rattle.plist_state.specs.State.{WorldState}
 use Rattle.prevalence_store.specs.calls.Store.{StoreView}
@@ -17,6 +17,17 @@ use Rattle.messages.specs.Answers.{first_round}
 use Rattle.messages.specs.Position.{position}
 use Rattle.store_laws.specs.Rounds.{Place}
 use Rattle.user_macros.specs.Functions.{Functions}
+
+-- ---- frames without a name
+
+-- A message with a name is answered again by the table of clients. These laws are of the others.
+abbrev pub HasNoName : Kind → Type 0
+HasNoName (Do number) = Unit {0}
+HasNoName (By number) = ⊥
+HasNoName Ask = Unit {0}
+
+abbrev pub HaveNoNames : List Sent → Type 0
+HaveNoNames frames = AllByRecursion (λ (frame : Sent). HasNoName frame.0) frames
 
 -- ---- what was handed on
 
@@ -31,11 +42,11 @@ abbrev pub account_after_frames : Functions → {D R : Type 0} → MessageAccoun
 account_after_frames functions account [] = account
 account_after_frames functions account (one ∷ more) = account_after_frames functions (with_frames functions one.frames one.store account) more
 
--- each as the recipient asks
+-- each as the recipient asks, of frames without a name
 abbrev pub FramesAreHanded : Functions → {D R : Type 0} → (D → State) → MessageAccount D → List (FrameHanding D R) → Type 0
 FramesAreHanded functions state account [] = Unit {0}
 FramesAreHanded functions state account (one ∷ more) =
-    AnswersAreStored functions state account one.store one.frames one.bytes × FramesAreHanded functions state (with_frames functions one.frames one.store account) more
+    AnswersAreStored functions state account one.store one.frames one.bytes × HaveNoNames one.frames × FramesAreHanded functions state (with_frames functions one.frames one.store account) more
 
 -- an account as it begins with the position
 pub record IsFirst {D : Type 0} (account : MessageAccount D) : Type 0 where
@@ -45,9 +56,15 @@ pub record IsFirst {D : Type 0} (account : MessageAccount D) : Type 0 where
 
 -- ---- as rounds of requests
 
--- what a frame asks; its text is nowhere in memory
+-- a message without a name has a number, a question none
+abbrev pub number_with : Kind → Option ℕ
+number_with (Do number) = Some number
+number_with (By number) = None
+number_with Ask = None
+
+-- what a frame without a name asks; its text is nowhere in memory
 abbrev pub request_of : Sent → Request
-request_of frame = record { number = message_number frame.0; text = record { ref_ptr = (0, 0); now = frame.1 } }
+request_of frame = record { number = number_with frame.0; text = record { ref_ptr = (0, 0); now = frame.1 } }
 
 -- the requests of each handing, in their order
 abbrev pub rounds_of_frames : {D R : Type 0} → List (FrameHanding D R) → List (List Request)
@@ -63,6 +80,7 @@ pub record ArePlaced {D : Type 0} (place : Place) (account : MessageAccount D) :
 -- whether a frame, or an answer, is that of a message over this number
 abbrev pub is_over : ℕ → Kind → Bool
 is_over n (Do number) = nat_lt n number
+is_over n (By number) = false
 is_over n Ask = false
 
 -- of these frames those of messages over this number, in order

@@ -2,7 +2,7 @@
 ghost use Rattle.std.specs.Prelude.{◌≡◌, ℕ, List, [], ◌∷◌, ◌++◌, Option, Some};
 ghost use Rattle.std.specs.List.{AllByRecursion, flat_map};
 ghost use Rattle.disk_trait.specs.Disk.{Image, IsHonest};
-ghost use Rattle.feeding_laws.specs.Feeding.{AreAnsweredAgain, FramesAreHanded, ArePlaced, FeedsAgain, FrameHanding, IsFirst, account_after_frames, over, rounds_of_frames, told_position};
+ghost use Rattle.feeding_laws.specs.Feeding.{AreAnsweredAgain, FramesAreHanded, ArePlaced, FeedsAgain, FrameHanding, HaveNoNames, IsFirst, account_after_frames, over, rounds_of_frames, told_position};
 ghost use Rattle.message_frames.specs.Frames.{IsFrame, Sent, frame_bytes};
 ghost use Rattle.message_session.specs.Account.{MessageAccount, AnswersAreStored, FramesAreUnderWay, with_frames};
 ghost use Rattle.message_session.specs.Sessions.{ServesMessages, text_limit};
@@ -18,8 +18,8 @@ use disk_trait::Disk;
 use message_frames::bytes_are_one_list;
 use message_session::Ended;
 
-/// Answers were handed to the recipient of a session, one time after the other (`FramesAreHanded`), from its position on. Of an honest disk of
-/// which each crash would have left its first world:
+/// Answers were handed to the recipient of a session, one time after the other (`FramesAreHanded`), from its position on, to frames without a name.
+/// Of an honest disk of which each crash would have left its first world:
 ///
 /// - `further`: answers that are handed on last come after the others, and the account is that after all of them.
 /// - `in_rounds`: the frames are rounds in a row, one for each time; the world and the last number are those after them.
@@ -33,6 +33,7 @@ pub fn feeding_again<D: Disk, R>()
         (last : FrameHanding D R)
         → FramesAreHanded functions D.state account handings
         → AnswersAreStored functions D.state (account_after_frames functions account handings) last.store last.frames last.bytes
+        → HaveNoNames last.frames
         → FramesAreHanded functions D.state account (handings ++ last ∷ [])
         × (account_after_frames functions account (handings ++ last ∷ []) ≡ with_frames functions last.frames last.store (account_after_frames functions account handings)) }
     ensures in_rounds { (functions : Functions) (account : MessageAccount D)
@@ -45,6 +46,7 @@ pub fn feeding_again<D: Disk, R>()
         → IsFirst account → IsHonest (D.state account.disk) → Keeps functions (D.state account.disk) account.now
         → FramesAreHanded functions D.state account handings
         → AnswersAreStored functions D.state (account_after_frames functions account handings) one.store one.frames one.bytes
+        → HaveNoNames one.frames → HaveNoNames more
         → (D.state one.store.disk).left_since (D.state (account_after_frames functions account handings).disk).moment image → MeansWorld functions image now
         → FeedsAgain functions account.last account.now ((account_after_frames functions account handings).answered ++ (one.frames ++ more)) now }
     ensures while_ended { (functions : Functions) (account : MessageAccount D)
@@ -54,6 +56,7 @@ pub fn feeding_again<D: Disk, R>()
         → IsFirst account → IsHonest (D.state account.disk) → Keeps functions (D.state account.disk) account.now
         → FramesAreHanded functions D.state account handings
         → (since : FramesAreUnderWay functions D.state (account_after_frames functions account handings) store)
+        → HaveNoNames since.frames → HaveNoNames more
         → (D.state store.disk).left_since (D.state (account_after_frames functions account handings).disk).moment image → MeansWorld functions image now
         → FeedsAgain functions account.last account.now ((account_after_frames functions account handings).answered ++ (since.frames ++ more)) now }
 {}

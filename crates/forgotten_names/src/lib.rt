@@ -8,7 +8,8 @@
 //! - `unneeded`: the symbols that it does not need, over `marks`: symbols that are marked by their numbers
 //! - `forgetting`: `forget`
 //!
-//! Crates above cite the lemmas of proofs/NothingForgotten.antt.
+//! Crates above cite the lemmas of proofs/NothingForgotten.antt; and of proofs/ForgottenSound.antt (`symbol_stays`), proofs/NeededSymbols.antt
+//! (`in_list`) and proofs/Members.antt (`among_itself`, `among_later`, `among_left`, `among_right`).
 #![tactic(auto)]
 
 mod forgetting;

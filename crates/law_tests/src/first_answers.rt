@@ -1,7 +1,7 @@
 //! A recipient that keeps account of a session of messages up to its first answers, and what follows where these messages are fed again.
 ghost use Rattle.std.specs.Prelude.{◌≡◌, ◌++◌, ◌<◌, ◌-◌, ◌^◌, ℕ, List, None, Some, map};
 ghost use Rattle.disk_trait.specs.Disk.{Image, IsHonest};
-ghost use Rattle.feeding_laws.specs.Feeding.{FeedsAgain};
+ghost use Rattle.feeding_laws.specs.Feeding.{FeedsAgain, HaveNoNames};
 ghost use Rattle.message_frames.specs.Frames.{Sent, sent_frame};
 ghost use Rattle.message_session.specs.Account.{MessageAccount, AnswersAreStored, IsToldIn, first_message_account};
 ghost use Rattle.plist_state.specs.Sound.{IsSoundWorldState};
@@ -45,7 +45,7 @@ impl<D: Disk, M: MacroFunctions> FirstAnswers<D, M> {
     }
 
     /// Does nothing. The answers to the first frames are handed on with this store: whatever a crash leaves at any moment since the position
-    /// was told, these frames and any later ones may be fed to it again.
+    /// was told, these frames and any later ones may be fed to it again, if none has a name.
     fn may_feed_again(&self, store: &Store<D, M>, bytes: &[u8], frames: &[MessageFrame<'_>])
         requires stored { (kept : MessageAccount D) → account_by self.now.position self.now.start.value ≡ Some kept
             → AnswersAreStored M.Meaning.functions D.state kept store.now (map sent_frame frames.now) bytes.now }
@@ -53,6 +53,7 @@ impl<D: Disk, M: MacroFunctions> FirstAnswers<D, M> {
             → IsToldIn kept.last kept.now → IsSoundWorldState kept.now
             → IsHonest (D.state kept.disk) → Keeps M.Meaning.functions (D.state kept.disk) kept.now
             → (more : List Sent) (image : Image) (now : WorldState)
+            → HaveNoNames (map sent_frame frames.now) → HaveNoNames more
             → (D.state store.now.disk).left_since (D.state kept.disk).moment image → MeansWorld M.Meaning.functions image now
             → FeedsAgain M.Meaning.functions kept.last kept.now (map sent_frame frames.now ++ more) now }
     {

@@ -12,6 +12,7 @@
 //! - `in_use`: logs whose disks read the same
 //! - `read_back`: an answer that is read back from its bytes
 //! - `first_answers`: a session of messages up to its first answers, and what follows where these messages are fed again
+//! - `told_again`: a message with a name that is sent again
 //!
 //! Lemmas in `proofs`: `Bytes`, `Knowing`.
 #![tactic(auto)]
@@ -44,6 +45,8 @@ mod round_trip;
 mod texts;
 #[cfg(test)]
 mod tokens;
+#[cfg(test)]
+mod told_again;
 
 /// A limit that no file of a test comes near.
 #[cfg(test)]

@@ -5,14 +5,14 @@ use Rattle.std.specs.List.{flat_map, AllByRecursion}
 use Rattle.std.specs.Fmt.{decimal}
 use Rattle.std.proofs.lemmas.List.{append_cancel_left, append-nil, drop_at, take_at}
 use Rattle.message_frames.specs.declared.frame.Kind.{Kind}
-use Rattle.message_frames.specs.declared.frame.Kind.TheVariants.{Do, Ask}
+use Rattle.message_frames.specs.declared.frame.Kind.TheVariants.{Do, By, Ask}
 use Rattle.message_frames.specs.Frames.{IsBegunFrame, IsFrame, IsKind, IsMalformed, Sent, answer_bytes, frame_bytes, sized_text}
 use Rattle.message_frames.specs.Lists.{AnswersAreReadBack, SplitsOneWay}
 use Rattle.message_frames.specs.Numbers.{number_word}
 use Rattle.std.proofs.lemmas.Fmt.{decimal_nonempty}
 use Rattle.message_frames.proofs.Digits.{AreDigits, decimal_has_digits}
 use Rattle.message_frames.proofs.Sized.{numbers_end}
-use Rattle.message_frames.proofs.Framed.{message_parts}
+use Rattle.message_frames.proofs.Framed.{client_message_parts, message_parts}
 
 abbrev Same : Sent → Sent → Type 0
 Same f g = f ≡ g
@@ -34,6 +34,11 @@ EndsOnce word limit = (f g : Sent) (a b : List ℕ) → IsFrame limit f → IsFr
 same_sent : (k : Kind) (s t a b : List ℕ) → (s ≡ t) × (a ≡ b) → Same (k, s) (k, t) × (a ≡ b)
 same_sent k s t a b same = (ap (λ z. (k, z)) same.0, same.1)
 
+abbrev number_of_kind : Kind → ℕ
+number_of_kind (Do n) = n
+number_of_kind (By n) = n
+number_of_kind Ask = 0
+
 numbered : (limit : ℕ) → limit < 2 ^ 64 → (m n : ℕ) (s t a b : List ℕ) → m < 2 ^ 64 → n < 2 ^ 64 → length s ≤ limit → length t ≤ limit
     → (number_word 32 m ++ sized_text s) ++ a ≡ (number_word 32 n ++ sized_text t) ++ b → Same (Do m, s) (Do n, t) × (a ≡ b)
 numbered limit small m n s t a b wide far within least e =
@@ -42,6 +47,22 @@ numbered limit small m n s t a b wide far within least e =
     let numbers = numbers_end 32 (2 ^ 64 - 1) (omega arith) (omega arith) m n (sized_text s ++ a) (sized_text t ++ b) (omega arith) (omega arith) (sym left ∙ e ∙ right) in
     let texts = texts_end limit small s t a b within least numbers.1 in
     (ap (λ z. (Do z, s)) numbers.0 ∙ ap (λ z. (Do n, z)) texts.0, texts.1)
+
+-- so of a client
+numbered_by : (limit : ℕ) → limit < 2 ^ 64 → (m n : ℕ) (s t a b : List ℕ) → m < 2 ^ 64 → n < 2 ^ 64 → length s ≤ limit → length t ≤ limit
+    → codes "by " ++ ((number_word 32 m ++ sized_text s) ++ a) ≡ codes "by " ++ ((number_word 32 n ++ sized_text t) ++ b) → Same (By m, s) (By n, t) × (a ≡ b)
+numbered_by limit small m n s t a b wide far within least e =
+    let same = numbered limit small m n s t a b wide far within least (append_cancel_left (codes "by ") _ _ e) in
+    (ap (λ z. (By (number_of_kind z.0), z.1)) same.0, same.1)
+
+clients_end : (limit : ℕ) → limit < 2 ^ 64 → (m n : ℕ) (s t a b : List ℕ) → m < 2 ^ 64 → n < 2 ^ 64 → length s ≤ limit → length t ≤ limit
+    → frame_bytes (By m, s) ++ a ≡ frame_bytes (By n, t) ++ b → Same (By m, s) (By n, t) × (a ≡ b)
+clients_end limit small m n s t a b wide far within least e =
+    let left : frame_bytes (By m, s) ++ a ≡ codes "by " ++ ((number_word 32 m ++ sized_text s) ++ a) =
+    ap (λ z. z ++ a) (client_message_parts (m, s)) ∙ append_assoc (codes "by ") (number_word 32 m ++ sized_text s) a in
+    let right : frame_bytes (By n, t) ++ b ≡ codes "by " ++ ((number_word 32 n ++ sized_text t) ++ b) =
+    ap (λ z. z ++ b) (client_message_parts (n, t)) ∙ append_assoc (codes "by ") (number_word 32 n ++ sized_text t) b in
+    numbered_by limit small m n s t a b wide far within least (sym left ∙ e ∙ right)
 
 questions_end : (limit : ℕ) → limit < 2 ^ 64 → (s t a b : List ℕ) → length s ≤ limit → length t ≤ limit
     → (codes "ask " ++ sized_text s) ++ a ≡ (codes "ask " ++ sized_text t) ++ b → Same (Ask, s) (Ask, t) × (a ≡ b)
@@ -57,6 +78,11 @@ frames_end_by limit small (Do m) (Do n) s t a b wide far within least e =
     let right : frame_bytes (Do n, t) ++ b ≡ codes "do " ++ ((number_word 32 n ++ sized_text t) ++ b) =
     ap (λ z. z ++ b) (message_parts (n, t)) ∙ append_assoc (codes "do ") (number_word 32 n ++ sized_text t) b in
     numbered limit small m n s t a b wide far within least (append_cancel_left (codes "do ") _ _ (sym left ∙ e ∙ right))
+frames_end_by limit small (By m) (By n) s t a b wide far within least e = clients_end limit small m n s t a b wide far within least e
+frames_end_by limit small (Do m) (By n) s t a b wide far within least e = let first : 100 ≡ 98 = ap (λ z. get_or z 0 0) e in absurd (omega (arith, first))
+frames_end_by limit small (By m) (Do n) s t a b wide far within least e = let first : 98 ≡ 100 = ap (λ z. get_or z 0 0) e in absurd (omega (arith, first))
+frames_end_by limit small (By m) Ask s t a b wide far within least e = let first : 98 ≡ 97 = ap (λ z. get_or z 0 0) e in absurd (omega (arith, first))
+frames_end_by limit small Ask (By n) s t a b wide far within least e = let first : 97 ≡ 98 = ap (λ z. get_or z 0 0) e in absurd (omega (arith, first))
 frames_end_by limit small (Do m) Ask s t a b wide far within least e = let first : 100 ≡ 97 = ap (λ z. get_or z 0 0) e in absurd (omega (arith, first))
 frames_end_by limit small Ask (Do n) s t a b wide far within least e = let first : 97 ≡ 100 = ap (λ z. get_or z 0 0) e in absurd (omega (arith, first))
 frames_end_by limit small Ask Ask s t a b wide far within least e = questions_end limit small s t a b within least e
@@ -96,19 +122,24 @@ splits_one_way limit small bytes frames others rest after splits parts =
 
 -- ---- answers
 
--- a number begins with a digit
-no_question : (m : ℕ) (s t a b : List ℕ) → m < 2 ^ 64 → answer_bytes (Do m, s) ++ a ≡ answer_bytes (Ask, t) ++ b → ⊥
-no_question m s t a b wide e = first_is_digit (decimal m) (decimal_has_digits m wide) (decimal_nonempty m wide)
+-- a number begins with a digit, and no other answer does
+no_letter : (m : ℕ) (s a other : List ℕ) → m < 2 ^ 64 → answer_bytes (Do m, s) ++ a ≡ other → 57 < get_or other 0 0 → ⊥
+no_letter m s a other wide e letter = first_is_digit (decimal m) (decimal_has_digits m wide) (decimal_nonempty m wide)
     (sym (append_assoc (number_word 32 m) (sized_text s) a ∙ append_assoc (decimal m) (32 ∷ []) (sized_text s ++ a)) ∙ e) where
-      first_is_digit : (ds : List ℕ) → AreDigits ds → 0 < length ds → ds ++ (32 ∷ (sized_text s ++ a)) ≡ answer_bytes (Ask, t) ++ b → ⊥
+      first_is_digit : (ds : List ℕ) → AreDigits ds → 0 < length ds → ds ++ (32 ∷ (sized_text s ++ a)) ≡ other → ⊥
       first_is_digit [] all some is = omega (arith, some)
-      first_is_digit (c ∷ cs) all some is = let first : c ≡ 97 = ap (λ z. get_or z 0 0) is in omega (arith, first, all.0.1)
+      first_is_digit (c ∷ cs) all some is = let first : c ≡ get_or other 0 0 = ap (λ z. get_or z 0 0) is in omega (arith, first, letter, all.0.1)
 
 answers_end_by : (limit : ℕ) → limit < 2 ^ 64 → (j k : Kind) (s t a b : List ℕ) → IsKind j → IsKind k → length s ≤ limit → length t ≤ limit
     → answer_bytes (j, s) ++ a ≡ answer_bytes (k, t) ++ b → Same (j, s) (k, t) × (a ≡ b)
 answers_end_by limit small (Do m) (Do n) s t a b wide far within least e = numbered limit small m n s t a b wide far within least e
-answers_end_by limit small (Do m) Ask s t a b wide far within least e = absurd (no_question m s t a b wide e)
-answers_end_by limit small Ask (Do n) s t a b wide far within least e = absurd (no_question n t s b a far (sym e))
+answers_end_by limit small (By m) (By n) s t a b wide far within least e = clients_end limit small m n s t a b wide far within least e
+answers_end_by limit small (Do m) (By n) s t a b wide far within least e = absurd (no_letter m s a (answer_bytes (By n, t) ++ b) wide e (omega arith))
+answers_end_by limit small (By m) (Do n) s t a b wide far within least e = absurd (no_letter n t b (answer_bytes (By m, s) ++ a) far (sym e) (omega arith))
+answers_end_by limit small (By m) Ask s t a b wide far within least e = let first : 98 ≡ 97 = ap (λ z. get_or z 0 0) e in absurd (omega (arith, first))
+answers_end_by limit small Ask (By n) s t a b wide far within least e = let first : 97 ≡ 98 = ap (λ z. get_or z 0 0) e in absurd (omega (arith, first))
+answers_end_by limit small (Do m) Ask s t a b wide far within least e = absurd (no_letter m s a (answer_bytes (Ask, t) ++ b) wide e (omega arith))
+answers_end_by limit small Ask (Do n) s t a b wide far within least e = absurd (no_letter n t b (answer_bytes (Ask, s) ++ a) far (sym e) (omega arith))
 answers_end_by limit small Ask Ask s t a b wide far within least e = questions_end limit small s t a b within least e
 
 read_back : (limit : ℕ) → limit < 2 ^ 64 → (answers others : List Sent) (rest after : List ℕ)

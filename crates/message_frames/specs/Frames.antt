@@ -3,7 +3,7 @@ use Rattle.std.specs.Prelude.{ℕ, ◌≡◌, ◌<◌, ◌≤◌, ◌^◌, List,
 use Rattle.std.specs.Fmt.{decimal}
 use Rattle.std.specs.List.{flat_map, AllByRecursion}
 use Rattle.message_frames.specs.declared.frame.Kind.{Kind}
-use Rattle.message_frames.specs.declared.frame.Kind.TheVariants.{Do, Ask}
+use Rattle.message_frames.specs.declared.frame.Kind.TheVariants.{Do, By, Ask}
 use Rattle.message_frames.specs.declared.frame.MessageFrame.{MessageFrame}
 use Rattle.message_frames.specs.Words.{IsPart, BeginsNone}
 
@@ -18,11 +18,13 @@ Sent = Kind × List ℕ
 -- the first line of a frame: its keyword, its number and its length
 abbrev pub frame_head : Kind → List ℕ
 frame_head (Do number) = codes "do " ++ (decimal number ++ 32 ∷ [])
+frame_head (By number) = codes "by " ++ (decimal number ++ 32 ∷ [])
 frame_head Ask = codes "ask "
 
 -- the same of an answer
 abbrev pub answer_head : Kind → List ℕ
 answer_head (Do number) = decimal number ++ 32 ∷ []
+answer_head (By number) = codes "by " ++ (decimal number ++ 32 ∷ [])
 answer_head Ask = codes "ask "
 
 -- a frame as it is sent
@@ -40,6 +42,7 @@ position_bytes number = codes "at " ++ (decimal number ++ 10 ∷ [])
 -- the number of a frame has at most 64 bits
 abbrev pub IsKind : Kind → Type 0
 IsKind (Do number) = number < 2 ^ 64
+IsKind (By number) = number < 2 ^ 64
 IsKind Ask = Unit {0}
 
 -- a number of 64 bits, and a text of at most so many bytes

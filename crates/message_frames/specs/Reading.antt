@@ -26,6 +26,7 @@ found_keyword (Err fault) = Err fault
 -- a keyword as it is sent, with what comes after it
 abbrev pub keyword_bytes : Keyword → List ℕ
 keyword_bytes keyword.Do = codes "do "
+keyword_bytes keyword.By = codes "by "
 keyword_bytes keyword.Ask = codes "ask "
 
 -- a message that was found, and what stands after it

@@ -36,6 +36,10 @@ fn push_head(out: &mut Vec<u8>, kind: Kind) -> Result<(), AllocError>
 {
     match kind {
         Kind::Do(number) => push_number(out, number, b' '),
+        Kind::By(number) => {
+            out.extend_from_slice(b"by ")?;
+            push_number(out, number, b' ')
+        }
         Kind::Ask => out.extend_from_slice(b"ask "),
     }
 }

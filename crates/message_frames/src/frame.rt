@@ -12,6 +12,8 @@ use crate::words::NotWhole;
 pub enum Kind {
     /// A message with this number, to be carried out.
     Do(u64),
+    /// A message with this number among those of a client, whose name its text begins with.
+    By(u64),
     /// A question, which changes nothing.
     Ask,
 }
@@ -27,6 +29,7 @@ pub struct MessageFrame<'a> {
 #[derive(Clone, Copy)]
 enum Keyword {
     Do,
+    By,
     Ask,
 }
 
@@ -42,6 +45,13 @@ pub fn first_frame(bytes: &[u8], limit: usize) -> Result<(MessageFrame<'_>, &[u8
         Ok((Keyword::Do, rest)) => match read_message(rest, limit) {
             Ok(((number, text), rest)) => {
                 let kind = Kind::Do(number);
+                Ok((MessageFrame { kind, text }, rest))
+            }
+            Err(fault) => Err(fault),
+        },
+        Ok((Keyword::By, rest)) => match read_message(rest, limit) {
+            Ok(((number, text), rest)) => {
+                let kind = Kind::By(number);
                 Ok((MessageFrame { kind, text }, rest))
             }
             Err(fault) => Err(fault),
@@ -64,10 +74,19 @@ fn read_keyword(bytes: &[u8]) -> Result<(Keyword, &[u8]), NotWhole>
     if let Some(rest) = bytes.strip_prefix(b"do ") {
         return Ok((Keyword::Do, rest));
     }
+    if let Some(rest) = bytes.strip_prefix(b"by ") {
+        return Ok((Keyword::By, rest));
+    }
     if let Some(rest) = bytes.strip_prefix(b"ask ") {
         return Ok((Keyword::Ask, rest));
     }
-    if b"do ".starts_with(bytes) || b"ask ".starts_with(bytes) {
+    if b"do ".starts_with(bytes) {
+        return Err(NotWhole::Begun);
+    }
+    if b"by ".starts_with(bytes) {
+        return Err(NotWhole::Begun);
+    }
+    if b"ask ".starts_with(bytes) {
         return Err(NotWhole::Begun);
     }
     Err(NotWhole::Malformed)

@@ -1,7 +1,7 @@
 //! Messages and questions in frames, and the answers to them.
 //!
-//! A frame is a head line with the length of a text, the text, and a newline: `do NUMBER LENGTH` begins a message, `ask LENGTH` a
-//! question. A number is written in one way, in digits without a leading zero, and one space stands between words.
+//! A frame is a head line with the length of a text, the text, and a newline: `do NUMBER LENGTH` begins a message, `by NUMBER LENGTH` one
+//! whose text begins with the name of its client, `ask LENGTH` a question. A number is written in one way, in digits without a leading zero, and one space stands between words.
 //!
 //! - specs/Words.antt: what bytes begin with, of words that are each written in one way; specs/Frames.antt: frames, answers and
 //!   positions as bytes; specs/WholeFrames.antt: what stands whole in bytes.

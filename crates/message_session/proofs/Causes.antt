@@ -80,8 +80,8 @@ module _ (functions : Functions) (last : ℕ) (w : WorldState) (tidy : IsTidy w.
         before = c.before;
         before_last = c.before_last;
         after = record { left = c.after.left; known = c.after.known; near = near_both answered c.before_last c.after.left c.after.near };
-        requests = c.requests;
         asked = c.asked;
+        alike = c.alike;
         refused = c.refused;
         full = c.full;
         output = write_both answered written c.output;
@@ -94,7 +94,7 @@ module _ (functions : Functions) (last : ℕ) (w : WorldState) (tidy : IsTidy w.
         before_last = c.before_last;
         after = record { left = c.after.left; known = c.after.known; near = near_both answered c.before_last c.after.left c.after.near };
         refused = c.refused;
-        large = λ is. let none = c.large is in record { one = none.one; requests = none.requests; asked = none.asked; refused = none.refused };
+        large = λ is. let none = c.large is in record { one = none.one; asked = none.asked; alike = none.alike; refused = none.refused };
         output = write_both answered written c.output;
       }
 
@@ -191,8 +191,8 @@ module _ (functions : Functions) (last : ℕ) (w : WorldState) (tidy : IsTidy w.
             before = old;
             before_last = last;
             after = record { left = w; known = known; near = near_itself functions (first_round last w) tidy };
-            requests = refuses.requests;
             asked = refuses.asked;
+            alike = refuses.alike;
             refused = refuses.refused;
             full = λ is.
                 let whole = full is in
@@ -268,8 +268,8 @@ module _ (functions : Functions) (last : ℕ) (w : WorldState) (tidy : IsTidy w.
       refused = refused;
       large = λ is. record {
         one = one_first frames refuses.front refuses.undone refuses.parts refuses.some (one is);
-        requests = refuses.requests;
         asked = refuses.asked;
+        alike = refuses.alike;
         refused = refuses.refused;
       };
       output = subst (λ o. Writes held o []) (sym quiet) (none_written held);

@@ -1,22 +1,28 @@
 -- Frames that are answered after others.
---     same_rounds      what requests make, the frames make that they are of
---     each_near, both_rounds, answers_append      the rounds of frames, and their answers, one after the other
+--     same_rounds      what is asked makes what the frames make by which it is asked
+--     kind_near, each_near, both_rounds, answers_append      the rounds of frames, and their answers, one after the other
 --     first_after, more_after      frames after none, and after others
 --     bytes_of_both      the bytes of all
-use Rattle.std.proofs.Common.{◌≡◌, ℕ, Bool, List, [], ◌∷◌, ◌++◌, Option, Some, length, map, fold, refl, sym, ap, subst, ◌∙◌, append_assoc, length-append, arith}
+use Rattle.std.proofs.Common.{◌≡◌, ℕ, Bool, List, [], ◌∷◌, ◌++◌, Option, None, Some, length, map, fold, refl, sym, ap, subst, ◌∙◌, append_assoc, length-append, arith}
 use Rattle.std.specs.List.{flat_map}
 use Rattle.std.proofs.lemmas.Grind.{flat_map-append}
 use Rattle.std.proofs.lemmas.List.{append-nil}
 use Rattle.std.proofs.lemmas.List.Sums.{fold-append}
+use Rattle.client_table.specs.Named.{each_asked, one_asked}
+use Rattle.client_table.specs.declared.asked.AnyRequest.{AnyRequest}
+use Rattle.client_table.specs.declared.asked.AnyRequest.TheVariants as asked
+use Rattle.client_table.proofs.AskedTogether.{named_more}
 use Rattle.message_frames.specs.Frames.{Sent, answer_bytes}
+use Rattle.message_frames.specs.declared.frame.Kind.{Kind}
+use Rattle.message_frames.specs.declared.frame.Kind.TheVariants.{Ask, By, Do}
 use Rattle.message_laws.specs.NearRounds.{IsTidy, Near}
 use Rattle.message_laws.proofs.Together.{More, near_itself, near_on, one_near}
-use Rattle.message_session.specs.Answers.{answered_bytes, answers_to, each_frame, message_number, one_frame, parts_of_frame, parts_of_request}
+use Rattle.message_session.specs.Answers.{answered_bytes, answers_to, by_kind, each_frame, kind_by_number, one_frame, parts_of_asked}
 use Rattle.message_session.specs.Sessions.{HasCarriedOut}
+use Rattle.message_session.specs.declared.answer.TheConstants.{MOST_CLIENTS}
 use Rattle.plist_state.specs.State.{WorldState}
 use Rattle.prevalence_store.specs.calls.Store.{StoreView}
-use Rattle.messages.specs.declared.request.Request.{Request}
-use Rattle.messages.specs.Answers.{Round, first_round, by_number, each_request, one_request}
+use Rattle.messages.specs.Answers.{Round, first_round, by_number}
 use Rattle.user_macros.specs.Functions.{Functions}
 
 pub answers_append : (xs ys : List Sent) (ts us : List (List ℕ × Bool)) → length ts ≡ length xs → answers_to (xs ++ ys) (ts ++ us) ≡ answers_to xs ts ++ answers_to ys us
@@ -26,28 +32,34 @@ answers_append (x ∷ xs) ys [] us same = absurd (omega (arith, same))
 answers_append (x ∷ xs) ys (t ∷ ts) us same = let less : length ts ≡ length xs = omega (arith, same) in ap (λ l. (x.0, t.0) ∷ l) (answers_append xs ys ts us less)
 
 module _ (functions : Functions) where
-  -- ---- requests
+  -- ---- what is asked
 
-  abbrev each_pair : Round → List (Option ℕ × List ℕ) → Round
-  each_pair round pairs = fold (λ (far : Round) pair. by_number functions far pair.0 pair.1) round pairs
+  by_number_kind : (round : Round) (number : Option ℕ) (text : List ℕ) → by_number functions round number text ≡ by_kind functions round (kind_by_number number) text
+  by_number_kind round None text = refl
+  by_number_kind round (Some number) text = refl
 
-  of_requests : (requests : List Request) (round : Round) → each_request functions round requests ≡ each_pair round (map parts_of_request requests)
-  of_requests [] round = refl
-  of_requests (request ∷ requests) round = of_requests requests (one_request functions round request)
+  one_is : (one : AnyRequest) (round : Round) → one_asked functions MOST_CLIENTS round one ≡ one_frame functions round (parts_of_asked one)
+  one_is (asked.Request request) round = by_number_kind round request.number request.text.now
+  one_is (asked.Named message) round = refl
 
-  of_frames : (frames : List Sent) (round : Round) → each_frame functions round frames ≡ each_pair round (map parts_of_frame frames)
-  of_frames [] round = refl
-  of_frames (frame ∷ frames) round = of_frames frames (one_frame functions round frame)
+  of_asked : (all : List AnyRequest) (round : Round) → each_asked functions MOST_CLIENTS round all ≡ each_frame functions round (map parts_of_asked all)
+  of_asked [] round = refl
+  of_asked (one ∷ later) round = of_asked later (one_asked functions MOST_CLIENTS round one) ∙ ap (λ (r : Round). each_frame functions r (map parts_of_asked later)) (one_is one round)
 
-  pub same_rounds : (requests : List Request) (frames : List Sent) (round : Round) → map parts_of_request requests ≡ map parts_of_frame frames → each_request functions round requests ≡ each_frame functions round frames
-  same_rounds requests frames round same = of_requests requests round ∙ ap (each_pair round) same ∙ sym (of_frames frames round)
+  pub same_rounds : (all : List AnyRequest) (frames : List Sent) (round : Round) → map parts_of_asked all ≡ frames → each_asked functions MOST_CLIENTS round all ≡ each_frame functions round frames
+  same_rounds all frames round same = of_asked all round ∙ ap (each_frame functions round) same
 
   -- ---- frames
+
+  pub kind_near : (kind : Kind) (text : List ℕ) (a b : Round) → Near a b → More 1 a b (by_kind functions a kind text) (by_kind functions b kind text)
+  kind_near (Do number) text a b near = one_near functions a b near (Some number) text
+  kind_near (By number) text a b near = named_more functions MOST_CLIENTS number text a b near
+  kind_near Ask text a b near = one_near functions a b near None text
 
   pub each_near : (frames : List Sent) (a b : Round) → Near a b → More (length frames) a b (each_frame functions a frames) (each_frame functions b frames)
   each_near [] a b near = record { told = []; count = refl; here = sym (append-nil a.told); there = sym (append-nil b.told); near = near }
   each_near (frame ∷ frames) a b near =
-      let one = one_near functions a b near (message_number frame.0) frame.1 in
+      let one = kind_near frame.0 frame.1 a b near in
       let rest = each_near frames (one_frame functions a frame) (one_frame functions b frame) one.near in
       record {
         told = one.told ++ rest.told;

@@ -2,6 +2,10 @@
 use Rattle.std.proofs.Common.{◌≡◌, ◌≢◌, ◌⊎◌, ℕ, ◌+◌, ◌<◌, Bool, true, false, List, [], length, Option, Some, IsTrue, take, Result, Ok, Err, inl, inr, refl, sym, ap, subst, ◌∙◌, arith}
 use Rattle.std.specs.Option.{option_map}
 use Rattle.std.specs.Prelude.{unwrap_or}
+use Rattle.client_table.specs.Calls.{AnswersAllAsked, AnswersFirstAsked}
+use Rattle.client_table.specs.Named.{all_answered}
+use Rattle.client_table.specs.declared.asked.AnyRequest.{AnyRequest}
+use Rattle.client_table.proofs.Settling.{asked_unchanged}
 use Rattle.disk_trait.specs.Disk.{Image, State, IsHonest, IsSoundDisk, Throughout}
 use Rattle.disk_trait.specs.Moments.{joined, weaker}
 use Rattle.gate_log.specs.Layout.{LogRecord}
@@ -11,6 +15,7 @@ use Rattle.message_session.specs.Account.{MessageAccount, FramesAreLogged, AreNe
 use Rattle.message_session.specs.Answers.{AskAlike, answered_bytes, each_frame}
 use Rattle.message_session.specs.Standing.{AcknowledgesNoFrame, ComeNext, HasLoggedNothing, RestsAt, RestsOrStops}
 use Rattle.message_session.specs.Steps.{RenewsWhereDue, StopsAfter}
+use Rattle.message_session.specs.declared.answer.TheConstants.{MOST_CLIENTS}
 use Rattle.message_session.specs.declared.answer.Stop.{Stop}
 use Rattle.message_session.specs.declared.answer.Stop.TheVariants as stop
 use Rattle.message_session.specs.declared.ended.Ended.{Ended}
@@ -24,15 +29,12 @@ use Rattle.prevalence_store.specs.calls.ExecuteAll.{AllOrNone, MeansAllOrNone}
 use Rattle.prevalence_store.specs.calls.Snapshot.{Snapshots}
 use Rattle.prevalence_store.specs.calls.Store.{StoreView}
 use Rattle.messages.specs.declared.request.Replies.{Replies}
-use Rattle.messages.specs.declared.request.Request.{Request}
 use Rattle.prevalence_store.specs.declared.outcome.Outcome.{Outcome}
 use Rattle.prevalence_store.specs.declared.outcome.Outcome.TheVariants.{Accepted, Snapshotted, Refused}
 use Rattle.prevalence_store.specs.meaning.Acceptance.{after}
 use Rattle.prevalence_store.specs.meaning.Files.{MeansWorld}
-use Rattle.messages.specs.Answers.{Round, round_after_requests, first_round, with_its_position}
-use Rattle.messages.specs.Calls.{AnswersRequests, AreAnsweredAndLogged, FailOnDevice, entries_by, left_after}
-use Rattle.messages.specs.Fronts.{AnswersFirst}
-use Rattle.messages.proofs.Settling.{unchanged_or_failed}
+use Rattle.messages.specs.Answers.{Round, first_round, with_its_position}
+use Rattle.messages.specs.Calls.{AreAnsweredAndLogged, FailOnDevice, entries_by, left_after}
 use Rattle.prevalence_store.proofs.Surviving.{both_survive, fewer_survive, none_taken}
 use Rattle.user_macros.specs.Functions.{Functions}
 
@@ -158,79 +160,79 @@ module _ (functions : Functions) {D R : Type 0} (state : D → State) (sound : (
   pub untaken_rests : (told : Option (MessageAccount D)) (store : StoreView D R) (last : ℕ) (why : Stop) (number : ℕ) → why ≡ stop.Untaken number → RestsOrStops functions state told store last (Err why) → RestsAt functions state told store last
   untaken_rests told store last why number is rests = subst (λ w. RestsOrStops functions state told store last (Err w)) is rests
 
-  -- ---- requests that frames are
+  -- ---- what frames ask
 
-  round_is : (old : StoreView D R) (last : ℕ) (frames : List Sent) (requests : List Request) → AskAlike requests frames → (account : MessageAccount D) (w : WorldState)
-      → HasLoggedNothing functions state account old last w → round_after_requests functions (first_round last w) requests ≡ round_after functions account frames
-  round_is old last frames requests alike account w rest =
-      ap with_its_position (same_rounds functions requests frames (first_round last w) alike) ∙ (λ i. with_its_position (each_frame functions (first_round (sym rest.last_is i) (sym rest.now i)) frames))
+  round_is : (old : StoreView D R) (last : ℕ) (frames : List Sent) (all : List AnyRequest) → AskAlike all frames → (account : MessageAccount D) (w : WorldState)
+      → HasLoggedNothing functions state account old last w → all_answered functions MOST_CLIENTS (first_round last w) all ≡ round_after functions account frames
+  round_is old last frames all alike account w rest =
+      ap with_its_position (same_rounds functions all frames (first_round last w) alike) ∙ (λ i. with_its_position (each_frame functions (first_round (sym rest.last_is i) (sym rest.now i)) frames))
 
   -- they are under way
-  under_way : (old new : StoreView D R) (last : ℕ) (frames : List Sent) (requests : List Request) → AskAlike requests frames → (account : MessageAccount D) → AreNext account frames
+  under_way : (old new : StoreView D R) (last : ℕ) (frames : List Sent) (all : List AnyRequest) → AskAlike all frames → (account : MessageAccount D) → AreNext account frames
       → (w : WorldState) → old.world ≡ Some w → HasLoggedNothing functions state account old last w
-      → SurvivesAs functions state old new w (entries_by (round_after_requests functions (first_round last w) requests).wrote (round_after_requests functions (first_round last w) requests).entries) 0
-      → AllOrNone functions state old new w (entries_by (round_after_requests functions (first_round last w) requests).wrote (round_after_requests functions (first_round last w) requests).entries)
-      → (IsHonest (state account.disk) → IsMadeBy functions w (round_after_requests functions (first_round last w) requests)) → FramesAreUnderWay functions state account new
-  under_way old new last frames requests alike account next w known rest survives all_or_none made =
-      let round = round_after_requests functions (first_round last w) requests in
+      → SurvivesAs functions state old new w (entries_by (all_answered functions MOST_CLIENTS (first_round last w) all).wrote (all_answered functions MOST_CLIENTS (first_round last w) all).entries) 0
+      → AllOrNone functions state old new w (entries_by (all_answered functions MOST_CLIENTS (first_round last w) all).wrote (all_answered functions MOST_CLIENTS (first_round last w) all).entries)
+      → (IsHonest (state account.disk) → IsMadeBy functions w (all_answered functions MOST_CLIENTS (first_round last w) all)) → FramesAreUnderWay functions state account new
+  under_way old new last frames all alike account next w known rest survives all_or_none made =
+      let round = all_answered functions MOST_CLIENTS (first_round last w) all in
       record {
         frames = frames;
         next = next;
-        logged = subst (λ (r : Round). FramesAreLogged functions state account new (entries_by r.wrote r.entries) 0) (round_is old last frames requests alike account w rest)
+        logged = subst (λ (r : Round). FramesAreLogged functions state account new (entries_by r.wrote r.entries) 0) (round_is old last frames all alike account w rest)
             (logged_since account old new last w known rest (entries_by round.wrote round.entries) 0 survives all_or_none);
-        made = λ honest. subst (λ v. IsMadeBy functions v (round_after functions account frames)) (sym rest.now) (subst (IsMadeBy functions w) (round_is old last frames requests alike account w rest) (made honest));
+        made = λ honest. subst (λ v. IsMadeBy functions v (round_after functions account frames)) (sym rest.now) (subst (IsMadeBy functions w) (round_is old last frames all alike account w rest) (made honest));
       }
 
   module _ (told : Option (MessageAccount D)) (old new : StoreView D R) (last : ℕ) (rests : RestsAt functions state told old last) where
     -- the first of the frames were not answered
-    module _ (frames : List Sent) (come : ComeNext told frames) (requests : List Request) (alike : AskAlike requests frames) (number : ℕ)
-        (answers : (w : WorldState) → old.world ≡ Some w → AnswersFirst functions state old new w last requests (Err number)) where
-      none_of_requests : AcknowledgesNoFrame functions state told new
-      none_of_requests account is = by (unchanged_or_failed functions state old new far.0 last first.front number first.answers) where
+    module _ (frames : List Sent) (come : ComeNext told frames) (all : List AnyRequest) (alike : AskAlike all frames) (number : ℕ)
+        (answers : (w : WorldState) → old.world ≡ Some w → AnswersFirstAsked functions state old new w MOST_CLIENTS last all (Err number)) where
+      none_of_those : AcknowledgesNoFrame functions state told new
+      none_of_those account is = by (asked_unchanged functions state old new far.0 MOST_CLIENTS last first.front number first.answers) where
         far : (world : WorldState) × (old.world ≡ Some world) × HasLoggedNothing functions state account old last world
         far = rests account is
 
-        first : AnswersFirst functions state old new far.0 last requests (Err number)
+        first : AnswersFirstAsked functions state old new far.0 MOST_CLIENTS last all (Err number)
         first = answers far.0 far.1
 
-        by : (new ≡ old) ⊎ FailOnDevice functions state old new far.0 (round_after_requests functions (first_round last far.0) first.front) → FramesAreUnderWay functions state account new
+        by : (new ≡ old) ⊎ FailOnDevice functions state old new far.0 (all_answered functions MOST_CLIENTS (first_round last far.0) first.front) → FramesAreUnderWay functions state account new
         by (inl same) =
             subst (λ (s : StoreView D R). FramesAreUnderWay functions state account s) (sym same) (none_at_rest told old last rests account is)
         by (inr failed) =
-            under_way old new last (take (length first.front) frames) first.front (front_alike requests first.front first.rest frames first.parts alike)
+            under_way old new last (take (length first.front) frames) first.front (front_alike all first.front first.rest frames first.parts alike)
             account (next_taken account frames (length first.front) (come account is)) far.0 far.1 far.2
             failed.survives failed.all_or_none
-            (λ _. made_of_some functions far.0 (round_after_requests functions (first_round last far.0) first.front) failed.some failed.again)
+            (λ _. made_of_some functions far.0 (all_answered functions MOST_CLIENTS (first_round last far.0) first.front) failed.some failed.again)
 
       pub unanswered : (number ≢ DEVICE → new ≡ old) → (why : Stop) → StopsAfter number why → RestsOrStops functions state told new last (Err why)
       unanswered unchanged (stop.Untaken n) stops = λ account is.
           subst (λ (s : StoreView D R). (world : WorldState) × (s.world ≡ Some world) × HasLoggedNothing functions state account s last world)
           (sym (unchanged stops.1)) (rests account is)
-      unanswered unchanged (stop.Ended ended) stops = none_of_requests
+      unanswered unchanged (stop.Ended ended) stops = none_of_those
 
     -- ---- what is handed on: the answers to frames that were answered
 
     module _ (frames : List Sent) (come : ComeNext told frames) (replies : Replies)
-        (answers : (w : WorldState) → old.world ≡ Some w → (requests : List Request) × AskAlike requests frames × AnswersRequests functions state old new w last requests (Ok replies)) where
+        (answers : (w : WorldState) → old.world ≡ Some w → (all : List AnyRequest) × AskAlike all frames × AnswersAllAsked functions state old new w MOST_CLIENTS last all (Ok replies)) where
       -- nobody was told so
       pub none_told : AcknowledgesNoFrame functions state told new
       none_told account is =
           let far = rests account is in
           let given = answers far.0 far.1 in
-          let round = round_after_requests functions (first_round last far.0) given.0 in
+          let round = all_answered functions MOST_CLIENTS (first_round last far.0) given.0 in
           let taken = entries_by round.wrote round.entries in
           under_way old new last frames given.0 given.1 account (come account is) far.0 far.1 far.2
-          (λ known honest keeps. fewer_survive functions (state old.disk) (state new.disk) far.0 taken (length taken) 0 new.world (given.2.survives known honest keeps) (omega arith)) given.2.all_or_none
+          (λ known honest keeps. fewer_survive functions (state old.disk) (state new.disk) far.0 taken (length taken) 0 new.world (given.2.0.survives known honest keeps) (omega arith)) given.2.0.all_or_none
           (λ honest.
           let before = far.2.since honest in
-          (given.2.survives far.1 (subst IsTrue (sym before.honest) honest) (before.kept far.0 refl)).after_all (left_after round.wrote far.0 round.left) given.2.logs.left)
+          (given.2.0.survives far.1 (subst IsTrue (sym before.honest) honest) (before.kept far.0 refl)).after_all (left_after round.wrote far.0 round.left) given.2.0.logs.left)
 
       given_after : (account : MessageAccount D) (w : WorldState) → old.world ≡ Some w → (rest : HasLoggedNothing functions state account old last w)
           → AreAnsweredAndLogged functions state old new account.now (round_after functions account frames) replies
       given_after account w known rest =
           let given = answers w known in
           subst (λ v. AreAnsweredAndLogged functions state old new v (round_after functions account frames) replies) (sym rest.now)
-          (subst (λ (r : Round). AreAnsweredAndLogged functions state old new w r replies) (round_is old last frames given.0 given.1 account w rest) given.2)
+          (subst (λ (r : Round). AreAnsweredAndLogged functions state old new w r replies) (round_is old last frames given.0 given.1 account w rest) given.2.0)
 
       pub answers_stored : (bytes : List ℕ) → ((w : WorldState) → old.world ≡ Some w → bytes ≡ answered_bytes functions last w frames)
           → (account : MessageAccount D) → told ≡ Some account → AnswersAreStored functions state account new frames bytes

@@ -1,6 +1,8 @@
 -- Why frames were not answered together, and what is tried then.
 use Rattle.std.proofs.Common.{◌≡◌, ◌≢◌, inl, inr, ℕ, ◌<◌, List, [], Option, Some, Result, Ok, Err, length, take, drop, refl, sym, ap, subst, ◌∙◌}
 use Rattle.std.proofs.lemmas.List.{take-append-drop}
+use Rattle.client_table.specs.Calls.{AnswersFirstAsked}
+use Rattle.client_table.specs.declared.asked.AnyRequest.{AnyRequest}
 use Rattle.disk_trait.specs.Disk.{State}
 use Rattle.lisp_object.specs.declared.refusal.TheConstants.{DEVICE, LOG_FULL}
 use Rattle.message_frames.specs.Frames.{Sent}
@@ -9,6 +11,7 @@ use Rattle.message_laws.proofs.Together.{near_itself}
 use Rattle.message_session.specs.Answers.{AskAlike}
 use Rattle.message_session.specs.Sessions.{HoldsWorldAlone}
 use Rattle.message_session.specs.Steps.{AnswersFront, AreUntaken, Breaks, RefusesFirst, StopsAfter, TakesFrames, TakesWithRoom, ended_by}
+use Rattle.message_session.specs.declared.answer.TheConstants.{MOST_CLIENTS}
 use Rattle.message_session.specs.declared.answer.Stop.{Stop}
 use Rattle.message_session.specs.declared.answer.Stop.TheVariants as stop
 use Rattle.message_session.specs.declared.ended.Ended.{Ended}
@@ -19,15 +22,13 @@ use Rattle.message_session.proofs.Streams.{none_written}
 use Rattle.plist_state.specs.State.{WorldState}
 use Rattle.prevalence_store.specs.calls.Snapshot.{IsSnapshotted}
 use Rattle.prevalence_store.specs.calls.Store.{StoreView}
-use Rattle.messages.specs.declared.request.Request.{Request}
-use Rattle.messages.specs.Fronts.{AnswersFirst}
 use Rattle.messages.specs.Answers.{first_round}
 use Rattle.user_macros.specs.Functions.{Functions}
 
 module _ (functions : Functions) (last : ℕ) (w : WorldState) (tidy : IsTidy w.properties) {D R : Type 0} (state : D → State) (old new : StoreView D R) (known : old.world ≡ Some w) where
   -- the store did not take the first of them
-  module _ (held : Option (List ℕ)) (frames : List Sent) (requests : List Request) (alike : AskAlike requests frames) (number : ℕ)
-      (first : AnswersFirst functions state old new w last requests (Err number)) where
+  module _ (held : Option (List ℕ)) (frames : List Sent) (all : List AnyRequest) (alike : AskAlike all frames) (number : ℕ)
+      (first : AnswersFirstAsked functions state old new w MOST_CLIENTS last all (Err number)) where
     down : number ≢ LOG_FULL → Breaks functions last w state new held held frames (Fault number)
     down other = record {
       answered = [];
@@ -38,18 +39,18 @@ module _ (functions : Functions) (last : ℕ) (w : WorldState) (tidy : IsTidy w.
         before = old;
         before_last = last;
         after = record { left = w; known = known; near = near_itself functions (first_round last w) tidy };
-        requests = first.front;
-        asked = front_alike requests first.front first.rest frames first.parts alike;
+        asked = first.front;
+        alike = front_alike all first.front first.rest frames first.parts alike;
         refused = first.answers;
         full = λ is. absurd (other is);
         output = none_written held;
       })));
     }
 
-    pub untaken : 0 < length requests → (number ≢ DEVICE → new ≡ old) → (why : Stop) → StopsAfter number why → TakesFrames functions last w state new held held last old frames (Err why)
+    pub untaken : 0 < length all → (number ≢ DEVICE → new ≡ old) → (why : Stop) → StopsAfter number why → TakesFrames functions last w state new held held last old frames (Err why)
     untaken any unchanged (stop.Untaken n) stops =
         let same = unchanged stops.1 in
-        (refl, refl, same, subst (AreUntaken functions last w state old frames) (sym stops.0) (refused_first functions state old new w last frames requests number alike any first same))
+        (refl, refl, same, subst (AreUntaken functions last w state old frames) (sym stops.0) (refused_first functions state old new w last frames all number alike any first same))
     untaken any unchanged (stop.Ended ended) stops = subst (Breaks functions last w state new held held frames) (sym stops.0) (down stops.1)
 
   module _ (held written : Option (List ℕ)) (now_last : ℕ) (frames : List Sent) where

@@ -46,8 +46,8 @@ module _ (functions : Functions) (last : ℕ) (w : WorldState) {D R : Type 0} (s
     before = c.before;
     before_last = c.before_last;
     after = c.after;
-    requests = c.requests;
     asked = c.asked;
+    alike = c.alike;
     refused = c.refused;
     full = c.full;
     output = after_told answered written c.output;
@@ -57,7 +57,7 @@ module _ (functions : Functions) (last : ℕ) (w : WorldState) {D R : Type 0} (s
     before_last = c.before_last;
     after = c.after;
     refused = c.refused;
-    large = λ is. let none = c.large is in record { one = none.one; requests = none.requests; asked = none.asked; refused = none.refused };
+    large = λ is. let none = c.large is in record { one = none.one; asked = none.asked; alike = none.alike; refused = none.refused };
     output = after_told answered written c.output;
   })))
 

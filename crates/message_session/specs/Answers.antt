@@ -3,32 +3,37 @@ use Rattle.std.specs.Prelude.{ℕ, ◌≡◌, Bool, List, [], ◌∷◌, ◌++�
 use Rattle.std.specs.List.{flat_map}
 use Rattle.message_frames.specs.Frames.{Sent, answer_bytes, position_bytes}
 use Rattle.message_frames.specs.declared.frame.Kind.{Kind}
-use Rattle.message_frames.specs.declared.frame.Kind.TheVariants.{Do, Ask}
+use Rattle.message_frames.specs.declared.frame.Kind.TheVariants.{Do, By, Ask}
 use Rattle.plist_state.specs.State.{WorldState}
-use Rattle.messages.specs.declared.request.Request.{Request}
+use Rattle.client_table.specs.Named.{by_name}
+use Rattle.client_table.specs.declared.asked.AnyRequest.{AnyRequest}
+use Rattle.client_table.specs.declared.asked.AnyRequest.TheVariants as asked
+use Rattle.message_session.specs.declared.answer.TheConstants.{MOST_CLIENTS}
 use Rattle.messages.specs.Answers.{Round, first_round, by_number}
 use Rattle.user_macros.specs.Functions.{Functions}
 
--- a message has a number, a question none
-abbrev pub message_number : Kind → Option ℕ
-message_number (Do number) = Some number
-message_number Ask = None
+-- what is asked, and by which frame
+abbrev pub kind_by_number : Option ℕ → Kind
+kind_by_number (Some number) = Do number
+kind_by_number None = Ask
 
--- what is asked by a request, and by a frame
-abbrev pub parts_of_request : Request → Option ℕ × List ℕ
-parts_of_request request = (request.number, request.text.now)
+abbrev pub parts_of_asked : AnyRequest → Sent
+parts_of_asked (asked.Request request) = (kind_by_number request.number, request.text.now)
+parts_of_asked (asked.Named message) = (By message.number, message.text.now)
 
--- the number of a frame, where it has one, and its text
-abbrev pub parts_of_frame : Sent → Option ℕ × List ℕ
-parts_of_frame frame = (message_number frame.0, frame.1)
+-- this is what these frames ask
+abbrev pub AskAlike : List AnyRequest → List Sent → Type 0
+AskAlike all frames = map parts_of_asked all ≡ frames
 
--- these requests ask what these frames do
-abbrev pub AskAlike : List Request → List Sent → Type 0
-AskAlike requests frames = map parts_of_request requests ≡ map parts_of_frame frames
+-- by its kind
+abbrev pub by_kind : Functions → Round → Kind → List ℕ → Round
+by_kind functions round (Do number) text = by_number functions round (Some number) text
+by_kind functions round (By number) text = by_name functions MOST_CLIENTS number text round
+by_kind functions round Ask text = by_number functions round None text
 
 -- a round with the answer to one frame more, and to frames one after the other
 abbrev pub one_frame : Functions → Round → Sent → Round
-one_frame functions round frame = by_number functions round (message_number frame.0) frame.1
+one_frame functions round frame = by_kind functions round frame.0 frame.1
 
 -- how far a round comes with these frames
 abbrev pub each_frame : Functions → Round → List Sent → Round

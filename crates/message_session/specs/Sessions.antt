@@ -14,10 +14,12 @@ use Rattle.prevalence_store.specs.calls.Execute.{SurvivesAs}
 use Rattle.prevalence_store.specs.calls.Snapshot.{IsSnapshotted, Snapshots}
 use Rattle.prevalence_store.specs.calls.Store.{StoreView}
 use Rattle.sessions.specs.Streams.{Writes, WritesPart}
-use Rattle.messages.specs.declared.request.Request.{Request}
+use Rattle.client_table.specs.Calls.{AnswersAllAsked}
+use Rattle.client_table.specs.declared.asked.AnyRequest.{AnyRequest}
+use Rattle.message_session.specs.declared.answer.TheConstants.{MOST_CLIENTS}
 use Rattle.prevalence_store.specs.declared.outcome.Outcome.TheVariants.{Refused}
 use Rattle.messages.specs.Answers.{first_round}
-use Rattle.messages.specs.Calls.{AnswersRequests, BeginsMessages}
+use Rattle.messages.specs.Calls.{BeginsMessages}
 use Rattle.user_macros.specs.Functions.{Functions}
 use Rattle.world_text.specs.Snapshot.{snapshot}
 
@@ -83,18 +85,18 @@ module _ (functions : Functions) (last : ℕ) (world : WorldState) where
         pub before : StoreView D R
         pub before_last : ℕ
         pub after : HasCarriedOut answered before_last before
-        pub requests : List Request
-        pub asked : AskAlike requests next
-        pub refused : AnswersRequests functions state before store after.left before_last requests (Err number)
+        pub asked : List AnyRequest
+        pub alike : AskAlike asked next
+        pub refused : AnswersAllAsked functions state before store after.left MOST_CLIENTS before_last asked (Err number)
         pub full : number ≡ LOG_FULL → HoldsWorldAlone before after.left next
         pub output : Writes held written (bytes answered)
 
       -- It refused the next one for want of room, as that found it.
       pub record NextHasNoRoom (before : StoreView D R) (left : WorldState) (before_last : ℕ) : Type 0 where
         pub one : length next ≡ 1
-        pub requests : List Request
-        pub asked : AskAlike requests next
-        pub refused : AnswersRequests functions state before before left before_last requests (Err LOG_FULL)
+        pub asked : List AnyRequest
+        pub alike : AskAlike asked next
+        pub refused : AnswersAllAsked functions state before before left MOST_CLIENTS before_last asked (Err LOG_FULL)
 
       -- It refused a snapshot, that was due, or for the next ones, which had no room. One that is too large ends it for one frame alone:
       -- it is passed over if it is due.

@@ -18,8 +18,9 @@ use Rattle.prevalence_store.specs.calls.Execute.{SurvivesAs}
 use Rattle.prevalence_store.specs.calls.Snapshot.{IsSnapshotted, Snapshots}
 use Rattle.prevalence_store.specs.calls.Store.{StoreView}
 use Rattle.prevalence_store.specs.declared.outcome.Outcome.TheVariants.{Refused}
-use Rattle.messages.specs.declared.request.Request.{Request}
-use Rattle.messages.specs.Calls.{AnswersRequests}
+use Rattle.client_table.specs.Calls.{AnswersAllAsked}
+use Rattle.client_table.specs.declared.asked.AnyRequest.{AnyRequest}
+use Rattle.message_session.specs.declared.answer.TheConstants.{MOST_CLIENTS}
 use Rattle.user_macros.specs.Functions.{Functions}
 
 -- as the end of a session
@@ -57,9 +58,9 @@ module _ (functions : Functions) (last : ℕ) (world : WorldState) {D R : Type 0
     pub undone : List Sent
     pub parts : frames ≡ front ++ undone
     pub some : 0 < length front
-    pub requests : List Request
-    pub asked : AskAlike requests front
-    pub refused : AnswersRequests functions state old old world last requests (Err number)
+    pub asked : List AnyRequest
+    pub alike : AskAlike asked front
+    pub refused : AnswersAllAsked functions state old old world MOST_CLIENTS last asked (Err number)
 
   -- nothing was done with these frames: there was no memory for them, or the store refused the first of them
   abbrev pub AreUntaken : StoreView D R → List Sent → ℕ → Type 0

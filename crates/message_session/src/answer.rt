@@ -2,7 +2,7 @@
 ghost use Rattle.std.specs.Prelude.{◌≡◌, ℕ, ◌<◌, ◌≤◌, length, map, take, IfErr, IfOk, OnOk, Some};
 ghost use Rattle.std.specs.List.{flat_map};
 ghost use Rattle.message_frames.specs.Frames.{answer_bytes, sent_frame};
-ghost use Rattle.message_session.specs.Answers.{AskAlike, answers_to, message_number};
+ghost use Rattle.message_session.specs.Answers.{AskAlike, answers_to, parts_of_asked};
 ghost use Rattle.message_session.specs.Standing.{AnswersMore, ComeNext, RestsAt, RestsOrEnds, RestsOrStops};
 ghost use Rattle.message_session.specs.Steps.{AnswersFront, AnswersFrames, RenewsForRoom, RenewsWhereDue, StopsAfter, TakesFrames, TakesWithRoom, ended_by};
 ghost use Rattle.plist_state.specs.Sound.{IsSoundWorldState};
@@ -11,13 +11,17 @@ ghost use Rattle.messages.specs.Rounds.{told_in};
 
 use crate::ended::Ended;
 use crate::recipient::AnswerRecipient;
+use client_table::{AnyRequest, Named, answer_first_asked};
 use disk_trait::Disk;
 use lisp_object::refusal::{LOG_FULL, NO_MEMORY, OUTPUT, SNAPSHOT_TOO_LARGE};
 use message_frames::{Kind, MessageFrame, push_answer};
-use messages::{Answer, Replies, Request, answer_first_requests};
+use messages::{Answer, Replies, Request};
 use prevalence_store::{Outcome, Store};
 use std::alloc::{AllocError, Global};
 use user_macros::MacroFunctions;
+
+/// The most clients that the table of a store has.
+pub const MOST_CLIENTS: u64 = 16_384;
 
 /// How far a session has come: the number of the last message, and how many messages wrote since the last snapshot.
 #[derive(Clone, Copy)]
@@ -290,10 +294,10 @@ fn take_frames<D: Disk, R: MacroFunctions, O: AnswerRecipient<D, R>>(
     ensures macros { store.new.macros ≡ store.old.macros }
 {
     its_world_is_sound(store);
-    let Ok(requests) = requests_of(alloc, frames) else {
+    let Ok(asked) = asked_of(alloc, frames) else {
         return Err(Stop::Untaken(NO_MEMORY));
     };
-    let replies = match answer_first_requests(store, course.last, requests.as_slice()) {
+    let replies = match answer_first_asked(store, course.last, MOST_CLIENTS, asked.as_slice()) {
         Ok(replies) => replies,
         Err(number) => return Err(stop_after(number)),
     };
@@ -340,29 +344,32 @@ fn count_written(replies: &Replies) -> u64 {
 }
 
 // What is asked of the store.
-fn requests_of<'a>(
+fn asked_of<'a>(
     alloc: Global,
     frames: &[MessageFrame<'a>],
-) -> Result<Vec<Request<'a>>, AllocError>
-    ensures pairs { IfOk result (λ requests. AskAlike requests.items (map sent_frame frames.now)) }
-    ensures many { IfOk result (λ requests. length requests.items ≡ length frames.now) }
+) -> Result<Vec<AnyRequest<'a>>, AllocError>
+    ensures pairs { IfOk result (λ asked. AskAlike asked.items (map sent_frame frames.now)) }
+    ensures many { IfOk result (λ asked. length asked.items ≡ length frames.now) }
 {
-    let mut requests = Vec::with_capacity(alloc, frames.len())?;
+    let mut asked = Vec::with_capacity(alloc, frames.len())?;
     for frame in frames {
-        let number = number_in(frame.kind);
-        let text = frame.text;
-        requests.push(Request { number, text })?;
+        asked.push(asked_by(*frame))?;
     }
-    Ok(requests)
+    Ok(asked)
 }
 
-// The number of a message; a question has none.
-fn number_in(kind: Kind) -> Option<u64>
-    ensures { result ≡ message_number kind }
+// What a frame asks.
+fn asked_by(frame: MessageFrame<'_>) -> AnyRequest<'_>
+    ensures { parts_of_asked result ≡ sent_frame frame.entry }
 {
-    match kind {
-        Kind::Do(number) => Some(number),
-        Kind::Ask => None,
+    let text = frame.text;
+    match frame.kind {
+        Kind::Do(number) => AnyRequest::Request(Request {
+            number: Some(number),
+            text,
+        }),
+        Kind::By(number) => AnyRequest::Named(Named { number, text }),
+        Kind::Ask => AnyRequest::Request(Request { number: None, text }),
     }
 }
 

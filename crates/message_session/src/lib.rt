@@ -5,7 +5,7 @@
 //! ended is `Ended`.
 //!
 //! - `serve`: messages are begun, and the input is read to its end. What came is held (`Held` of message_frames) until it is whole frames
-//! - `answer`: frames are handed to the store together, which answers the first of them (`answer_first_requests` of messages), and
+//! - `answer`: frames are handed to the store together, which answers the first of them (`answer_first_asked` of client_table), and
 //!   their answers are written, until all are. A half that is full gets a snapshot; what has no room then, or no memory, is tried one by one
 //!
 //! - `ended`: how a session ends
@@ -21,6 +21,7 @@ mod ended;
 mod recipient;
 mod serve;
 
+pub use answer::MOST_CLIENTS;
 pub use ended::Ended;
 pub use recipient::AnswerRecipient;
 pub use serve::serve_messages;

@@ -1,4 +1,4 @@
-use Rattle.message_frames.proofs.Framed.{keyword_fault, message_fault, question_fault}
+use Rattle.message_frames.proofs.Framed.{client_message_fault, keyword_fault, message_fault, question_fault}
 use Rattle.message_frames.proofs.frame.first_frame.Goals as goal
 
 pub returns-in-Err-read_message : goal.returns-in-Err-read_message
@@ -11,3 +11,7 @@ returns-in-Err-read_sized c =
 
 pub returns-in-Err : goal.returns-in-Err
 returns-in-Err c = keyword_fault c.args.limit c.in-Err.fault c.args.bytes.now c.in-Err.ensures
+
+pub returns-in-Err-read_message-2 : goal.returns-in-Err-read_message-2
+returns-in-Err-read_message-2 c =
+    client_message_fault c.args.limit c.in-Err-read_message-2.fault c.in-Ok-By-default.rest.now c.args.bytes.now (rw c.in-Ok-By-default.field-0-0-is at c.in-Ok-By-default.ensures) c.in-Err-read_message-2.ensures

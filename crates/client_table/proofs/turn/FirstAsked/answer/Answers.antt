@@ -1,0 +1,111 @@
+use Rattle.std.proofs.Common.{◌≡◌, [], ◌∷◌, Some, length, length-append, refl, sym, ap, subst, ◌∙◌, arith}
+use Rattle.client_table.specs.Calls.{KeepsAnswers, RefusesAnyOwn}
+use Rattle.client_table.specs.Named.{all_answered}
+use Rattle.client_table.specs.Turn.{asked_front, first_asked}
+use Rattle.client_table.proofs.Settling.{replied_silent, replied_written, round as round_of}
+use Rattle.client_table.proofs.turn.FirstAsked.answer.Goals as goal
+use Rattle.messages.specs.Answers.{Round, first_round}
+use Rattle.messages.specs.Rounds.{IfRefused, MayBeLogged, round_in}
+use Rattle.messages.specs.declared.request.TheConstants.{ANSWER_BYTES}
+use Rattle.plist_state.specs.State.{Worlds}
+use Rattle.prevalence_store.specs.declared.failure.Unadded.{Unadded}
+use Rattle.prevalence_store.specs.steps.Batch.{IsMarked, entries_of}
+use Rattle.prevalence_store.proofs.steps.Grouping.{marked_more}
+
+pub answer_up_to-requires : goal.answer_up_to-requires
+answer_up_to-requires g c = record { none = ap (λ (r : Round). r.told) c.in_ok-round.ensures.begun }
+
+-- ---- a form of the store's own was refused
+
+pub back_to-requires : goal.back_to-requires
+back_to-requires g c =
+    let w = c.args.world.now in
+    let marked : IsMarked w c.answer_up_to.new.world.1 = c.answer_up_to.ensures.marks w ([], ap (λ (s : Worlds). s.1) c.in_ok-round.ensures.marked) in
+    omega (arith, ap length marked.1, length-append w.1 (w.0 ∷ marked.0), c.mark_count-mark.ensures)
+
+pub returns-in-Err-Refused-clause-made : goal.returns-in-Err-Refused-clause-made
+returns-in-Err-Refused-clause-made g c =
+    let functions = g.R.Meaning.Meaning.functions in
+    let turn = c.args.self.now in
+    let w = c.args.world.now in
+    let marked : IsMarked w c.answer_up_to.new.world.1 = c.answer_up_to.ensures.marks w ([], ap (λ (s : Worlds). s.1) c.in_ok-round.ensures.marked) in
+    let back : c.back_to.new.self ≡ w = c.back_to.ensures.whole w marked.0 marked.1 (sym c.mark_count-mark.ensures) in
+    let first = round_in c.in_ok-round.round c.begin.new.world.0 in
+    let first_is : first ≡ first_round turn.last w.0 = c.in_ok-round.ensures.begun in
+    let e = c.in-Err-Refused in (
+      subst (λ (r : Round). RefusesAnyOwn functions turn.most r (first_asked functions turn.most (Some ANSWER_BYTES) r turn.asked.now) e.number) first_is
+          (subst (λ (cause : Unadded). IfRefused cause (RefusesAnyOwn functions turn.most first (first_asked functions turn.most (Some ANSWER_BYTES) first turn.asked.now))) e.field-0-is e.ensures.refused),
+      ap (λ (s : Worlds). s.0) back,
+      ap entries_of c.requires.none,
+    )
+
+pub returns-in-Err-Refused-clause-marks : goal.returns-in-Err-Refused-clause-marks
+returns-in-Err-Refused-clause-marks g c = λ worlds before.
+    let w = c.args.world.now in
+    let marked : IsMarked w c.answer_up_to.new.world.1 = c.answer_up_to.ensures.marks w ([], ap (λ (s : Worlds). s.1) c.in_ok-round.ensures.marked) in
+    let back : c.back_to.new.self ≡ w = c.back_to.ensures.whole w marked.0 marked.1 (sym c.mark_count-mark.ensures) in
+    subst (λ (s : Worlds). IsMarked worlds s.1) (sym back) before
+
+-- memory ran out
+pub returns-in-Err-OutOfMemory-clause-marks : goal.returns-in-Err-OutOfMemory-clause-marks
+returns-in-Err-OutOfMemory-clause-marks g c = λ worlds before.
+    let w = c.args.world.now in
+    c.answer_up_to.ensures.marks worlds (marked_more worlds w.1 c.begin.new.world.1 w.0 (ap (λ (s : Worlds). s.1) c.in_ok-round.ensures.marked) before)
+
+-- ---- no message wrote
+
+pub back_to-requires-then-not-wrote : goal.back_to-requires-then-not-wrote
+back_to-requires-then-not-wrote g c =
+    let w = c.args.world.now in
+    let marked : IsMarked w c.answer_up_to.new.world.1 = c.answer_up_to.ensures.marks w ([], ap (λ (s : Worlds). s.1) c.in_ok-round.ensures.marked) in
+    omega (arith, ap length marked.1, length-append w.1 (w.0 ∷ marked.0), c.mark_count-mark.ensures)
+
+pub returns-then-not-wrote-clause-made : goal.returns-then-not-wrote-clause-made
+returns-then-not-wrote-clause-made g c =
+    let functions = g.R.Meaning.Meaning.functions in
+    let turn = c.args.self.now in
+    let w = c.args.world.now in
+    let held = c.answer_up_to.new.round in
+    let v = c.answer_up_to.new.world.0 in
+    let marked : IsMarked w c.answer_up_to.new.world.1 = c.answer_up_to.ensures.marks w ([], ap (λ (s : Worlds). s.1) c.in_ok-round.ensures.marked) in
+    let back : c.back_to-then-not-wrote.new.self ≡ w = c.back_to-then-not-wrote.ensures.whole w marked.0 marked.1 (sym c.mark_count-mark.ensures) in
+    let first_is : round_in c.in_ok-round.round c.begin.new.world.0 ≡ first_round turn.last w.0 = c.in_ok-round.ensures.begun in
+    let turned : round_in held v ≡ round_of functions turn w.0
+    = c.in-Ok.ensures.answered ∙ ap (λ (r : Round). all_answered functions turn.most r (first_asked functions turn.most (Some ANSWER_BYTES) r turn.asked.now)) first_is in
+    let made = c.in-Ok.ensures.made w.0 (subst (MayBeLogged functions w.0) (sym first_is) (record { again = refl; fit = tt })) in
+    let kept = subst (λ (r : Round). KeepsAnswers functions turn.most r (first_asked functions turn.most (Some ANSWER_BYTES) r turn.asked.now)) first_is c.in-Ok.ensures.kept in (
+      replied_silent functions turn w.0 held v turned made c.into_parts-replies.result.0 c.into_parts-replies.ensures.answers c.into_parts-replies.ensures.last c.args.batch.now
+          c.back_to-then-not-wrote.new.self.0 (sym (c.has_written-wrote.ensures v) ∙ c.if-not-wrote.true) (ap (λ (s : Worlds). s.0) back) c.requires.none,
+      kept,
+    )
+
+pub returns-then-not-wrote-clause-marks : goal.returns-then-not-wrote-clause-marks
+returns-then-not-wrote-clause-marks g c = λ worlds before.
+    let w = c.args.world.now in
+    let marked : IsMarked w c.answer_up_to.new.world.1 = c.answer_up_to.ensures.marks w ([], ap (λ (s : Worlds). s.1) c.in_ok-round.ensures.marked) in
+    let back : c.back_to-then-not-wrote.new.self ≡ w = c.back_to-then-not-wrote.ensures.whole w marked.0 marked.1 (sym c.mark_count-mark.ensures) in
+    subst (λ (s : Worlds). IsMarked worlds s.1) (sym back) before
+
+-- ---- a message wrote
+
+pub returns-clause-made : goal.returns-clause-made
+returns-clause-made g c =
+    let functions = g.R.Meaning.Meaning.functions in
+    let turn = c.args.self.now in
+    let w = c.args.world.now in
+    let held = c.answer_up_to.new.round in
+    let v = c.answer_up_to.new.world.0 in
+    let first_is : round_in c.in_ok-round.round c.begin.new.world.0 ≡ first_round turn.last w.0 = c.in_ok-round.ensures.begun in
+    let turned : round_in held v ≡ round_of functions turn w.0
+    = c.in-Ok.ensures.answered ∙ ap (λ (r : Round). all_answered functions turn.most r (first_asked functions turn.most (Some ANSWER_BYTES) r turn.asked.now)) first_is in
+    let made = c.in-Ok.ensures.made w.0 (subst (MayBeLogged functions w.0) (sym first_is) (record { again = refl; fit = tt })) in
+    let kept = subst (λ (r : Round). KeepsAnswers functions turn.most r (first_asked functions turn.most (Some ANSWER_BYTES) r turn.asked.now)) first_is c.in-Ok.ensures.kept in (
+      replied_written functions turn w.0 held v turned made c.into_parts-replies.result.0 c.into_parts-replies.ensures.answers c.into_parts-replies.ensures.last c.into_parts-replies.result.1
+          (sym (c.has_written-wrote.ensures v) ∙ c.if-not-wrote.false) c.into_parts-replies.ensures.batch,
+      kept,
+    )
+
+pub returns-clause-marks : goal.returns-clause-marks
+returns-clause-marks g c = λ worlds before.
+    let w = c.args.world.now in
+    c.answer_up_to.ensures.marks worlds (marked_more worlds w.1 c.begin.new.world.1 w.0 (ap (λ (s : Worlds). s.1) c.in_ok-round.ensures.marked) before)
