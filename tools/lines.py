@@ -4,8 +4,9 @@ usage: lines.py HISTORY PAGES PROGRAM WORD..
 
 The program gets a terminal of its own, so it does there what it does at any terminal. What it writes is handed on byte by byte. A line that it asks
 for is read with its prompt, kept in the file HISTORY, and handed over. Where a form begins, lines as `help`, `help GET` and `(help 31)` are answered
-from the file PAGES, and the store gets nothing of them; without that file they go to the program too. Ctrl-C drops the line and the form that are
-typed, and `quit` ends. Where Python has no readline the program is started as it is.
+from the file PAGES, and so is `(apropos "SYM")`; the store gets nothing of them. Without that file they go to the program too. TAB completes names:
+those of PAGES, and those in lines that were typed. Ctrl-C drops the line and the form that are typed, and `quit` ends. Where Python has no readline
+the program is started as it is.
 """
 import difflib
 import os
@@ -35,12 +36,21 @@ FULL, CUT = 4096, re.compile(rb"A terminal hands on 4,095 bytes .*\n.*\n")
 """What it says of a line of so many bytes, which another terminal would have cut."""
 
 HELP = """(SETF (GET 'APPLE 'PRICE) 7) sets a property, (GET 'APPLE 'PRICE) gives it, (SYMBOL-PLIST 'APPLE) gives all of a symbol.
-An answer that begins with ! is a refusal: help 31 tells of the number 31. help operators lists the operators, help GET tells of GET.
-Beside this session the command with the word help has all commands. The arrow up has the lines before, Ctrl-R finds one.
+An answer that begins with ! is a refusal: help 31 tells of the number 31. help operators lists the operators, help GET tells of GET,
+(apropos "SYM") finds operators by a part of their name. Beside this session the command with the word help has all commands.
+The arrow up has the lines before, Ctrl-R finds one. TAB completes a name, if it is an operator or was typed before.
 Ctrl-C drops what is typed. Ctrl-D at the beginning of a line ends, and so does quit. Each answer is in the store by then.
 """
 
 QUESTION = re.compile(r"\s*\(?\s*(?:\?|(?:[:.]?help|describe)(?:\s+'?(\S+?))?)\s*\)?\s*", re.IGNORECASE)
+
+APROPOS = re.compile(r"\s*\(?\s*:?apropos\s+['\":]*([^\s()\"]+)\"?\s*\)?\s*", re.IGNORECASE)
+
+SYMBOLS = "Beside this session show DIR --like '*%s*' shows the symbols of the store that have it in their name.\n"
+"""How symbols are found so, of which the pages have nothing."""
+
+BETWEEN_NAMES = " \t\n()`,;"
+"""What stands between names. A quote is none of it, as readline would add the other one to a name behind it."""
 
 LEAVE = re.compile(r"\s*(?:\.?(?:quit|exit)|\(\s*(?:quit|exit)\s*\))\s*", re.IGNORECASE)
 
@@ -69,12 +79,48 @@ def pages_of(path: str) -> Dict[str, str]:
     return dict(zip(parts[1::2], parts[2::2]))
 
 
+class Names:
+    """The names that TAB completes: operators and variables of the pages, and those in lines that were typed."""
+
+    def __init__(self, pages: Dict[str, str]) -> None:
+        self.operators = {name: text for name, text in pages.items() if name != "OPERATORS" and not text[:1].isdigit()}
+        self.names = set(self.operators)
+        self.before = ""
+        self.found: List[str] = []
+        readline.set_completer_delims(BETWEEN_NAMES)
+        readline.set_completer(self.complete)
+        readline.parse_and_bind("set completion-ignore-case on")
+        readline.parse_and_bind("tab: complete")
+
+    def add(self, line: str) -> None:
+        """Takes the names of a line, as they were typed. One of two letters is typed sooner than it is completed."""
+        self.names.update(word for word in re.split(f"[{BETWEEN_NAMES}'\"]", line) if len(word) > 2 and not word[0].isdigit())
+
+    def complete(self, word: str, count: int) -> Optional[str]:
+        """The names that begin so, one after the other. Within a text of Lisp, and where no name begins, a TAB is a character as others."""
+        if count == 0:
+            typed = self.before + readline.get_line_buffer()[: readline.get_endidx()]
+            begin = word.lstrip("'")
+            quote = word[: len(word) - len(begin)]
+            # of `apple` and `APPLE` the one that begins as the word does
+            names = sorted(self.names, key=lambda name: name.startswith(begin))
+            found = {name.upper(): quote + name for name in names if name.upper().startswith(begin.upper())}
+            is_text = typed.replace('\\"', "").count('"') % 2 == 1
+            self.found = [word + "\t"] if is_text or not begin else sorted(found.values())
+        return self.found[count] if count < len(self.found) else None
+
+    def like(self, part: str) -> str:
+        """The forms of the operators that have this in their name, a line each."""
+        forms = dict.fromkeys(text.partition("\n")[0] for name, text in sorted(self.operators.items()) if part.upper() in name and text[0] == "(")
+        none = f"there is no operator with {part} in its name; help operators lists the operators\n"
+        return ("".join(form + "\n" for form in forms) or none) + SYMBOLS % part.upper()
+
+
 class History:
     """The lines of this session and of those before it, in a file that nobody else may read."""
 
-    def __init__(self, path: str) -> None:
-        self.path = path
-        readline.parse_and_bind("set disable-completion on")
+    def __init__(self, path: str, names: Names) -> None:
+        self.path, self.names = path, names
         readline.set_auto_history(False)
         try:
             with open(path, encoding="utf-8", errors="surrogateescape") as file:
@@ -85,9 +131,11 @@ class History:
             self.write("".join(line + "\n" for line in lines[-MOST_LINES:]), os.O_TRUNC)
         for line in lines[-MOST_LINES:]:
             readline.add_history(line)
+            names.add(line)
 
     def add(self, line: str) -> None:
         """Keeps a line at once, as the session may end in any way; but not the same line twice, one after the other."""
+        self.names.add(line)
         last = readline.get_history_item(readline.get_current_history_length())
         if line.strip() and line != last:
             readline.add_history(line)
@@ -198,6 +246,9 @@ class Session:
 
     def typed(self, prompt: bytes) -> Optional[str]:
         """A line as it is typed; None after Ctrl-D and where a form would begin after `quit`. After Ctrl-C it is DROPPED if a form is open."""
+        names = self.history.names
+        if prompt == PROMPT:
+            names.before = ""
         while True:
             try:
                 line = input(prompt.decode("ascii"))
@@ -215,14 +266,21 @@ class Session:
                     return DROPPED
         if prompt == PROMPT and LEAVE.fullmatch(line):
             return None
+        names.before += line + "\n"
         for part in line.split("\n"):
             self.history.add(part)
         return line
 
     def is_answered(self, prompt: bytes, line: str) -> bool:
         """Answers a line that asks for help with what the pages have of it."""
+        if prompt != PROMPT or not self.pages:
+            return False
+        looked_for = APROPOS.fullmatch(line)
+        if looked_for:
+            self.write(self.history.names.like(looked_for[1]).encode("utf-8"))
+            return True
         asked = QUESTION.fullmatch(line)
-        if not asked or prompt != PROMPT or not self.pages:
+        if not asked:
             return False
         word = (asked[1] or "").upper().rpartition("::")[2]
         meant = "".join(f"; did you mean {near}?" for near in difflib.get_close_matches(word, self.pages, 1, 0.75))
@@ -248,11 +306,12 @@ def ended(process: int) -> int:
 def main() -> int:
     history, pages, *words = sys.argv[1:]
     sys.stdin.reconfigure(errors="surrogateescape")
-    kept = History(history)
+    told = pages_of(pages)
+    kept = History(history, Names(told))
     master, slave = terminal_for_lines()
     process = started(words, slave)
     try:
-        Session(master, kept, pages_of(pages)).serve()
+        Session(master, kept, told).serve()
     except KeyboardInterrupt:
         os.kill(process, signal.SIGINT)
     status = ended(process)

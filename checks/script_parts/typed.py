@@ -42,8 +42,11 @@ class Typed:
         return plain(self.until(until))
 
     def end(self, text=CONTROL_D):
-        """The last text, and the status."""
+        """The last text, and the status. A Ctrl-C that comes before Python waits for a line is not heard, so it is typed again."""
         os.write(self.master, text)
+        while text == CONTROL_C and self.process.poll() is None:
+            time.sleep(1)
+            os.write(self.master, text)
         self.until(b"\0 never")
         status = self.process.wait(timeout=PATIENCE)
         os.close(self.master)
@@ -88,7 +91,9 @@ def check_dropped(script, store, history):
     one.until(b"> ")
     one.type(b'(SETF (GET \'A \'B) "a text\n', b"\r\n. ")
     one.type(b"that goes on\n", b"\r\n. ")
-    told = one.type(b"and more" + CONTROL_C)
+    one.type(b"and more", b"and more")
+    time.sleep(1)
+    told = one.type(CONTROL_C)
     check("a form that is dropped", (b"!" in told, b"dropped" in told), (False, False))
     check("what is in the store", b"\r\n8\r\n> " in one.type(b"(GET 'A 'B)\n"), True)
     one.type(b"(LIST 1", b"(LIST 1")
@@ -114,6 +119,21 @@ def check_help(script, store, history):
         check(f"{line}", (says in told, b"! 3" in told), (True, False))
     told = one.type(b"(LIST\n", b"\r\n. ") + one.type(b"'help)\n")
     check("a line within a form is none of them", b"(HELP)" in told, True)
+    check("its end", one.end(), 0)
+
+
+def check_names(script, store, history):
+    """TAB completes operators and names that were typed, and is a character within a text; operators are found by a part of their name."""
+    one = Typed(script, store, history)
+    one.until(b"> ")
+    one.type(b"(SETF (GET 'ORCHARD 'B) 5)\n")
+    check("an operator that is completed", b"\r\n(B 5)\r\n> " in one.type(b"(symbol-pl\t 'ORCHARD)\n"), True)
+    check("a name that is completed", b"\r\n(ORCHARD B)\r\n> " in one.type(b"(LIST 'orc\t 'B)\n"), True)
+    check("a TAB within a text", b'\r\n("list\tORC\t")\r\n> ' in one.type(b'(LIST "list\tORC\t")\n'), True)
+    check("one before a form", b"\r\n(3)\r\n> " in one.type(b"\t(LIST 3)\n"), True)
+    for line, says in ((b'(apropos "plist")', b"\r\n(SYMBOL-PLIST s)\r\n"), (b"apropos frob", b"no operator with frob"), (b"(apropos 'frob)", b"show DIR --like '*FROB*'")):
+        told = one.type(line + b"\n")
+        check(f"{line}", (says in told, b"! 3" in told), (True, False))
     check("its end", one.end(), 0)
 
 
@@ -147,4 +167,5 @@ def check_all(script, room):
     check_session(script, store, history)
     check_help(script, store, history)
     check_dropped(script, store, history)
+    check_names(script, store, history)
     check_others(script, store, history)
