@@ -16,6 +16,8 @@ LITERALS = ["1", "0", "007", "12345678901234567", "123456789012345678", "9999999
             "'(1 . 2)", "(LIST 1 2)", "16r", "'|q|", "ff", "'ff", "FF", "#:G", "'#:G", "'(A B C)", "'(NEW-ONE)", "#'A", "'1", "'\"x\"",
             "';c\n1", ";c\n1", "'" + "(" * 97 + ")" * 97, "'" + "(" * 96 + ")" * 96, "''''A", "'S1", "'(S1 S2)", "'#3(A)",
             "-170141183460469231731687303715884105728", "170141183460469231731687303715884105727", "'(1" + " 2" * 70 + ")"]
+# Those that stand in such a form as it is carried out from its text.
+PLAIN_LITERALS = [it for it in LITERALS if it[:1] in ("'", '"', "-", "+") or it[:1].isdigit()]
 # Texts that the standard readtable does not read: they end a session of forms.
 FAULTY_NAMES = ["CL:CAR", "A:B", "A::B", "P:A", ".", "..", "a,b", "a`b", "a;b", 'a"b', "\xe9", "1e5", "L" * 4097]
 FAULTY_LITERALS = ["170141183460469231731687303715884105728", "1/0", '"', "1.5", "1)", "'", "", "#.1", "'" + "(" * 98 + ")" * 98]
@@ -71,6 +73,10 @@ class Session:
             return self.draw.choice([*KNOWN, *self.more])
         return self.draw.choice(FAULTY_NAMES if self.is_faulty() else NAMES)
 
+    def capitals(self) -> str:
+        """A name in capitals, which is there."""
+        return self.draw.choice([*(name for name in KNOWN if name.isupper()), *self.more])
+
     def quoted(self) -> str:
         """A name behind a quote, or behind something else."""
         is_odd = self.draw.randrange(8) == 0 and self.is_faulty()
@@ -96,7 +102,10 @@ class Session:
         return self.draw.choice([text[:at] + other + text[at:], text[:at] + text[at + 1 :], text[:at] + other + text[at + 1 :], text[:at]])
 
     def form(self) -> str:
-        """A form."""
+        """A form: every second one is carried out from its text, if its names are there."""
+        if self.draw.randrange(2):
+            made = f"(SETF (GET '{self.capitals()} '{self.capitals()}) {self.draw.choice(PLAIN_LITERALS)})"
+            return self.mutated(made) if self.draw.randrange(8) == 0 and self.is_faulty() else made
         kind = self.draw.randrange(44)
         if kind < 3:
             return self.draw.choice(SETTINGS)
