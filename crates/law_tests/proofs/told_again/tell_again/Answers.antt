@@ -5,10 +5,9 @@ use Rattle.client_table.specs.declared.asked.AnyRequest.{AnyRequest}
 use Rattle.client_table.specs.declared.asked.AnyRequest.TheVariants as asked
 use Rattle.client_table.specs.declared.asked.Named.{Named}
 use Rattle.disk_trait.specs.Disk.{State}
-use Rattle.messages.specs.Answers.{Round, first_round, with_answer, with_its_position, with_own, without_its_position}
+use Rattle.messages.specs.Answers.{Round, first_round, with_answer, with_its_position, without_its_position}
 use Rattle.messages.specs.Position.{position_property}
 use Rattle.messages.specs.Rounds.{told_in}
-use Rattle.messages.specs.declared.own.Own.TheVariants.{Clearing, Position}
 use Rattle.messages.specs.declared.request.Replies.{Replies}
 use Rattle.plist_state.specs.State.{WorldState}
 use Rattle.prevalence_store.specs.calls.Store.{StoreView}
@@ -19,6 +18,12 @@ use Rattle.law_tests.proofs.told_again.tell_again.Goals as goal
 either_told : (b : Bool) (x y : Round) → x.told ≡ y.told → (if b then x else y).told ≡ y.told
 either_told true x y same = same
 either_told false x y same = refl
+
+closed_told : (round : Round) → (with_its_position round).told ≡ round.told
+closed_told round = either_told round.wrote _ round refl
+
+cleared_told : (round : Round) → (without_its_position round).told ≡ round.told
+cleared_told round = either_told (is_some (position_property round.left)) _ round refl
 
 module _ (functions : Functions) {D R : Type 0} (state : D → State) (old new : StoreView D R) (world : WorldState) (most last : ℕ) (one : AnyRequest) (replies : Replies)
     (is : AnswersFirstAsked functions state old new world most last (one ∷ []) (Ok replies)) (some : 0 < length replies.answers.items) where
@@ -39,10 +44,9 @@ pub told_alone : (functions : Functions) (most : ℕ) (message : Named) (round :
     → by_name functions most message.number message.text.now round ≡ with_answer answer false (without_its_position round)
     → (all_answered functions most round (asked.Named message ∷ [])).told ≡ (answer, false) ∷ []
 told_alone functions most message round answer none is =
-    let after = by_name functions most message.number message.text.now round in
-    either_told after.wrote (with_own (Position after.last) after) after refl
+    closed_told (by_name functions most message.number message.text.now round)
     ∙ ap (λ (r : Round). r.told) is
-    ∙ ap (λ (ts : List (List ℕ × Bool)). ts ++ (answer, false) ∷ []) (either_told (is_some (position_property round.left)) (with_own Clearing round) round refl ∙ none)
+    ∙ ap (λ (ts : List (List ℕ × Bool)). ts ++ (answer, false) ∷ []) (cleared_told round ∙ none)
 
 pub returns-in-Ok : goal.returns-in-Ok
 returns-in-Ok g c = λ world form kept known named has found same.
