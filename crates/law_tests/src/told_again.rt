@@ -10,7 +10,7 @@ ghost use Rattle.plist_state.specs.State.{WorldState};
 use crate::AMPLE;
 use client_table::{AnyRequest, Named, answer_first_asked, messages_have_one_answer};
 use disk_trait::{Disk, MemoryDisk};
-use messages::Replies;
+use messages::{Replies, begin_messages};
 use prevalence_store::Store;
 use std::alloc::{AllocError, Global};
 use std::test::Fail;
@@ -51,11 +51,12 @@ fn told_twice<D: Disk + Drop, M: MacroFunctions + Drop>(
     let Ok(mut store) = Store::open(alloc, disk, macros, AMPLE) else {
         return Err(AllocError);
     };
+    let begun = begin_messages(&mut store);
     let first = tell_again(&mut store, 0, named);
     let second = tell_again(&mut store, 0, named);
     let _closed = store.close();
-    match (first, second) {
-        (Some(first), Some(second)) => Ok((first, second)),
+    match (begun, first, second) {
+        (Ok(_), Some(first), Some(second)) => Ok((first, second)),
         _ => Err(AllocError),
     }
 }
