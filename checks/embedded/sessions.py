@@ -40,9 +40,20 @@ def answered(step, player, folder):
     return played.text_of(status, out, err)
 
 
+def are_same(files, others):
+    """Whether the library left these files as the program left its own, but for zeros at their end: a session of the
+    program cuts those that stand behind the half in use."""
+    if files.keys() != others.keys():
+        return False
+    return all(file.startswith(others[name]) and not file[len(others[name]) :].strip(b"\0") for name, file in files.items())
+
+
 def difference(step, player, program, folder, other):
     """What a step gives over the library in place of what is wanted, or None. The same step is done by the program in
     another folder."""
+    if isinstance(step, played.Look):
+        # (after each run the library's files are compared with these)
+        return step.difference(program, other)
     if not isinstance(step, played.Run):
         step.difference(program, other)
         return step.difference(program, folder)
@@ -54,7 +65,7 @@ def difference(step, player, program, folder, other):
     wanted = played.joined(step.wanted)
     if found != wanted and not (step.is_open and found.startswith(wanted)):
         return f"{step.words}: wanted {wanted[:300]!r}, found {found[:300]!r}"
-    if files_of(folder) != files_of(other):
+    if not are_same(files_of(folder), files_of(other)):
         return f"{step.words}: other files than the program's"
     return None
 
