@@ -1,4 +1,5 @@
 //! How names are written.
+//! After an error, want of memory alone, a part may be written.
 ghost use Rattle.std.specs.Prelude.{◌≡◌, ◌∷◌, [], ◌++◌, if◌then◌else◌, codes, OnOk};
 ghost use Rattle.std.specs.List.{list_all};
 ghost use Rattle.canon_printer.specs.Names.{printed_name, is_plain, begins_plain, goes_on_plain, is_escaped_in_bars, is_invalid};

@@ -1,4 +1,5 @@
 //! How objects are written in a package.
+//! After an error, want of memory alone, a part may be written.
 ghost use Rattle.std.specs.Prelude.{◌≡◌, ◌==◌, true, not, ◌&&◌, [], ◌++◌, map, if◌then◌else◌, codes, IfOk, OnOk};
 ghost use Rattle.std.specs.List.{list_all};
 ghost use Rattle.std.specs.Option.{option_map_or};

@@ -1,4 +1,5 @@
 //! How symbols are written.
+//! After an error, want of memory alone, a part may be written.
 ghost use Rattle.std.specs.Prelude.{◌≡◌, ◌++◌, OnOk};
 ghost use Rattle.package_table.specs.Table.{IsPackage};
 ghost use Rattle.canon_printer.specs.Written.{printed_uninterned};

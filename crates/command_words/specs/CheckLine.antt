@@ -30,6 +30,6 @@ pub record IsCheck (rows : List Row) (check : Check) : Type 0 where
   pub store : option_map (λ (store : Bor Text). store.now) check.store ≡ first_of (codes "store") rows
   pub json : check.json ≡ is_set (first_of (codes "json") rows)
 
--- the words do
+-- the words ask for `check` with these options
 abbrev pub AsksToCheck : List Text → Check → Type 0
 AsksToCheck words check = FindsCommand (λ name rows. IsCheck rows check) (subcommand_of checking_line words)

@@ -48,13 +48,13 @@ export_line = with_rule (folder_line (codes "export")) (flag_rule (codes "data")
 abbrev pub program_line : App
 program_line = on_top (λ s. record s { has_version = true }) (new_app (codes "pazturrok"))
 
--- with `run`, `snapshot` and `upgrade`
+-- the command line with `run`, `snapshot` and `upgrade`
 abbrev pub writing_line : App
 writing_line =
     with_subcommand (with_subcommand (with_subcommand program_line
     run_line.top) (folder_line (codes "snapshot")).top) (folder_line (codes "upgrade")).top
 
--- and with `export`, `dump` and `verify`
+-- the same with `export`, `dump` and `verify` too
 abbrev pub command_line : App
 command_line =
     with_subcommand (with_subcommand (with_subcommand writing_line

@@ -19,7 +19,7 @@ use Rattle.command_words.specs.declared.looks.Shown.{Shown}
 
 -- ---- the commands
 
--- with two of its options
+-- the line of `show`, with its options for a package and an indicator
 abbrev pub rows_line : App
 rows_line = with_rule (with_rule (folder_line (codes "show")) (option_rule (codes "package"))) (option_rule (codes "indicator"))
 
@@ -27,15 +27,15 @@ rows_line = with_rule (with_rule (folder_line (codes "show")) (option_rule (code
 abbrev pub symbol_rule : Rule
 symbol_rule = record (new_rule (codes "SYMBOL")) { action = Some Set }
 
--- with all that names what is shown
+-- the same with `--like` and SYMBOL: all that names what is shown
 abbrev pub names_line : App
 names_line = with_rule (with_rule rows_line (option_rule (codes "like"))) symbol_rule
 
--- with how that is written
+-- the same with `--forms` and `--json`: how that is written
 abbrev pub layouts_line : App
 layouts_line = with_rule (with_rule names_line (flag_rule (codes "forms"))) (flag_rule (codes "json"))
 
--- and whether it is only counted
+-- the whole line of `show`: with `--count` too
 abbrev pub show_line : App
 show_line = with_rule layouts_line (flag_rule (codes "count"))
 
@@ -55,7 +55,7 @@ backup_line = with_rule (folder_line (codes "backup")) (place_rule (codes "DEST"
 abbrev pub dump_line : App
 dump_line = with_rule (folder_line (codes "dump")) (option_rule (codes "at"))
 
--- the program with `show`, `info` and `log` alone
+-- the command line with `show`, `info` and `log`
 abbrev pub telling_line : App
 telling_line =
     with_subcommand (with_subcommand (with_subcommand bare_line show_line.top) info_line.top) log_line.top
@@ -64,11 +64,11 @@ telling_line =
 abbrev pub verify_line : App
 verify_line = with_rule (folder_line (codes "verify")) (flag_rule (codes "json"))
 
--- and with `backup` and `dump`
+-- the same with `backup` and `dump`
 abbrev pub worlds_line : App
 worlds_line = with_subcommand (with_subcommand telling_line backup_line.top) dump_line.top
 
--- and with `verify`: all commands that look
+-- the command line of all commands that look: with `verify` too
 abbrev pub looking_line : App
 looking_line = with_subcommand worlds_line verify_line.top
 
@@ -134,7 +134,7 @@ IsLook name rows (Backup to) = (name ≡ codes "backup") × (Some to.now ≡ fir
 IsLook name rows (Dump place) = (name ≡ codes "dump") × (Some place ≡ place_given 0 (first_of (codes "at") rows))
 IsLook name rows Verify = name ≡ codes "verify"
 
--- and for this folder
+-- the words of a command ask for this look at this folder
 abbrev pub IsLooked : Text → Look → Text → List Row → Type 0
 IsLooked folder look name rows = (Some folder ≡ first_of (codes "DIR") rows) × IsLook name rows look
 

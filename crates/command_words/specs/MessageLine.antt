@@ -27,7 +27,7 @@ messages_of found =
 abbrev pub messages_in : List Text → Option Messages
 messages_in words = option_and_then messages_of (subcommand_of messages_line words)
 
--- no folder was found
+-- of which kind the error is where no folder was named
 abbrev pub missing_folder : Option Messages → Kinds
 missing_folder None = MissingRequiredArgument ∷ []
 missing_folder (Some messages) = []

@@ -231,12 +231,14 @@ fn error_of(alloc: Global, command: &mut Command<'_>, mistake: Mistake<'_>) -> E
     }
 }
 
+// The error where `--forms` is asked for beside another layout.
 fn two_layouts(alloc: Global, other: &str) -> Result<Error, AllocError> {
     let text = format!(in alloc; "the argument '--forms' cannot be used with '--{other}'")?;
     let mut show = Command::new(alloc, PROGRAM).override_usage(SHOW_USAGE);
     show.error(ErrorKind::ArgumentConflict, text.as_str())
 }
 
+// The error where the value of an option is no place of a record.
 fn no_place(alloc: Global, option: &str, value: &str) -> Result<Error, AllocError> {
     let wanted = "the number of a record, or G.N: N in the half of generation G";
     let text = format!(in alloc; "invalid value '{value}' for '--{option} <N>': {wanted}")?;

@@ -10,7 +10,7 @@ pub record CallsValue : Type 0 where
   pub done : List OrderValue
   pub pending : List OrderValue
 
--- all of them
+-- all orders, the pending ones before those that are done
 abbrev pub all_of : CallsValue → List OrderValue
 all_of calls = calls.pending ++ calls.done
 

@@ -19,7 +19,7 @@ spot_text line column = codes "line " ++ (decimal line ++ (codes ", column " ++ 
 abbrev pub refused_text : (number form : ℕ) → List ℕ
 refused_text number form = codes "refused with " ++ (decimal number ++ (codes " " ++ (name_of number ++ (codes " in form " ++ (decimal form ++ codes ", ")))))
 
--- where that form began
+-- the end of a line on a refusal: where the form began that was refused
 abbrev pub start_text : (line column : ℕ) → List ℕ
 start_text line column = codes "which began at line " ++ (decimal line ++ (codes ", column " ++ (decimal column ++ 10 ∷ [])))
 
@@ -39,7 +39,7 @@ start_byte_text bytes = codes "which began after " ++ (decimal bytes ++ (codes "
 abbrev pub byte_line : ℕ → ℕ → Place → List ℕ
 byte_line number form place = byte_text place.at ++ (refused_text number form ++ start_byte_text place.start)
 
--- one of the two
+-- the line on a refusal: by lines and columns where they are known, and else by bytes
 abbrev pub line_with : ℕ → ℕ → Place → Option Spots → List ℕ
 line_with number form place None = byte_line number form place
 line_with number form place (Some spots) = place_line number form spots

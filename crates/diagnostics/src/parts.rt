@@ -101,6 +101,7 @@ fn token_in(text: &[u8]) -> &[u8] {
     }
 }
 
+// Whether a name that is written ends before this byte.
 fn ends_name(byte: u8) -> bool {
     byte == b' ' || byte == b')' || byte == b';' || byte == b'('
 }
@@ -146,6 +147,7 @@ impl Walk<'_> {
         self.is_quoted = byte == b'\'';
     }
 
+    // A token is open from here on, if none is.
     fn begin_token(&mut self, at: usize) {
         if self.token.is_none() {
             self.token = Some(at);

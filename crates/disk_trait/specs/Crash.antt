@@ -30,7 +30,8 @@ mixed_after Lost at bytes left = left
 mixed_after (Filled byte) at bytes left = written at bytes left
 mixed_after (Scattered share) at bytes left = written at (scattered_bytes share 0 bytes (drop at left)) left
 
--- The same of a cut.
+-- What a crash leaves of a file with these bytes left that was to be cut to this length: by the same ways. Where single
+-- bytes are scattered, no cut is done.
 abbrev pub cut_after : Crash → ℕ → List ℕ → List ℕ
 cut_after Kept len left = take len left
 cut_after Lost len left = left

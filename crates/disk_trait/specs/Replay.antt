@@ -13,7 +13,7 @@ pub record FileState : Type 1 where
   pub reads : List ℕ
   pub may_leave : List ℕ → Type 0
 
--- nothing is pending
+-- a file that has these bytes, of which no write is pending: a crash leaves just them
 abbrev pub settled_file : List ℕ → FileState
 settled_file file = record { reads = file; may_leave = λ c. c ≡ file }
 

@@ -1,5 +1,7 @@
 //! GET of a property whose symbols are quoted, and SETF of such a property to a literal. They are carried out from the form: no
 //! symbol is copied, and no list of values is made. Where the form is given away, the literal is moved out of it.
+//! None, and a form that is given back, say that it is evaluated in the ordinary way. No clause says when: what the
+//! form gives is the same in both.
 ghost use Rattle.std.specs.Prelude.{◌≡◌, true, All, IfErr, IfOk, IfSome, List, None, Option, codes, length};
 ghost use Rattle.lisp_object.specs.Object.{Object, pair, symbol};
 ghost use Rattle.lisp_object.specs.Datum.{object_of};

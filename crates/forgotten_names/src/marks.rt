@@ -1,4 +1,5 @@
 //! Symbols that are marked, by their numbers.
+//! After an error, want of memory alone, some more may be marked.
 ghost use Rattle.std.specs.Prelude.{ℕ, ◌≡◌, ◌<◌, ◌^◌, ◌||◌, ◌==◌, false, [], ◌∷◌, length, slice_index_or, OnOk};
 ghost use Rattle.std.specs.List.{flat_map};
 ghost use Rattle.std.specs.Option.{option_map_or};

@@ -1,4 +1,5 @@
 //! The symbols that a world does not need.
+//! After an error, want of memory alone, nothing is left of the marks, and no world has changed.
 ghost use Rattle.std.specs.Prelude.{◌≡◌, ◌∷◌, ◌++◌, ◌||◌, not, length, map, filter, IfOk, OnOk};
 ghost use Rattle.std.specs.List.{flat_map};
 ghost use Rattle.package_table.specs.Lookup.{is_external};

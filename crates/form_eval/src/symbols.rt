@@ -1,4 +1,5 @@
 //! The interned symbols of a datum.
+//! After an error, want of memory alone, some may be added.
 ghost use Rattle.std.specs.Prelude.{◌≡◌, ◌++◌, OnOk, IfOk};
 ghost use Rattle.std.specs.List.{flat_map};
 ghost use Rattle.std.specs.Option.{option_map_or};

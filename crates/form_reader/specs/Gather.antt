@@ -23,13 +23,13 @@ abbrev pub EscapeFeeds : Table → Limits → ℕ → List ℕ → ℕ → List 
 EscapeFeeds table limits terminator text at cs None read = read ≡ run table limits (loop limits (text_turn table terminator) text) (at + 1) cs
 EscapeFeeds table limits terminator text at cs (Some number) read = read ≡ fault number at
 
--- in a line
+-- What a byte of a line does: the line goes on with this text, or it ends after the byte, or it is refused there.
 abbrev pub LineFeeds : Table → Limits → Keep → List ℕ → ℕ → List ℕ → LineByte → Read (List ℕ) → Type 0
 LineFeeds table limits keep text at cs LineMore read = read ≡ run table limits (loop limits (line_turn keep) text) (at + 1) cs
 LineFeeds table limits keep text at cs LineEnded read = read ≡ Ok (text, at + 1, cs)
 LineFeeds table limits keep text at cs (LineRefused number) read = read ≡ fault number at
 
--- in a block
+-- What a byte of a block does: the block goes on with these levels, or it ends after the byte, or it is refused there.
 abbrev pub BlockFeeds : Table → Limits → ℕ × ℕ → ℕ → List ℕ → LineByte → Read (Unit {0}) → Type 0
 BlockFeeds table limits levels at cs LineMore read = read ≡ run table limits (loop limits block_turn levels) (at + 1) cs
 BlockFeeds table limits levels at cs LineEnded read = read ≡ Ok (tt, at + 1, cs)

@@ -69,7 +69,7 @@ pub record IsBetween (reader : FormReader) : Type 0 where
   pub stack : reader.stack ≡ []
   pub state : reader.state ≡ Open AtObject
 
--- after a form it is between forms
+-- A reader that gave a form is between forms. Of other answers nothing is said.
 abbrev pub LeavesBetween : FormReader → Advance → Type 0
 LeavesBetween new (AdvanceForm datum start «end» next) = IsBetween new
 LeavesBetween new _ = Unit {0}

@@ -55,14 +55,14 @@ with_dot (InUntil close xs) = None
 with_dot (InDotted xs) = None
 with_dot (InTailed xs tail) = None
 
--- after it takes what was found
+-- what a call has gathered, after it takes what was found; none where it cannot
 abbrev pub with_found : Part → Found → Option Part
 with_found part (nothing token) = Some part
 with_found part (one token x) = with_object part x
 with_found part lone_dot = with_dot part
 with_found part the_end = None
 
--- the open calls then
+-- the open calls after the innermost takes what was found; none where no call is open, or it cannot take it
 abbrev pub calls_with : List Frame → Found → Option (List Frame)
 calls_with [] found = None
 calls_with (f ∷ fs) found = option_map (λ part. record { call = f.call; part = part } ∷ fs) (with_found f.part found)

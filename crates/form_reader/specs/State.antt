@@ -107,7 +107,7 @@ IsEnd most at (IsAt state) = ⊥
 IsEnd most at (IsGiven found) = lookahead found ≤ most
 IsEnd most at (IsRefused number offset) = offset ≤ at
 
--- of the byte at this offset
+-- An event has come with the byte at this offset, or right before it, and its places are within the text so far.
 abbrev pub IsReadyMove : Limits → ℕ → Moved → Type 0
 IsReadyMove limits at (AfterByte event) = IsReady limits (at + 1) event
 IsReadyMove limits at (BeforeByte event) = IsEnd 1 at event

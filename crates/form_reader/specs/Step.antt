@@ -52,7 +52,7 @@ pub record IsStanding (limits : Limits) (stack : List Frame) (state : State) (at
   pub nesting : length stack ≤ limits.nesting
   pub levels : IsStateAt at state
 
--- after so many bytes of the text
+-- the places of a change are within the text, of which so many bytes were taken
 abbrev pub IsReadyChange : Limits → List Frame → ℕ → Change → Type 0
 IsReadyChange limits stack count (Goes start at state) = IsStanding limits stack state at × (start + at ≡ count)
 IsReadyChange limits stack count (Form x start «end» next) = (next ≤ count) × (count ≤ next + 1) × (length stack ≤ limits.nesting)

@@ -62,11 +62,11 @@ module _ {A : Type 0} (change : Table → A → Result Table PackageError) (chan
 abbrev pub after_exports : Table → Name → List Symbol → Result (Table × Bool) PackageError
 after_exports u p ys = one_by_one (λ v y. after_export v p y.0 y.1) (λ v y. export_changes v p y.1) u false ys
 
--- these symbols are imported
+-- the packages after p has imported these symbols, one after the other, and whether that changed them; or the first refusal
 abbrev pub after_imports : Table → Name → List Symbol → Result (Table × Bool) PackageError
 after_imports u p ys = one_by_one (λ v y. after_import v p y.0 y.1) (λ v y. import_changes v p y.1) u false ys
 
--- these packages are used
+-- the packages after p uses these packages, one after the other, and whether that changed them; or the first refusal
 abbrev pub after_uses : Table → Name → List Name → Result (Table × Bool) PackageError
 after_uses u p qs = one_by_one (λ v q. after_use v p q) (λ v q. use_changes v p q) u false qs
 

@@ -49,7 +49,7 @@ setting_of limits table base packages current functions = record {
 
 -- ---- the way in which a function gathers
 
--- to the closing parenthesis
+-- how a standard function gathers, as a way; lists and vectors go to the closing parenthesis, which is 41
 abbrev pub standard_way : ℕ → StdGather → Way
 standard_way same StdNothing = Nothing
 standard_way same StdOne = Next

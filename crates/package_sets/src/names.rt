@@ -120,7 +120,7 @@ impl Names {
         self.find(name)
     }
 
-    // The number of a name, where the guess at it is right.
+    // The number of a name, where the guess at it is right. None says nothing of the name: it is looked up then.
     #[inline(always)]
     fn guessed(&self, name: &[u8]) -> Option<u32>
         ensures { IfSome result (λ n. position (bytes_eq name.now) self.now ≡ Some n) }

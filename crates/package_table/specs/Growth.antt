@@ -17,7 +17,7 @@ pub record IsSameBut (t u : Table) (p n : Name) : Type 0 where
   pub finds : (q m : Name) → (q ≢ p) ⊎ (m ≢ n) → home_by_name u q m ≡ home_by_name t q m
   pub externals : (q m : Name) → (q ≢ p) ⊎ (m ≢ n) → external_home u q m ≡ external_home t q m
 
--- whether the table changed
+-- a call that left the second table of the first tells whether they differ
 abbrev pub TellsOfChange : Bool → Table → Table → Type 0
 TellsOfChange true t u = u ≢ t
 TellsOfChange false t u = u ≡ t

@@ -9,10 +9,10 @@ most_packages = 1000
 abbrev pub most_symbols : ℕ
 most_symbols = 1000000
 
--- in bytes
+-- the most bytes of the name of a package
 abbrev pub longest_package_name : ℕ
 longest_package_name = 256
 
--- in bytes
+-- the most bytes of the name of a symbol
 abbrev pub longest_symbol_name : ℕ
 longest_symbol_name = 4096

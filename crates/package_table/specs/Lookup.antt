@@ -24,7 +24,7 @@ home_by_name t p n =
 abbrev pub is_present : Table → Name → Name → Bool
 is_present t p n = is_some (entry_at t p n)
 
--- it is external there
+-- the package p has an external symbol by the name n
 abbrev pub is_external : Table → Name → Name → Bool
 is_external t p n = is_some (external_home t p n)
 

@@ -13,7 +13,7 @@ pub data Resolution : Type 0 where
   found_at : Name → Resolution
   new_in : Name → Resolution
 
--- what an answer says
+-- what the answer of a call says: the home, and whether the symbol is there or would be new
 abbrev pub resolution_of : Resolved → Resolution
 resolution_of (Found home) = found_at home.now
 resolution_of (New home) = new_in home.now

@@ -275,7 +275,8 @@ pub(crate) fn found_home<'a>(sets: &'a PackageSets, owner: u32, name: &[u8]) -> 
     }
 }
 
-/// The number of the symbol that the package of a name finds by this name.
+/// The number of the symbol that the package of a name finds by this name. That None comes only where it finds none is
+/// said by no clause.
 #[inline(always)]
 pub(crate) fn found_by_names(sets: &PackageSets, owner: &[u8], name: &[u8]) -> Option<u32>
     requires { IsJoined (numbered_of sets.now).0 }

@@ -37,7 +37,8 @@ impl Packages {
         number_of(&self.sets, home, name)
     }
 
-    /// The number of the symbol that a package finds by this name, if it finds one.
+    /// The number of the symbol that a package finds by this name, if it finds one. That None comes only where it finds
+    /// none is said by no clause.
     pub fn found(&self, owner: &[u8], name: &[u8]) -> Option<u32>
         ensures { IfSome result (IsFoundNumber (table_now self.now) owner.now name.now) }
     {

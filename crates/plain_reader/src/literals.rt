@@ -1,4 +1,5 @@
 //! Literals: objects that are quoted, or evaluate to themselves.
+//! None says that no plain literal is there, and nothing of what the text means.
 ghost use Rattle.std.specs.Prelude.{◌≡◌, ◌∷◌, ◌<◌, [], ℕ, length, true, IfOk, IfSome, IsTrue};
 ghost use Rattle.lisp_object.specs.Object.{IsSound};
 ghost use Rattle.lisp_object.specs.Datum.{object_of};

@@ -1,4 +1,6 @@
 //! Lists, quoted objects and texts.
+//! None says that no plain object is there, and nothing of what the text means. After an error, want of memory alone, a
+//! part may be added.
 ghost use Rattle.std.specs.Prelude.{◌≡◌, ◌<◌, ℕ, ◌∷◌, [], codes, length, None, Some, IfOk, IfSome, IsTrue};
 ghost use Rattle.lisp_object.specs.Object.{symbol};
 ghost use Rattle.readtable_core.specs.Names.{std_string};

@@ -135,6 +135,7 @@ fn is_digit(c: u8) -> bool
     c.is_ascii_digit()
 }
 
+// The number with a digit more, while it is below 2^64.
 fn with_digit(n: u64, c: u8) -> Option<u64>
     requires { IsTrue (is_digit c) }
     ensures value { IfSome result (λ m. m ≡ n * 10 + (c - 48)) }

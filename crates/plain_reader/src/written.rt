@@ -1,5 +1,6 @@
 //! SETF of the property of two quoted symbols to a literal, by the names that stand in the text: no name is made, and none is
 //! sought but those of the operators.
+//! None says that the text is to be read as any other, and nothing of what it means.
 ghost use Rattle.std.specs.Prelude.{◌≡◌, ◌∷◌, ◌<◌, [], ℕ, codes, length, true, false, IfOk, IfSome, IsTrue};
 ghost use Rattle.std.specs.List.{list_all, list_any};
 ghost use Rattle.lisp_object.specs.Ascii.{is_ascii};

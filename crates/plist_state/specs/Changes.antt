@@ -26,15 +26,15 @@ plist s x = list_at s.properties x
 abbrev pub property : WorldState → Symbol → Symbol → Option Object
 property s x i = value_at (plist s x) i
 
--- with this value beside the indicator
+-- the world in which the symbol x has the value v beside the indicator i
 abbrev pub with_property : WorldState → Symbol → Symbol → Object → WorldState
 with_property s x i v = record s { properties = with_list s.properties x (with_value (plist s x) i v) }
 
--- REMPROP (standard 10.2)
+-- the world in which the symbol x has no value beside the indicator i, as after REMPROP (standard 10.2)
 abbrev pub without_property : WorldState → Symbol → Symbol → WorldState
 without_property s x i = record s { properties = with_list s.properties x (without_value (plist s x) i) }
 
--- with other packages
+-- the world with these packages, and all else as it was
 abbrev pub with_packages : WorldState → packages.Table → WorldState
 with_packages s t = record s { packages = t }
 

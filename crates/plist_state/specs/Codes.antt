@@ -40,7 +40,7 @@ case_number Downcase = 1
 case_number Preserve = 2
 case_number Invert = 3
 
--- and back
+-- the case of such a number
 abbrev pub numbered_case : ℕ → Case
 numbered_case n = if n == 0 then Upcase else (if n == 1 then Downcase else (if n == 2 then Preserve else Invert))
 

@@ -25,7 +25,7 @@ has_room [] = Unit {0}
 has_room (m ∷ []) = vec_len m < vec_capacity m
 has_room (m ∷ n ∷ ms) = has_room (n ∷ ms)
 
--- characters are below 128
+-- a character of which an entry is noted is below 128
 abbrev pub IsTableChange : TableChange → Type 0
 IsTableChange (Over before) = Unit {0}
 IsTableChange (Letters letters) = Unit {0}

@@ -35,7 +35,7 @@ with_row m i (p ∷ ps) = finite.insert m i (p ∷ ps)
 abbrev pub value_in : NumberedLists → ℕ → ℕ → Option Object
 value_in m i j = value_beside same_number (plist_of_number m i) j
 
--- with this value beside the indicator
+-- the lists in which number i has the value v beside the indicator j
 abbrev pub with_value_in : NumberedLists → ℕ → ℕ → Object → NumberedLists
 with_value_in m i j v = with_row m i (with_value_by same_number (plist_of_number m i) j v)
 

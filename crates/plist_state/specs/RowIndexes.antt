@@ -15,7 +15,7 @@ Orders = List (ℕ × ℕ)
 abbrev pub order_of : NumberedProperty → ℕ × ℕ
 order_of p = (p.indicator, p.order)
 
--- those of a row
+-- the order of each property of a row, by its indicator
 abbrev pub orders : List NumberedProperty → Orders
 orders items = map order_of items
 

@@ -61,7 +61,7 @@ first_readtables = finite.insert (finite.insert finite.empty standard_name readt
 abbrev pub first_base : ℕ
 first_base = 10
 
--- no properties
+-- what the first world has besides its packages: no properties, and the first readtables, package and base
 abbrev pub first_rest : Rest
 first_rest =
     record {
@@ -72,6 +72,6 @@ first_rest =
       read_base = first_base;
     }
 
--- the first state
+-- the world of a new store: the first packages, the first readtables, and no properties
 abbrev pub initial : WorldState
 initial = state_with packages.initial first_rest

@@ -83,7 +83,7 @@ pub record NumberedRest : Type 0 where
   pub current_readtable : Name
   pub read_base : ℕ
 
--- no properties
+-- what the first world has besides its packages, where lists are by numbers
 abbrev pub first_numbered : NumberedRest
 first_numbered =
     record {

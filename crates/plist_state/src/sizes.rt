@@ -21,7 +21,7 @@ fn key(number: u32, indicator: u32) -> u64
     u64::from(number) * 4_294_967_296 + u64::from(indicator)
 }
 
-/// The size that is noted of a property.
+/// The size that is noted of a property; None where none is, whatever the property.
 pub(crate) fn noted(sizes: &ListSizes, number: u32, indicator: u32) -> Option<u64>
     ensures { (m : NumberedLists) → AreSizes m sizes.now.entries
         → IfSome result (λ size. pair_size (value_in m number indicator) ≡ Some size) }

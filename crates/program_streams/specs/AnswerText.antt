@@ -33,7 +33,7 @@ at_start byte = if byte == 33 then Mark else in_value byte
 abbrev pub at_mark : ℕ → At
 at_mark byte = if byte == 32 then Refusal else in_value byte
 
--- after one byte more
+-- where the text of answers is after one byte more
 abbrev pub after : At → ℕ → At
 after Start byte = at_start byte
 after Mark byte = at_mark byte

@@ -44,6 +44,7 @@ const HELP: [&[u8]; 4] = [b"help", b":help", b"?", b"describe"];
 /// Words that would leave.
 const LEAVE: [&[u8]; 4] = [b"quit", b"exit", b":quit", b":exit"];
 
+// Whether a word is one of these, in upper or lower case.
 fn is_one_of(word: &[u8], words: &[&[u8]]) -> bool {
     for known in words {
         if word.eq_ignore_ascii_case(*known) {

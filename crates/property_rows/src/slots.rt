@@ -143,7 +143,8 @@ fn is_vacant(slots: &[Slot], at: usize, index: usize) -> bool
     at - gone_before(slots, tree_of(slots.len()), at) == index
 }
 
-/// The slot that a property of this order left, where it is gone still and the property comes to this index again.
+/// The slot that a property of this order left, where it is gone still and the property comes to this index again. None
+/// says nothing of the row: the property is put in as a new one then.
 pub(crate) fn vacant(slots: &[Slot], index: usize, order: u64) -> Option<usize>
     requires { IsSlots slots.now }
     ensures { IfSome result (λ at. IsVacant slots.now at index) }

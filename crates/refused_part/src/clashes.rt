@@ -187,6 +187,7 @@ fn clash_of_symbols<'a>(world: &World, given: &'a Datum, owner: &'a [u8]) -> Opt
     None
 }
 
+// The clash of a symbol that a package is to have, where the package finds another one by its name.
 fn clash_of_symbol<'a>(world: &World, symbol: &'a Datum, owner: &'a [u8]) -> Option<Clash<'a>>
     requires owner { IsPackage world.now.0.packages owner.now }
 {

@@ -68,6 +68,7 @@ impl<D: Disk, M: MacroFunctions, O: Recipient<D, M>, B: Origin<D>> Recipient<D, 
 
     ghost first = { λ l. named_first B.first l.name };
 
+    // Writes the lines to the output, and notes that so many forms were told of.
     fn write_lines(
         &mut self,
         store: &Store<D, M>,

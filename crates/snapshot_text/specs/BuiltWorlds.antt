@@ -18,7 +18,7 @@ use Rattle.plist_state.specs.State.{Readtables, WorldState, initial, standard_na
 use Rattle.plist_state.specs.Changes.{with_property, with_packages}
 use Rattle.plist_state.specs.Sound.{IsSymbol}
 
--- with other property lists
+-- the world with these property lists, and all else as it was
 abbrev pub with_properties : WorldState → Properties → WorldState
 with_properties s m = record s { properties = m }
 
@@ -27,7 +27,7 @@ abbrev pub with_each : WorldState → Symbol → Plist → WorldState
 with_each s x [] = s
 with_each s x (p ∷ ps) = with_each (with_property s x p.0 p.1) x ps
 
--- with this readtable under a name
+-- the world with this readtable under the name n
 abbrev pub with_table : WorldState → Name → readtable.Table → WorldState
 with_table s n t = record s { readtables = finite.insert s.readtables n t }
 

@@ -60,6 +60,6 @@ pub record AreFirstRows (s : Table) (count : ℕ) (rows : List PackageParts) : T
 abbrev pub AreRowsOf : Table → List PackageParts → Type 0
 AreRowsOf s rows = AreFirstRows s (length (other_packages s)) rows
 
--- of each package of s
+-- this is so of each package of s
 abbrev pub Everywhere : Table → (Name → Type 0) → Type 0
 Everywhere s P = (p : Name) → IsPackage s p → P p

@@ -1,4 +1,5 @@
 //! The packages of a world, made from the first line of a snapshot. No text of the line is copied but one at a time.
+//! After an error the world may have a part of it: it is new, and is let go then.
 ghost use Rattle.std.specs.Prelude.{◌≡◌, ◌≢◌, ◌<◌, ◌++◌, ℕ, List, [], ◌∷◌, All, length, map, IfOk};
 ghost use Rattle.package_table.specs.Table.{Name, Table, common_lisp, keyword, IsPackage, IsPresent, IsExternal, AreSoundPackages, Uses};
 ghost use Rattle.package_table.specs.Growth.{Grows};

@@ -1,4 +1,5 @@
 //! The property lists of a world, made from the rows of the second object of a snapshot.
+//! After an error the world may have a part of it: it is new, and is let go then.
 ghost use Rattle.std.specs.Prelude.{◌≡◌, ◌∷◌, [], true, map};
 ghost use Rattle.std.specs.List.{list_all, flat_map};
 ghost use Rattle.lisp_object.specs.Datum.{object_of, is_proper};

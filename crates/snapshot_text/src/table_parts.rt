@@ -1,4 +1,5 @@
 //! The readtables of a world, made from the third object of a snapshot.
+//! After an error the world may have a part of it: it is new, and is let go then.
 ghost use Rattle.std.specs.Prelude.{◌≡◌, ◌<◌, ◌≤◌, ℕ, List, [], ◌∷◌, Some, true, unwrap_or, IsTrue, IsFalse};
 ghost use Rattle.lisp_object.specs.Object.{text, list_of};
 ghost use Rattle.lisp_object.specs.Datum.{object_of, is_proper};

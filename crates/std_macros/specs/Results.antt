@@ -34,7 +34,7 @@ abbrev pub finish_error_number : FinishError → ℕ
 finish_error_number OutOfMemory = NO_MEMORY
 finish_error_number (Refused refusal) = std_refusal_number refusal
 
--- what was handed in
+-- the material that was handed in, as the definitions see it
 abbrev pub view_gathered : StdGathered → Material
 view_gathered GatheredNothing = nothing
 view_gathered (GatheredOne datum) = one (object_of datum)

@@ -32,7 +32,7 @@ letter_of B = codes "B"
 abbrev pub half_line : Half → ℕ → ℕ → List ℕ
 half_line half generation records = codes "half " ++ (letter_of half ++ (codes " generation " ++ (decimal generation ++ (codes " records " ++ (decimal records ++ 10 ∷ [])))))
 
--- the same of an open store
+-- the line on the half in use of an open store
 abbrev pub half_line_of : {D R : Type 0} → StoreView D R → List ℕ
 half_line_of store = half_line store.half store.generation store.record_count
 
@@ -55,7 +55,7 @@ pub record IsReport (functions : Functions) {D R : Type 0} (state : D → State)
   pub tells : TellsText status held written (report_text report opened is_opened.world)
   pub disk_is : back ≡ opened.disk
 
--- no form was accepted
+-- an outcome that is no accepted form
 abbrev pub HasNoValue : Outcome → Type 0
 HasNoValue (Accepted value) = ⊥
 HasNoValue Snapshotted = Unit {0}
@@ -149,7 +149,7 @@ TellsHalfAndPosition WordsRefused held written = Unit {0}
 TellsHalfAndPosition LeftOut held written = ⊥
 TellsHalfAndPosition (Fault number) held written = Unit {0}
 
--- and the line on some half
+-- by the status: a command that is done has written the line on some half
 abbrev pub TellsHalf : Status → List ℕ → Option (List ℕ) → Type 0
 TellsHalf Done held written = (half : Half) × (generation : ℕ) × (records : ℕ) × (written ≡ Some (held ++ half_line half generation records))
 TellsHalf FormRefused held written = ⊥
@@ -159,7 +159,7 @@ TellsHalf WordsRefused held written = Unit {0}
 TellsHalf LeftOut held written = ⊥
 TellsHalf (Fault number) held written = Unit {0}
 
--- and the line on some version
+-- by the status: a command that is done has written the line on some version
 abbrev pub TellsVersion : Status → List ℕ → Option (List ℕ) → Type 0
 TellsVersion Done held written = (version : ℕ) × (written ≡ Some (held ++ version_line version))
 TellsVersion FormRefused held written = ⊥

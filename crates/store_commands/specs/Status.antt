@@ -22,7 +22,7 @@ exit_code WordsRefused = 2
 exit_code LeftOut = 3
 exit_code (Fault number) = 3
 
--- after a session
+-- the status after a session, by how it ended
 abbrev pub status_of_ended : Ended → Status
 status_of_ended End = Done
 status_of_ended (Unreadable number place) = FormRefused
@@ -41,7 +41,7 @@ abbrev pub status_of_output : Result Unit Unwritten → Status
 status_of_output (Ok written) = Done
 status_of_output (Err unwritten) = Fault OUTPUT
 
--- after files that were not opened
+-- the status where the system did not open the files
 abbrev pub status_of_host : HostError → Status
 status_of_host host.OutOfMemory = Fault NO_MEMORY
 status_of_host _ = Fault DEVICE
@@ -79,7 +79,8 @@ TakesWords Unanswered = Unit {0}
 TakesWords LeftOut = Unit {0}
 TakesWords (Fault number) = Unit {0}
 
--- after words that gave no command: that of their kind of error, or a fault of the output where help was not written
+-- the status after words that gave no command: that of their kind of error, or a fault of the output where help was not
+-- written
 abbrev pub IsAfterWords : ErrorKind → Status → Type 0
 IsAfterWords kind status = (status ≡ status_of_kind kind) ⊎ ((status_of_kind kind ≡ Helped) × (status ≡ Fault OUTPUT))
 

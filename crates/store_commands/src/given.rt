@@ -31,6 +31,7 @@ impl Given {
         given
     }
 
+    // What was given, after one byte more.
     fn after(self, byte: u8) -> Given {
         match (self, byte) {
             (Given::Nothing, b';') => Given::LineComment,

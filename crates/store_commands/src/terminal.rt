@@ -224,6 +224,8 @@ impl<I, P: Prompts> Terminal<'_, I, P> {
 impl<I: Read, P: Prompts> Read for Terminal<'_, I, P> {
     ghost remaining = { λ t. I.remaining t.input };
 
+    // Reads one byte. Before it, it notes what the byte before left open, and tells what a line asked to be told of; at
+    // the beginning of a line it writes a prompt. At the end of the input it ends the line.
     fn read(&mut self, buf: &mut [u8]) -> io::Result<usize> {
         if buf.is_empty() {
             return self.input.read(buf);

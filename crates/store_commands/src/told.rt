@@ -86,6 +86,7 @@ impl Told {
         }
     }
 
+    // The cause of a fault of the device, if that is what is told.
     fn cause(&self) -> Option<&HostError> {
         match self {
             Told::Cause(cause) => Some(cause),

@@ -54,7 +54,7 @@ place_members place (Some spots) =
     later_member (codes "line") spots.at.line ++ later_member (codes "column") spots.at.column
     ++ later_member (codes "start-line") spots.start.line ++ later_member (codes "start-column") spots.start.column
 
--- the same as an object
+-- a refusal as an object of JSON
 abbrev pub refusal_object : Refusal → List ℕ
 refusal_object refusal =
     123 ∷ [] ++ string_member (codes "name") (name_of refusal.number) ++ later_member (codes "number") refusal.number

@@ -76,7 +76,7 @@ system_of measures state does = record {
 
 -- ---- what the words ask for
 
--- the same texts
+-- the selection has the texts of the options
 pub record IsSelection (shown : Shown) (selection : Selection) : Type 0 where
   pub symbol : text_of selection.symbol ≡ text_of shown.symbol
   pub in_package : text_of selection.package ≡ text_of shown.package
@@ -93,7 +93,7 @@ abbrev pub TellsProperties : Bool → Notation → Selection → WorldState → 
 TellsProperties false notation selection world text = IsShown selection world text
 TellsProperties true notation selection world text = IsCountText selection world notation text
 
--- and why they are not
+-- why properties are not shown, or not counted
 abbrev pub WithholdsProperties : Bool → Selection → WorldState → ShowError → Type 0
 WithholdsProperties false selection world error = IsUnshown selection world error
 WithholdsProperties true selection world error = IsNoCount selection world error
@@ -146,7 +146,7 @@ module _ (functions : Functions) {R : Type 0} (macros : R) where
     pub is : Is is_opened.world text
     pub tells : TellsText status held written text
 
-  -- it was opened, and this is so of its world
+  -- The files that were seen opened as a store, and this is so of its world.
   pub record Has (Is : WorldState → Type 0) (sight : Sight) : Type 0 where
     pub opened : StoreView Sight R
     pub is_opened : IsOpened functions state_of_sight sight macros half_limit opened
@@ -193,6 +193,7 @@ module _ (functions : Functions) {R : Type 0} (macros : R) where
       pub is_opened : IsOpened functions state_of_sight sight macros half_limit opened
       pub tells : TellsText status held written (verified_text opened.half opened.generation opened.record_count (position is_opened.world))
 
+    -- What a look of each kind writes of the files that were seen, and how it ends.
     unfoldable pub TellsLook : System → Text → Look → Sight → Status → Type 0
     TellsLook system folder (Show shown) sight status = TellsShown shown sight status
     TellsLook system folder (Info part) sight status = TellsInfo part (system.measures folder) sight status
@@ -219,10 +220,12 @@ module _ (functions : Functions) {R : Type 0} (macros : R) (whole : Bool) where
       ⊎ (((error : LogError) × IsNoLog error (state_of_sight sight).reads × (why ≡ of_log error))
       ⊎ ((same : Sight) × ((state_of_sight same).reads ≡ (state_of_sight sight).reads) × (Unopens functions whole same why ⊎ (why ≡ unlooked.Fault NO_MEMORY))))
 
+  -- why `info` tells nothing
   unfoldable pub WithholdsInfo : InfoPart → (Result Figures HostError → Type 0) → Sight → Unlooked → Type 0
   WithholdsInfo part measured sight why =
       ((part.files ≡ true) × WithholdsFileFigures measured sight why) ⊎ ((part.files ≡ false) × WithholdsFigures measured sight why)
 
+  -- why `show` tells nothing
   unfoldable pub WithholdsShown : Shown → Sight → Unlooked → Type 0
   WithholdsShown shown sight why =
       Unopens functions whole sight why

@@ -1,4 +1,5 @@
 // How forms that cannot be read are told: by lines, or by objects of JSON.
+// Where memory runs out, a part of what is to be added may be there.
 ghost use Rattle.std.specs.Prelude.{◌≡◌, ◌++◌, codes, decimal, OnOk};
 ghost use Rattle.diagnostics.specs.Refusals.{form_of, line_of};
 ghost use Rattle.store_looks.specs.CheckReports.{checked_counts_line, counts_object, counts_text, later_member, refusal_object, place_members, unreadable_text};

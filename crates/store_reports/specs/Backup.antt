@@ -46,7 +46,7 @@ pub record IsLeft (old new : State) : Type 0 where
 
 -- ---- why a log is refused, with this number
 
--- it was not opened
+-- the files of the backup were not opened as a log, with this number
 pub record IsBackupUnopened (number : ℕ) (old new : State) : Type 0 where
   pub refusal : OpenRefusal
   pub number_is : number ≡ open_number refusal
@@ -124,7 +124,7 @@ module _ {D : Type 0} (state : D → State) (does : Deed D → Type 0) (limit : 
     pub compared : IsCompared
     pub named : does (placed dir)
 
-  -- one of these was not had
+  -- the new store was not written, or not compared, or did not get its name
   abbrev pub IsUnplaced : BackupError → Type 0
   IsUnplaced error = IsCopyUnwritten error ⊎ (IsUncompared error ⊎ does (not_placed dir error))
 
@@ -133,6 +133,6 @@ module _ {D : Type 0} (state : D → State) (does : Deed D → Type 0) (limit : 
     pub begins : does (begun dir)
     pub ends : HasItsName
 
-  -- There is none, and this is why. What was begun was taken away.
+  -- No new store is at the place, and this is why. What was begun was taken away.
   abbrev pub IsUnmade : BackupError → Type 0
   IsUnmade error = does (not_begun dir error) ⊎ (does (begun dir) × does (taken_away dir) × IsUnplaced error)

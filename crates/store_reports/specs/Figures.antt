@@ -48,7 +48,7 @@ half_figures_line Lines B = codes "half B" ++ 10 ∷ []
 half_figures_line Json A = codes "{\"half\":\"A\""
 half_figures_line Json B = codes "{\"half\":\"B\""
 
--- and last
+-- what ends the figures: in JSON the brace of the object
 abbrev pub end_of_figures : Notation → List ℕ
 end_of_figures Lines = []
 end_of_figures Json = codes "}\n"
@@ -88,6 +88,7 @@ module _ (notation : Notation) where
       ++ figure notation (codes "bytes") half.bytes
       ++ figure notation (codes "first-bytes") half.first_bytes
 
+  -- the figures of the half in use
   abbrev pub half_text : HalfFigures → List ℕ
   half_text half =
       half_figures_line notation half.half
@@ -95,7 +96,7 @@ module _ (notation : Notation) where
       ++ figure notation (codes "generation") half.generation
       ++ sizes_text half
 
-  -- of the world
+  -- the figures of a world
   abbrev pub counts_text : FigureCounts → List ℕ
   counts_text counts =
       figure notation (codes "packages") counts.packages
@@ -103,10 +104,11 @@ module _ (notation : Notation) where
       ++ figure notation (codes "symbols-with-properties") counts.owners
       ++ figure notation (codes "properties") counts.properties
 
+  -- those of this world
   abbrev pub world_text : WorldState → List ℕ
   world_text world = counts_text (counts_in world)
 
-  -- of the files
+  -- the figures of the two files
   abbrev pub files_text : Figures → List ℕ
   files_text files =
       figure notation (codes "half-a-bytes") files.bytes_a
@@ -114,9 +116,10 @@ module _ (notation : Notation) where
       ++ known_figure notation (codes "half-a-age") files.age_a
       ++ known_figure notation (codes "half-b-age") files.age_b
 
+  -- all figures: of the half, the world and the files
   abbrev pub info_text : HalfFigures → WorldState → Figures → List ℕ
   info_text half world files = half_text half ++ world_text world ++ files_text files ++ end_of_figures notation
 
-  -- the same without the world
+  -- the figures of the half and the files alone
   abbrev pub file_info_text : HalfFigures → Figures → List ℕ
   file_info_text half files = half_text half ++ files_text files ++ end_of_figures notation

@@ -39,6 +39,7 @@ module _ (wanted : Selection) (world : WorldState) where
   unfoldable pub printed_properties : List ℕ → Symbol → ℕ
   printed_properties text x = if is_printed text x then taken_properties x else 0
 
+  -- one, if the symbol is printed as this text, and else none
   unfoldable pub printed_symbols : List ℕ → Symbol → ℕ
   printed_symbols text x = if is_printed text x then 1 else 0
 

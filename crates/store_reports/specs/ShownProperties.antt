@@ -84,6 +84,7 @@ module _ (wanted : Selection) (world : WorldState) where
   unfoldable pub shown_homes : List ℕ → Name → List ℕ
   shown_homes text home = flat_map (λ name. shown_home text (home, name)) (own_names world.packages home)
 
+  -- the same over all packages that may be the home
   unfoldable pub shown_by_home : List ℕ → List ℕ
   shown_by_home text = flat_map (shown_homes text) (package_names world.packages)
 
@@ -102,7 +103,7 @@ module _ (wanted : Selection) (world : WorldState) where
     pub symbol : is_some wanted.symbol ≡ true → text ≢ []
     pub indicator : is_some wanted.indicator ≡ true → text ≢ []
 
-  -- why none are shown
+  -- why no property is shown
   abbrev pub IsUnshown : ShowError → Type 0
   IsUnshown showing.OutOfMemory = Unit {0}
   IsUnshown showing.NoPackage = has_wanted ≡ false

@@ -1,4 +1,5 @@
 //! How many properties of a world are shown.
+//! Where memory runs out, a part of what is to be added may be there.
 ghost use Rattle.std.specs.List.{count_by, sum_by};
 ghost use Rattle.std.specs.Prelude.{◌≡◌, ◌+◌, ◌++◌, IfErr, IfOk, MatchResult, OnOk, min};
 ghost use Rattle.package_table.specs.Readers.{names_of, own_names};

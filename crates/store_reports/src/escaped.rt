@@ -1,4 +1,5 @@
 //! Text for a line of a terminal.
+//! Where memory runs out, a part of what is to be added may be there.
 ghost use Rattle.std.specs.Prelude.{◌≡◌, ◌<◌, ◌++◌, OnOk};
 ghost use Rattle.store_reports.specs.EscapedText.{shown_for_terminal, escaped_byte, hexadecimal};
 

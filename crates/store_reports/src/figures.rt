@@ -1,4 +1,5 @@
 //! Figures of a store.
+//! Where memory runs out, a part of what is to be added may be there.
 ghost use Rattle.std.specs.Prelude.{◌≡◌, ◌+◌, ◌-◌, ◌^◌, ◌<◌, ◌++◌, length, IfErr, IfOk, OnOk};
 ghost use Rattle.log_look.specs.FirstRecords.{LogIsUnopened};
 ghost use Rattle.package_table.specs.Readers.{package_names};

@@ -1,4 +1,5 @@
 // A symbol that is asked for by its text.
+// Where memory runs out, a part of what is to be added may be there.
 ghost use Rattle.std.specs.List.{flat_map};
 ghost use Rattle.std.specs.Prelude.{◌≡◌, ◌++◌, [], ◌∷◌, IfOk, OnOk};
 ghost use Rattle.package_table.specs.Readers.{names_of};

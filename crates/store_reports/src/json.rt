@@ -1,4 +1,5 @@
 // Text of JSON.
+// Where memory runs out, a part of what is to be added may be there.
 ghost use Rattle.std.specs.List.{flat_map};
 ghost use Rattle.std.specs.Prelude.{◌≡◌, ◌++◌, OnOk};
 ghost use Rattle.store_reports.specs.Json.{json_byte, json_number, json_string, number_member, string_member};

@@ -146,7 +146,8 @@ fn put_in_place<R: Files<File = File> + AllocGlobal>(
     Ok(())
 }
 
-// Takes a folder away that was made here.
+// Takes a folder away that was made here, with all that is in it. What fails in that is not told: the cause of the
+// backup is.
 fn remove<R: Files<File = File> + AllocGlobal>(rt: &R, made: &str) {
     let _ = fs::remove_dir_all(rt, made);
 }

@@ -1,4 +1,5 @@
 //! Properties of a world.
+//! Where memory runs out, a part of what is to be added may be there.
 ghost use Rattle.std.specs.Prelude.{◌≡◌, ◌++◌, true, IfErr, IfOk, OnOk};
 ghost use Rattle.std.specs.List.{flat_map};
 ghost use Rattle.lisp_object.specs.Datum.{is_proper};

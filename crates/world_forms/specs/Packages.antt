@@ -26,7 +26,7 @@ unfoldable pub change_line : List ℕ → (home name : Name) → Name → List �
 change_line operator home name p =
     line_of_form (codes "(" ++ operator ++ codes " " ++ value_text (codes "'(") (codes ")") home name ++ codes " " ++ printed_text p ++ codes ")")
 
--- the form that makes a symbol of another home present in p, and the one that makes a symbol external
+-- the line that makes a symbol of another home present in p
 abbrev pub import_line : Name → Name × Name → List ℕ
 import_line p r = change_line (codes "IMPORT") r.1 r.0 p
 
@@ -55,7 +55,7 @@ module _ (t : Table) where
   unfoldable pub use_lines : Name → List ℕ
   use_lines p = flat_map (use_line p) (used_names t p)
 
-  -- all of them
+  -- all lines of the packages: what makes them, their own symbols, what they show, what they use
   unfoldable pub package_lines : List ℕ
   package_lines =
       flat_map package_line (package_names t) ++ flat_map own_lines (package_names t)

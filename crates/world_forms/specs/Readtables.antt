@@ -45,7 +45,7 @@ module _ (name : Name) where
   unfoldable pub syntax_line : ℕ → Syntax → List ℕ
   syntax_line c syntax = option_map_or (like_line c) (character_of_type syntax) []
 
-  -- one with a function
+  -- the line that makes a character a macro character with a function
   unfoldable pub macro_line : ℕ → List ℕ → Syntax → List ℕ
   macro_line c function syntax =
       codes "(SET-MACRO-CHARACTER" ++ character_argument c ++ keyword_argument function ++ kind_argument syntax ++ table_end

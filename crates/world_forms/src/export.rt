@@ -1,4 +1,5 @@
 //! All forms of a world.
+//! After an error, want of memory alone, a part may be added.
 ghost use Rattle.std.specs.Prelude.{◌≡◌, [], decimal, option_map, IfOk, OnOk};
 ghost use Rattle.std.specs.Option.{option_map_or};
 ghost use Rattle.canon_printer.specs.Written.{AddsText};

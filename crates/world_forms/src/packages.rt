@@ -1,4 +1,5 @@
 //! The forms that make the packages.
+//! After an error, want of memory alone, a part may be added.
 ghost use Rattle.std.specs.Prelude.{◌≡◌, ◌++◌, IfOk, OnOk};
 ghost use Rattle.std.specs.List.{flat_map};
 ghost use Rattle.canon_printer.specs.Written.{AddsText};

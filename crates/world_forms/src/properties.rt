@@ -1,4 +1,5 @@
 //! The forms that make the properties.
+//! After an error, want of memory alone, a part may be added.
 ghost use Rattle.std.specs.Prelude.{◌≡◌, ◌++◌, true, codes, IfOk, OnOk};
 ghost use Rattle.std.specs.List.{flat_map};
 ghost use Rattle.lisp_object.specs.Datum.{object_of, is_proper};

@@ -109,7 +109,7 @@ abbrev pub tables_object : WorldState → Object
 tables_object s =
     list_of (text s.current_package ∷ text s.current_readtable ∷ number s.read_base ∷ readtables_object s ∷ [])
 
--- the same in version 1
+-- the third object of a snapshot of version 1
 abbrev pub tables_object_1 : WorldState → Object
 tables_object_1 s = list_of (text s.current_package ∷ text s.current_readtable ∷ readtables_object s ∷ [])
 
@@ -128,7 +128,7 @@ snapshot_line packages x = printed packages common_lisp_user x ++ 10 ∷ []
 abbrev pub lines_with : WorldState → Object → Object → List ℕ
 lines_with s first third = snapshot_line s.packages first ++ snapshot_line s.packages (properties_object s) ++ snapshot_line s.packages third
 
--- with this for the third object
+-- the text of a world with this object for its third
 abbrev pub snapshot_with : WorldState → Object → List ℕ
 snapshot_with s third = lines_with s (packages_object s.packages) third
 

@@ -1,4 +1,5 @@
 //! The packages of a snapshot, as text.
+//! After an error, want of memory alone, a part may be added.
 ghost use Rattle.std.specs.Prelude.{◌≡◌, [], ◌∷◌, ◌++◌, true, not, map, filter, bytes_eq, IfOk, OnOk};
 ghost use Rattle.std.specs.List.{list_all, flat_map};
 ghost use Rattle.lisp_object.specs.Object.{list_of};

@@ -1,4 +1,5 @@
 //! The property lists of a snapshot: each as data, and all as text.
+//! After an error, want of memory alone, a part may be added.
 ghost use Rattle.std.specs.Prelude.{◌≡◌, ◌++◌, ◌&&◌, true, IfOk, OnOk};
 ghost use Rattle.std.specs.List.{list_all, flat_map};
 ghost use Rattle.lisp_object.specs.Datum.{object_of, is_proper};

@@ -1,4 +1,5 @@
 //! The readtables of a snapshot, as data.
+//! After an error, want of memory alone, a part may be added.
 ghost use Rattle.std.specs.Prelude.{bytes_eq, ◌≡◌, ◌++◌, ◌<◌, ◌≤◌, [], ◌∷◌, not, filter, true, pos, map, IfOk, OnOk, unwrap_or, None, get_or};
 ghost use Rattle.std.specs.List.{list_all, flat_map, range_with_len};
 ghost use Rattle.lisp_object.specs.Object.{list_of, text};

@@ -1,4 +1,5 @@
 //! Lists of texts, as data and as text.
+//! After an error, want of memory alone, a part may be added.
 ghost use Rattle.std.specs.Prelude.{◌≡◌, ◌&&◌, true, [], ◌∷◌, ◌++◌, map, IfOk, OnOk};
 ghost use Rattle.std.specs.List.{list_all, flat_map};
 ghost use Rattle.lisp_object.specs.Object as object;

@@ -46,7 +46,7 @@ acknowledged_of_form mode (Ok given) (Accepted value) = length (records_of given
 acknowledged_of_form mode (Ok given) Snapshotted = 0
 acknowledged_of_form mode (Ok given) (Refused number) = 0
 
--- and the world after it
+-- the world after a step with this outcome: that which an accepted form left, and else the one that was there
 abbrev pub world_of : WorldState → Result Acceptance ℕ → Outcome → WorldState
 world_of world (Err number) outcome = world
 world_of world (Ok given) (Accepted value) = given.world

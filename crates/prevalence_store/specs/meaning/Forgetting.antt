@@ -13,7 +13,7 @@ use Rattle.forgotten_names.specs.WorldsWithoutNames.{forgettable, forgotten}
 abbrev pub held_symbols : List Symbol
 held_symbols = (common_lisp_user, codes "position") ∷ []
 
--- its symbol
+-- the symbol FORGET-NAMES of PAZTURROK
 abbrev pub forget_names : Object
 forget_names = symbol pazturrok (codes "FORGET-NAMES")
 

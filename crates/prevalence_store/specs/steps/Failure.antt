@@ -6,7 +6,7 @@ use Rattle.prevalence_store.specs.declared.failure.Unadded.TheVariants as unadde
 use Rattle.prevalence_store.specs.declared.failure.Unlogged.{Unlogged}
 use Rattle.prevalence_store.specs.declared.failure.Unlogged.TheVariants as unlogged
 
--- evaluation refused it
+-- whether it was evaluation that refused the form
 abbrev pub is_refusal : Unadded → Bool
 is_refusal (unadded.Refused number) = true
 is_refusal unadded.OutOfMemory = false

@@ -101,6 +101,7 @@ fn has_lists(readtable: &Readtable) -> bool {
     calls(readtable, b'(', STD_LIST) && calls(readtable, b')', STD_CLOSE)
 }
 
+// Whether the function at this character has this name.
 fn calls(readtable: &Readtable, c: u8, name: &[u8]) -> bool {
     match readtable.macro_of(c) {
         Some(function) => function.as_bytes() == name,
