@@ -16,7 +16,7 @@ use Rattle.plist_state.specs.State.{WorldState}
 use Rattle.session_words.specs.declared.mode.Mode.TheVariants.{Current, Rescue}
 use Rattle.prevalence_store.specs.declared.failure.Unadded.{Unadded}
 use Rattle.prevalence_store.specs.declared.failure.Unadded.TheVariants.{OutOfMemory, Refused}
-use Rattle.messages.specs.declared.request.Answer.{Answer}
+use Rattle.messages.specs.declared.request.RequestAnswer.{RequestAnswer}
 use Rattle.messages.specs.declared.request.Replies.{Replies}
 use Rattle.messages.specs.declared.request.TheConstants.{ANSWER_BYTES}
 use Rattle.prevalence_store.specs.calls.ExecuteAll.{world_left_after, told_of}

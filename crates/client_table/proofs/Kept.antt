@@ -16,7 +16,7 @@ use Rattle.package_table.specs.Table.{Table, common_lisp, common_lisp_names}
 use Rattle.package_table.proofs.FirstNames.{lisp_present}
 use Rattle.plist_state.specs.Changes.{plist, property, with_property}
 use Rattle.plist_state.specs.Properties.{Plist, Symbol, same_symbol, value_at, with_value}
-use Rattle.plist_state.specs.Sound.{IsKnown, IsValue}
+use Rattle.plist_state.specs.Sound.{IsSymbolStorable, IsValue}
 use Rattle.plist_state.specs.State.{WorldState}
 use Rattle.plist_state.proofs.Lists.{list-with_list}
 use Rattle.plist_state.proofs.Orders.{symbol_tied}
@@ -80,7 +80,7 @@ module _ (form answer : List ℕ) (fits : length form < 2 ^ 64) where
 -- ---- it may be stored
 
 module _ (t : Table) (sound : packages.AreSoundPackages t) where
-  nil_known : IsKnown t nil
+  nil_known : IsSymbolStorable t nil
   unfolding common_lisp_names
   nil_known = lisp_present t sound (codes "NIL") refl
 

@@ -15,7 +15,7 @@ use Rattle.prevalence_store.specs.declared.failure.Unlogged.{Unlogged}
 use Rattle.prevalence_store.specs.declared.failure.Unlogged.TheVariants.{DeviceFault, Full, OutOfMemory}
 use Rattle.client_table.specs.declared.asked.AnyRequest.{AnyRequest}
 use Rattle.client_table.specs.declared.turn.FirstAsked.{FirstAsked}
-use Rattle.messages.specs.declared.request.Answer.{Answer}
+use Rattle.messages.specs.declared.request.RequestAnswer.{RequestAnswer}
 use Rattle.messages.specs.declared.request.Replies.{Replies}
 use Rattle.messages.specs.declared.round.Round.{Round as Held}
 use Rattle.prevalence_store.specs.calls.Store.{StoreView}
@@ -26,7 +26,7 @@ use Rattle.client_table.specs.Calls.{AnswersAllAsked, KeepsAnswers}
 use Rattle.messages.specs.Calls.{AreNotAnswered, FailOnDevice, entries_by, left_after}
 use Rattle.messages.specs.Rounds.{MayBeLogged as IsMadeBy, round_in, told_in}
 use Rattle.client_table.specs.Turn.{MakesAnswers, asked_front}
-use Rattle.messages.specs.Turn.{AreReplied}
+use Rattle.messages.specs.Turn.{AreRequestsAnswered}
 use Rattle.prevalence_store.specs.steps.Batch.{FailsBatch, IsEmpty, StoresBatch, entries_in, entries_of}
 use Rattle.prevalence_store.specs.steps.Failure.{failure_number, is_device_failure}
 use Rattle.prevalence_store.specs.steps.Together.{IsMade, IsNotMade}
@@ -57,10 +57,10 @@ module _ (functions : Functions) (turn : FirstAsked) (w : WorldState) where
 
   module _ (held : Held) (v : WorldState) (turned : round_in held v ≡ round) (made : IsMadeBy functions w (round_in held v)) (replies : Replies) (answers : replies.answers ≡ held.answers) (last : replies.last ≡ held.last) (batch : Batch) where
     -- a message wrote
-    pub replied_written : held.wrote ≡ true → batch ≡ held.batch → AreReplied functions w round v (entries_in batch) replies
+    pub replied_written : held.wrote ≡ true → batch ≡ held.batch → AreRequestsAnswered functions w round v (entries_in batch) replies
     replied_written wrote same =
-        subst (λ (r : Round). AreReplied functions w r v (entries_in batch) replies) turned (record {
-          told = ap (λ (a : Vec Answer). map told_in a.items) answers;
+        subst (λ (r : Round). AreRequestsAnswered functions w r v (entries_in batch) replies) turned (record {
+          told = ap (λ (a : Vec RequestAnswer). map told_in a.items) answers;
           last = last;
           made = made;
           left_is = sym (ap (λ b. left_after b w v) wrote);
@@ -68,10 +68,10 @@ module _ (functions : Functions) (turn : FirstAsked) (w : WorldState) where
         })
 
     -- none did
-    pub replied_silent : (left : WorldState) → held.wrote ≡ false → left ≡ w → IsEmpty batch → AreReplied functions w round left (entries_in batch) replies
+    pub replied_silent : (left : WorldState) → held.wrote ≡ false → left ≡ w → IsEmpty batch → AreRequestsAnswered functions w round left (entries_in batch) replies
     replied_silent left wrote back none =
-        subst (λ (r : Round). AreReplied functions w r left (entries_in batch) replies) turned (record {
-          told = ap (λ (a : Vec Answer). map told_in a.items) answers;
+        subst (λ (r : Round). AreRequestsAnswered functions w r left (entries_in batch) replies) turned (record {
+          told = ap (λ (a : Vec RequestAnswer). map told_in a.items) answers;
           last = last;
           made = made;
           left_is = back ∙ sym (ap (λ b. left_after b w v) wrote);

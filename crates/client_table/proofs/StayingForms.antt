@@ -12,7 +12,7 @@ use Rattle.client_table.proofs.StayingOperators.{Kept, Keeps, IsKeeping, list_ke
 use Rattle.evaluator.specs.Value.{value}
 use Rattle.evaluator.proofs.FunctionLaws.{computed_keeps}
 use Rattle.evaluator.proofs.Induction.{Operators, Steps, every_value}
-use Rattle.forgotten_names.specs.WorldsWithoutNames.{forgotten}
+use Rattle.forgotten_names.specs.WorldsWithoutNames.{without_unneeded_symbols}
 use Rattle.forgotten_names.specs.NeededSymbols.{plist_symbols, stands_among}
 use Rattle.forgotten_names.proofs.ForgottenSound.{symbol_stays}
 use Rattle.forgotten_names.proofs.Members.{among_itself, among_later, among_left, among_right}
@@ -23,7 +23,7 @@ use Rattle.lisp_operators.specs.Evaluation.{Evaluation}
 use Rattle.lisp_operators.proofs.Keeping.{keeps_also, keeps_then}
 use Rattle.lisp_operators.proofs.LookUpLaws.{look_up_keeps}
 use Rattle.lisp_operators.proofs.PlaceLaws.{change_keeps}
-use Rattle.lisp_reading.specs.Reading.{Outcome as Reading, form, empty, refused}
+use Rattle.lisp_reading.specs.Reading.{ReadingResult as Reading, form, empty, refused}
 use Rattle.package_table.specs.declared.error.PackageError.{PackageError}
 use Rattle.package_table.specs.Changes.{after_intern}
 use Rattle.package_table.specs.Symbols.{symbols}
@@ -159,7 +159,7 @@ module _ (s : WorldState) (name : List ℕ) where
       )
 
   -- FORGET-NAMES leaves them, since the world needs them
-  forgotten_has : HasEntrySymbols s name → IsSome (entry_property s name) → HasEntrySymbols (forgotten held_symbols s) name
+  forgotten_has : HasEntrySymbols s name → IsSome (entry_property s name) → HasEntrySymbols (without_unneeded_symbols held_symbols s) name
   forgotten_has has some =
       let list = listed some in (
         symbol_stays held_symbols s owner has.0 (in_list held_symbols s owner list.0 list.1 owner (among_itself owner (plist_symbols list.0))),

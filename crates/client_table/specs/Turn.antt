@@ -7,7 +7,7 @@ use Rattle.client_table.specs.declared.turn.FirstAsked.{FirstAsked}
 use Rattle.gate_log.specs.Layout.{LogRecord}
 use Rattle.messages.specs.Answers.{Round, first_round}
 use Rattle.messages.specs.Fronts.{is_full}
-use Rattle.messages.specs.Turn.{AreReplied}
+use Rattle.messages.specs.Turn.{AreRequestsAnswered}
 use Rattle.messages.specs.declared.request.Replies.{Replies}
 use Rattle.messages.specs.declared.request.TheConstants.{ANSWER_BYTES}
 use Rattle.plist_state.specs.State.{WorldState}
@@ -26,6 +26,6 @@ module _ (functions : Functions) (turn : FirstAsked) (world : WorldState) where
   -- what is made of them: replies, or the number with which a form of the store's own is refused
   abbrev pub MakesAnswers : (left : WorldState) → List LogRecord → Result Replies ℕ → Type 0
   MakesAnswers left records (Ok replies) =
-      AreReplied functions world (all_answered functions turn.most (first_round turn.last world) asked_front) left records replies
+      AreRequestsAnswered functions world (all_answered functions turn.most (first_round turn.last world) asked_front) left records replies
       × KeepsAnswers functions turn.most (first_round turn.last world) asked_front
   MakesAnswers left records (Err number) = RefusesAnyOwn functions turn.most (first_round turn.last world) asked_front number × (left ≡ world) × (records ≡ [])

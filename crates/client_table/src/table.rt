@@ -10,7 +10,7 @@ ghost use Rattle.messages.specs.Answers.{refusal_answer, refusal_text, with_answ
 ghost use Rattle.messages.specs.Rounds.{IfRefused, StaysMade, round_in};
 ghost use Rattle.plist_state.specs.State.{WorldState, Worlds};
 ghost use Rattle.prevalence_store.specs.calls.ExecuteAll.{told_by};
-ghost use Rattle.prevalence_store.specs.steps.Batch.{IsMarked};
+ghost use Rattle.prevalence_store.specs.steps.Batch.{IsWorldMarked};
 ghost use Rattle.user_macros.specs.Functions.{Functions};
 
 use crate::asked::{NO_ENTRY, NO_FRAME, NO_ROOM, NOT_KEPT, Named, OTHER_TEXT};
@@ -50,8 +50,8 @@ pub(crate) fn answer_named<R: MacroFunctions>(
         (round_in round.old world.old.0) (round_in round.new world.new.0)) }
     ensures refused { IfErr result (λ cause. IfRefused cause
         (RefusesNamed R.Meaning.functions most (round_in round.old world.old.0) named.now)) }
-    ensures marks { (worlds : Worlds) → IsMarked worlds world.old.1
-        → IsMarked worlds world.new.1 }
+    ensures marks { (worlds : Worlds) → IsWorldMarked worlds world.old.1
+        → IsWorldMarked worlds world.new.1 }
 {
     match round.clear(world, macros) {
         Ok(()) => {}
@@ -86,8 +86,8 @@ fn answer_by_table<R: MacroFunctions>(
         (round_in round.old world.old.0) (round_in round.new world.new.0)) }
     ensures refused { IfErr result (λ cause. IfRefused cause
         (RefusesMessageAt R.Meaning.functions message.entry.name.now (form_told message.entry) (round_in round.old world.old.0))) }
-    ensures marks { (worlds : Worlds) → IsMarked worlds world.old.1
-        → IsMarked worlds world.new.1 }
+    ensures marks { (worlds : Worlds) → IsWorldMarked worlds world.old.1
+        → IsWorldMarked worlds world.new.1 }
 {
     match client_standing(world, message.number, message.form, message.name) {
         Standing::New => answer_new(round, world, macros, most, message),
@@ -168,8 +168,8 @@ fn answer_new<R: MacroFunctions>(
         (round_in round.old world.old.0) (round_in round.new world.new.0)) }
     ensures refused { IfErr result (λ cause. IfRefused cause
         (RefusesMessageAt R.Meaning.functions message.entry.name.now (form_told message.entry) (round_in round.old world.old.0))) }
-    ensures marks { (worlds : Worlds) → IsMarked worlds world.old.1
-        → IsMarked worlds world.new.1 }
+    ensures marks { (worlds : Worlds) → IsWorldMarked worlds world.old.1
+        → IsWorldMarked worlds world.new.1 }
 {
     let Some(form) = message.form else {
         return tell(round, b"NIL", false);
@@ -209,8 +209,8 @@ fn admit<R: MacroFunctions>(
         (round_in round.old world.old.0) (round_in round.new world.new.0)) }
     ensures refused { IfErr result (λ cause. IfRefused cause
         (λ number. (form : List ℕ) → RefusesMessageAt R.Meaning.functions name.now (Some form) (round_in round.old world.old.0) number)) }
-    ensures marks { (worlds : Worlds) → IsMarked worlds world.old.1
-        → IsMarked worlds world.new.1 }
+    ensures marks { (worlds : Worlds) → IsWorldMarked worlds world.old.1
+        → IsWorldMarked worlds world.new.1 }
 {
     let Ok(text) = admission_text(round.alloc(), world, name) else {
         return Err(Unadded::OutOfMemory);
@@ -257,8 +257,8 @@ fn answer_later<R: MacroFunctions>(
         (round_in round.old world.old.0) (round_in round.new world.new.0)) }
     ensures refused { IfErr result (λ cause. IfRefused cause
         (RefusesMessageAt R.Meaning.functions message.entry.name.now (form_told message.entry) (round_in round.old world.old.0))) }
-    ensures marks { (worlds : Worlds) → IsMarked worlds world.old.1
-        → IsMarked worlds world.new.1 }
+    ensures marks { (worlds : Worlds) → IsWorldMarked worlds world.old.1
+        → IsWorldMarked worlds world.new.1 }
 {
     match message.form {
         Some(form) => keep_answer(round, world, macros, message.number, message.name, form),
@@ -284,8 +284,8 @@ fn keep_answer<R: MacroFunctions>(
     ensures made { OnOk result (StaysMade R.Meaning.functions
         (round_in round.old world.old.0) (round_in round.new world.new.0)) }
     ensures refused { IfErr result (λ cause. cause ≡ Unadded.OutOfMemory) }
-    ensures marks { (worlds : Worlds) → IsMarked worlds world.old.1
-        → IsMarked worlds world.new.1 }
+    ensures marks { (worlds : Worlds) → IsWorldMarked worlds world.old.1
+        → IsWorldMarked worlds world.new.1 }
 {
     world.soundness();
     let last = round.last_number();
@@ -314,8 +314,8 @@ fn put_entry(
         ≡ with_entry_kept name.now number (kept_message form.now answer.0) (round_in round.old world.old.0)) }
     ensures made { OnOk result ((functions : Functions)
         → StaysMade functions (round_in round.old world.old.0) (round_in round.new world.new.0)) }
-    ensures marks { (worlds : Worlds) → IsMarked worlds world.old.1
-        → IsMarked worlds world.new.1 }
+    ensures marks { (worlds : Worlds) → IsWorldMarked worlds world.old.1
+        → IsWorldMarked worlds world.new.1 }
 {
     world.soundness();
     let alloc = round.alloc();
@@ -345,8 +345,8 @@ fn take_out<R: MacroFunctions>(
         (round_in round.old world.old.0) (round_in round.new world.new.0)) }
     ensures refused { IfErr result (λ cause. IfRefused cause
         (RefusesMessageAt R.Meaning.functions name.now None (round_in round.old world.old.0))) }
-    ensures marks { (worlds : Worlds) → IsMarked worlds world.old.1
-        → IsMarked worlds world.new.1 }
+    ensures marks { (worlds : Worlds) → IsWorldMarked worlds world.old.1
+        → IsWorldMarked worlds world.new.1 }
 {
     let Ok(text) = leaving_text(round.alloc(), world, name) else {
         return Err(Unadded::OutOfMemory);

@@ -6,7 +6,7 @@ ghost use Rattle.client_table.specs.Named.{all_answered, each_asked, one_asked};
 ghost use Rattle.client_table.specs.Turn.{MakesAnswers, first_asked};
 ghost use Rattle.messages.specs.Rounds.{IfRefused, StaysMade, round_in};
 ghost use Rattle.plist_state.specs.State.{Worlds};
-ghost use Rattle.prevalence_store.specs.steps.Batch.{IsEmpty, IsMarked, entries_in};
+ghost use Rattle.prevalence_store.specs.steps.Batch.{IsEmpty, IsWorldMarked, entries_in};
 
 use crate::asked::AnyRequest;
 use crate::table::answer_named;
@@ -37,8 +37,8 @@ impl FirstAsked<'_, '_> {
         requires none { IsEmpty batch.old }
         ensures made { IfOk result (MakesAnswers R.Meaning.functions self.now
             world.old.0 world.new.0 (entries_in batch.new)) }
-        ensures marks { (worlds : Worlds) → IsMarked worlds world.old.1
-            → IsMarked worlds world.new.1 }
+        ensures marks { (worlds : Worlds) → IsWorldMarked worlds world.old.1
+            → IsWorldMarked worlds world.new.1 }
     {
         let mark = world.mark_count();
         let mut round = Round::begin(batch.alloc, world, self.last)?;
@@ -79,8 +79,8 @@ impl FirstAsked<'_, '_> {
         ensures refused { IfErr result (λ cause. IfRefused cause
             (RefusesAnyOwn R.Meaning.functions self.now.most (round_in round.old world.old.0)
             (first_asked R.Meaning.functions self.now.most (Some ANSWER_BYTES) (round_in round.old world.old.0) self.now.asked.now))) }
-        ensures marks { (worlds : Worlds) → IsMarked worlds world.old.1
-            → IsMarked worlds world.new.1 }
+        ensures marks { (worlds : Worlds) → IsWorldMarked worlds world.old.1
+            → IsWorldMarked worlds world.new.1 }
     {
         match self.answer_each(round, world, macros) {
             Ok(()) => round.close(world, macros),
@@ -107,8 +107,8 @@ impl FirstAsked<'_, '_> {
         ensures refused { IfErr result (λ cause. IfRefused cause
             (RefusesAnyOwn R.Meaning.functions self.now.most (round_in round.old world.old.0)
             (first_asked R.Meaning.functions self.now.most (Some ANSWER_BYTES) (round_in round.old world.old.0) self.now.asked.now))) }
-        ensures marks { (worlds : Worlds) → IsMarked worlds world.old.1
-            → IsMarked worlds world.new.1 }
+        ensures marks { (worlds : Worlds) → IsWorldMarked worlds world.old.1
+            → IsWorldMarked worlds world.new.1 }
     {
         let (most, asked) = (self.most, self.asked);
         let mut room = ANSWER_BYTES;
@@ -142,8 +142,8 @@ fn answer_one<R: MacroFunctions>(
         (round_in round.old world.old.0) (round_in round.new world.new.0)) }
     ensures refused { IfErr result (λ cause. IfRefused cause
         (RefusesAsked R.Meaning.functions most (round_in round.old world.old.0) one.now)) }
-    ensures marks { (worlds : Worlds) → IsMarked worlds world.old.1
-        → IsMarked worlds world.new.1 }
+    ensures marks { (worlds : Worlds) → IsWorldMarked worlds world.old.1
+        → IsWorldMarked worlds world.new.1 }
 {
     match one {
         AnyRequest::Request(request) => round.answer_one(world, macros, request),

@@ -12,13 +12,13 @@ use Rattle.clap.specs.declared.error.kind.ErrorKind.TheVariants.{MissingRequired
 use Rattle.clap.proofs.OnLiterals.{clap_on_literals}
 use Rattle.clap.proofs.ValueTestLemmas.{Accepts-accepts}
 use Rattle.session_words.specs.declared.mode.Mode.{Mode}
-use Rattle.session_words.specs.declared.wanted.Wanted.{Wanted}
+use Rattle.session_words.specs.declared.wanted.SessionOptions.{SessionOptions}
 use Rattle.session_words.specs.declared.content.Content.{Content}
 use Rattle.command_words.specs.declared.words.Task.{Task}
 use Rattle.command_words.specs.declared.words.Report.TheVariants.{Dump, Verify}
 use Rattle.command_words.specs.declared.words.Task.TheVariants.{Export, Run, Snapshot, Tell, Upgrade}
 use Rattle.clap.specs.Walk.{Rule}
-use Rattle.command_words.specs.CommandLine.{task_of, AsksFor, IsLine, IsNumberIn, IsTaken, asked_in, asked_of, command_line, data_for, existing_for, faults_of, flag_for, given_number, group_for, missing_command, strict_for}
+use Rattle.command_words.specs.CommandLine.{task_of, AsksFor, AreCommandWords, IsNumberIn, IsTakenByLine, asked_in, asked_of, command_line, data_for, existing_for, faults_of, flag_for, given_number, group_for, missing_command, strict_for}
 use Rattle.command_words.proofs.WordSteps.{command_is, command_of, faults_are, given, none_fails, rows_read, with_flag, Adds, HasCommand, WantsFolder}
 use Rattle.command_words.proofs.CommandSteps.{adds_bare, adds_content, adds_flags, adds_rescue_counting, asks_bare, asks_counting, asks_export, asks_run, bare_rules, bare_wants, counting, least, usual, export_rows, export_rules, export_wants, has_dump, has_export, has_run, has_snapshot, has_upgrade, has_verify, most, option_id, option_word, rescue_rows, run_rows, run_rules, run_wants, wanted_is, wanting, with_defaults}
 
@@ -108,23 +108,23 @@ module _ (program : Text) (x : ℕ) (xs : Text) (e : (x == 45) ≡ false) where
       (number_is y ys numeral (usual ratio) n is (fits ratio n below))
       (right_counting program x xs e ratio y ys (differs y 45 (no_hyphen y ys numeral)) (in_range y ys numeral (least ratio) (most ratio) n is above below (fits ratio n below)) mode)
 
-  right_plain : (line : List Text) (existing : Bool) (task : Task) → IsLine line (x ∷ xs) existing task → IsRight (program ∷ line) (x ∷ xs) existing task
+  right_plain : (line : List Text) (existing : Bool) (task : Task) → AreCommandWords line (x ∷ xs) existing task → IsRight (program ∷ line) (x ∷ xs) existing task
   right_plain line existing Snapshot is = rw is (right_bare program x xs e (codes "snapshot") Snapshot has_snapshot (λ rows. refl) existing)
   right_plain line existing Upgrade is = rw is (right_bare program x xs e (codes "upgrade") Upgrade has_upgrade (λ rows. refl) existing)
   right_plain line existing (Export content) is = rw is (right_export program x xs e content existing)
   right_plain line existing (Tell Dump) is = rw is (right_bare program x xs e (codes "dump") (Tell Dump) has_dump (λ rows. refl) existing)
   right_plain line existing (Tell Verify) is = rw is (right_bare program x xs e (codes "verify") (Tell Verify) has_verify (λ rows. refl) existing)
   right_plain line false (Run wanted) (inl ((none, no_ratio), line_is)) =
-      rw line_is (subst (λ (w : Wanted). IsRight (program ∷ codes "run" ∷ (x ∷ xs) ∷ (flag_for wanted.mode ++ (strict_for wanted.strict ++ (group_for wanted.group ++ [])))) (x ∷ xs) false (Run w))
+      rw line_is (subst (λ (w : SessionOptions). IsRight (program ∷ codes "run" ∷ (x ∷ xs) ∷ (flag_for wanted.mode ++ (strict_for wanted.strict ++ (group_for wanted.group ++ [])))) (x ∷ xs) false (Run w))
       (sym (wanted_is wanted 0 10 wanted.strict wanted.group none no_ratio refl refl)) (right_run program x xs e wanted.mode wanted.strict wanted.group false))
   right_plain line false (Run wanted) (inr (lax, alone, (number, inl (is, no_ratio, line_is)))) =
-      rw line_is (subst (λ (w : Wanted). IsRight (program ∷ codes "run" ∷ (x ∷ xs) ∷ (flag_for wanted.mode ++ option_word false ∷ number ∷ [])) (x ∷ xs) false (Run w))
+      rw line_is (subst (λ (w : SessionOptions). IsRight (program ∷ codes "run" ∷ (x ∷ xs) ∷ (flag_for wanted.mode ++ option_word false ∷ number ∷ [])) (x ∷ xs) false (Run w))
       (sym (wanted_is wanted wanted.snapshot_every 10 false false refl no_ratio lax alone)) (right_number false wanted.mode number wanted.snapshot_every is))
   right_plain line false (Run wanted) (inr (lax, alone, (number, inr (is, none, line_is)))) =
-      rw line_is (subst (λ (w : Wanted). IsRight (program ∷ codes "run" ∷ (x ∷ xs) ∷ (flag_for wanted.mode ++ option_word true ∷ number ∷ [])) (x ∷ xs) false (Run w))
+      rw line_is (subst (λ (w : SessionOptions). IsRight (program ∷ codes "run" ∷ (x ∷ xs) ∷ (flag_for wanted.mode ++ option_word true ∷ number ∷ [])) (x ∷ xs) false (Run w))
       (sym (wanted_is wanted 0 wanted.snapshot_ratio false false none refl lax alone)) (right_number true wanted.mode number wanted.snapshot_ratio is))
   right_plain line true (Run wanted) ((none, no_ratio), line_is) =
-      rw line_is (subst (λ (w : Wanted). IsRight (program ∷ codes "run" ∷ (x ∷ xs) ∷ (flag_for wanted.mode ++ (strict_for wanted.strict ++ (group_for wanted.group ++ existing_for true)))) (x ∷ xs) true (Run w))
+      rw line_is (subst (λ (w : SessionOptions). IsRight (program ∷ codes "run" ∷ (x ∷ xs) ∷ (flag_for wanted.mode ++ (strict_for wanted.strict ++ (group_for wanted.group ++ existing_for true)))) (x ∷ xs) true (Run w))
       (sym (wanted_is wanted 0 10 wanted.strict wanted.group none no_ratio refl refl)) (right_run program x xs e wanted.mode wanted.strict wanted.group true))
 
 pub right_line : (words : List Text) (folder : Text) (existing : Bool) (task : Task) → AsksFor words folder existing task → IsRight words folder existing task
@@ -135,7 +135,7 @@ right_line words (x ∷ xs) existing task asks = rw asks.2 (right_plain asks.0 x
 pub no_faults : (words : List Text) (folder : Text) (existing : Bool) (task : Task) → fault_of command_line words ≡ [] → asked_in words ≡ Some (folder, existing, task) → faults_of words ≡ []
 no_faults words folder existing task none asked = ap (λ (kinds : Kinds). or_else kinds (missing_command (asked_in words))) none ∙ ap missing_command asked
 
-pub line_is_taken : (words : List Text) (folder : Text) (existing : Bool) (task : Task) → AsksFor words folder existing task → IsTaken words folder existing task
+pub line_is_taken : (words : List Text) (folder : Text) (existing : Bool) (task : Task) → AsksFor words folder existing task → IsTakenByLine words folder existing task
 line_is_taken words folder existing task asks =
     let right = right_line words folder existing task asks in
     (no_faults words folder existing task right.faultless right.asked, right.asked)

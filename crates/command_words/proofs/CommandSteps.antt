@@ -6,7 +6,7 @@ use Rattle.clap.specs.Words.{Row, Text, first_of}
 use Rattle.clap.proofs.OnLiterals.{clap_on_literals}
 use Rattle.session_words.specs.declared.mode.Mode.{Mode}
 use Rattle.session_words.specs.declared.mode.Mode.TheVariants.{Current, Rescue}
-use Rattle.session_words.specs.declared.wanted.Wanted.{Wanted}
+use Rattle.session_words.specs.declared.wanted.SessionOptions.{SessionOptions}
 use Rattle.session_words.specs.declared.content.Content.{Content}
 use Rattle.session_words.specs.declared.content.Content.TheVariants.{Data, World}
 use Rattle.command_words.specs.declared.words.Task.{Task}
@@ -18,10 +18,10 @@ use Rattle.command_words.specs.Rules.{folder_line, is_set}
 use Rattle.command_words.proofs.WordSteps.{adds_both, adds_flag_if, adds_number, built_flag, built_rules, command_of, flag_absent, folder_row, given, with_flag, Adds, HasCommand, IsOptionName, WantsFolder}
 
 -- what is wanted of a session
-abbrev pub wanting : Mode → ℕ → ℕ → Bool → Bool → Wanted
+abbrev pub wanting : Mode → ℕ → ℕ → Bool → Bool → SessionOptions
 wanting mode every ratio strict group = record { mode = mode; snapshot_every = every; snapshot_ratio = ratio; strict = strict; group = group }
 
-pub wanted_is : (wanted : Wanted) (every ratio : ℕ) (strict group : Bool) → wanted.snapshot_every ≡ every → wanted.snapshot_ratio ≡ ratio → wanted.strict ≡ strict
+pub wanted_is : (wanted : SessionOptions) (every ratio : ℕ) (strict group : Bool) → wanted.snapshot_every ≡ every → wanted.snapshot_ratio ≡ ratio → wanted.strict ≡ strict
     → wanted.group ≡ group → wanted ≡ wanting wanted.mode every ratio strict group
 wanted_is wanted every ratio strict group every_is ratio_is same together = rw (← every_is, ← ratio_is, ← same, ← together) refl
 
@@ -47,7 +47,7 @@ abbrev pub usual : Bool → ℕ
 usual false = 0
 usual true = 10
 
-abbrev pub counting : Bool → Mode → ℕ → Wanted
+abbrev pub counting : Bool → Mode → ℕ → SessionOptions
 counting false mode n = wanting mode n 10 false false
 counting true mode n = wanting mode 0 n false false
 

@@ -15,7 +15,7 @@ use Rattle.clap.proofs.OnLiterals.{clap_on_literals}
 use Rattle.clap.proofs.ValueTestLemmas.{Accepts-accepts, accepts-Accepts}
 use Rattle.clap.proofs.WalkLemmas.{first_value-rows}
 use Rattle.command_words.specs.CheckLine as checking
-use Rattle.command_words.specs.LookLine.{IsLooked, looking_line, written_number, place_given, text_of}
+use Rattle.command_words.specs.LookLine.{AsksToLookAt, looking_line, written_number, place_given, text_of}
 use Rattle.command_words.specs.Rules.{FindsCommand}
 use Rattle.command_words.specs.declared.check.Check.{Check}
 use Rattle.command_words.specs.declared.looks.Look.{Look}
@@ -47,10 +47,10 @@ module _ (f : Found) (id : Text) (least : ℕ) where
 
 -- the command that was found, by its name and its rows
 pub look_found : (m : ArgMatches) (name : Text) (f : Found) (folder : Text) (look : Look) → Some name ≡ subcommand_name_of m
-    → Some (rows_of f) ≡ option_map (λ (p : Text × List Row). p.1) (subcommand_rows_of m) → IsLooked folder look name (rows_of f)
-    → FindsCommand (IsLooked folder look) (subcommand_rows_of m)
+    → Some (rows_of f) ≡ option_map (λ (p : Text × List Row). p.1) (subcommand_rows_of m) → AsksToLookAt folder look name (rows_of f)
+    → FindsCommand (AsksToLookAt folder look) (subcommand_rows_of m)
 look_found m name f folder look named listed looked =
-    subst (FindsCommand (IsLooked folder look))
+    subst (FindsCommand (AsksToLookAt folder look))
     (named_found (λ b. (out-SubCommand (box_value b)).name.now) (λ b. rows_of (found_of (out-SubCommand (box_value b)).matches)) (out-ArgMatches m).subcommand name (rows_of f) named listed)
     looked
 

@@ -7,7 +7,7 @@ use Rattle.clap.specs.Values.{Accepts}
 use Rattle.clap.specs.declared.builder.value_parser.ValueParser.TheVariants.{Unsigned}
 use Rattle.clap.specs.Matches.{ReadsOne}
 use Rattle.session_words.specs.declared.mode.Mode.{Mode}
-use Rattle.session_words.specs.declared.wanted.Wanted.{Wanted}
+use Rattle.session_words.specs.declared.wanted.SessionOptions.{SessionOptions}
 use Rattle.clap.specs.Words.{Row, Text, first_value, found_of, one_of, one_text, rows_of, subcommand_name_of, subcommand_rows_of}
 use Rattle.clap.specs.declared.parser.matches.Found.{Found}
 use Rattle.clap.proofs.ValueTestLemmas.{Accepts-accepts, accepts-Accepts}
@@ -49,14 +49,14 @@ module _ {E : Type 0} (gives : List ℕ → Result ℕ E → Type 0) (reads : (t
       go (Some t) is = rw is (read_one other t r (value t is))
 
 -- the command `run` that was found
-pub run_found : (name : Text) (f : Found) (wanted : Wanted) → name ≡ codes "run" → wanted ≡ wanted_of (rows_of f) → Some (Run wanted) ≡ task_of (name, rows_of f)
+pub run_found : (name : Text) (f : Found) (wanted : SessionOptions) → name ≡ codes "run" → wanted ≡ wanted_of (rows_of f) → Some (Run wanted) ≡ task_of (name, rows_of f)
 run_found name f wanted is wanted_is = rw (is, wanted_is) refl
 
 -- what is wanted of its session
 pub wanted_found : (f : Found) (flag other third : Option Text) (mode : Mode) (every ratio : ℕ) (strict group : Bool) → mode ≡ mode_of_flag flag → flag ≡ first_value f (codes "rescue")
     → every ≡ number_among_rows 0 (codes "snapshot-every") (rows_of f) → ratio ≡ number_among_rows 10 (codes "snapshot-ratio") (rows_of f) → strict ≡ is_set other → other ≡ first_value f (codes "strict")
     → group ≡ is_set third → third ≡ first_value f (codes "group")
-    → ◌≡◌ {A = Wanted} (record { mode = mode; snapshot_every = every; snapshot_ratio = ratio; strict = strict; group = group }) (wanted_of (rows_of f))
+    → ◌≡◌ {A = SessionOptions} (record { mode = mode; snapshot_every = every; snapshot_ratio = ratio; strict = strict; group = group }) (wanted_of (rows_of f))
 wanted_found f flag other third mode every ratio strict group mode_is flag_is every_is ratio_is strict_is other_is group_is third_is =
     rw (
       mode_is,

@@ -11,7 +11,7 @@ use Rattle.clap.specs.declared.builder.value_parser.ValueParser.TheVariants.{Uns
 use Rattle.clap.specs.declared.error.kind.ErrorKind.TheVariants.{MissingRequiredArgument}
 use Rattle.session_words.specs.declared.mode.Mode.{Mode}
 use Rattle.session_words.specs.declared.mode.Mode.TheVariants.{Current, Rescue}
-use Rattle.session_words.specs.declared.wanted.Wanted.{Wanted}
+use Rattle.session_words.specs.declared.wanted.SessionOptions.{SessionOptions}
 use Rattle.session_words.specs.declared.content.Content.{Content}
 use Rattle.session_words.specs.declared.content.Content.TheVariants.{Data, World}
 use Rattle.command_words.specs.Rules.{flag_rule, folder_line, is_set, option_rule}
@@ -79,7 +79,7 @@ number_among_rows other option rows = given_number other (one_of option rows)
 
 -- What is wanted of a session, by the rows that were found. Snapshots by a number of forms are taken where it is given. By the length of the half
 -- they are taken at 10 times where no other number is given; 0 is never.
-abbrev pub wanted_of : List Row → Wanted
+abbrev pub wanted_of : List Row → SessionOptions
 wanted_of rows = record {
   mode = mode_of_flag (first_of (codes "rescue") rows);
   snapshot_every = number_among_rows 0 (codes "snapshot-every") rows;
@@ -124,8 +124,8 @@ abbrev pub faults_of : List Text → Kinds
 faults_of words = or_else (fault_of command_line words) (missing_command (asked_in words))
 
 -- the command line has the words, and they ask for this
-abbrev pub IsTaken : List Text → Text → Bool → Task → Type 0
-IsTaken words folder existing task = (faults_of words ≡ []) × (asked_in words ≡ Some (folder, existing, task))
+abbrev pub IsTakenByLine : List Text → Text → Bool → Task → Type 0
+IsTakenByLine words folder existing task = (faults_of words ≡ []) × (asked_in words ≡ Some (folder, existing, task))
 
 -- the word does not begin with a hyphen, and has a character
 abbrev pub IsNoOption : Text → Type 0
@@ -162,11 +162,11 @@ abbrev pub IsNumberIn : ℕ → ℕ → ℕ → Text → Type 0
 IsNumberIn least most n number = IsNumeral 10 number × (digits_value 10 number ≡ n) × (least ≤ n) × (n ≤ most)
 
 -- snapshots are taken as without an option on them
-abbrev pub AsksForNone : Wanted → Type 0
+abbrev pub AsksForNone : SessionOptions → Type 0
 AsksForNone wanted = (wanted.snapshot_every ≡ 0) × (wanted.snapshot_ratio ≡ 10)
 
 -- Words with one of the options on snapshots, and its number.
-abbrev pub HasNumber : List Text → Text → Wanted → Type 0
+abbrev pub HasNumber : List Text → Text → SessionOptions → Type 0
 HasNumber words folder wanted =
     (number : Text)
     × ((IsNumberIn 1 1000000 wanted.snapshot_every number × (wanted.snapshot_ratio ≡ 10)
@@ -176,19 +176,19 @@ HasNumber words folder wanted =
 
 -- The words of a command on this folder that asks for this. A number of snapshots beside another one, or beside `--existing`, `--strict` or
 -- `--group`, is not among them, nor is `--quiet`.
-abbrev pub IsLine : List Text → Text → Bool → Task → Type 0
-IsLine words folder false (Run wanted) =
+abbrev pub AreCommandWords : List Text → Text → Bool → Task → Type 0
+AreCommandWords words folder false (Run wanted) =
     (AsksForNone wanted × (words ≡ codes "run" ∷ folder ∷ (flag_for wanted.mode ++ (strict_for wanted.strict ++ (group_for wanted.group ++ [])))))
     ⊎ ((wanted.strict ≡ false) × (wanted.group ≡ false) × HasNumber words folder wanted)
-IsLine words folder true (Run wanted) =
+AreCommandWords words folder true (Run wanted) =
     AsksForNone wanted × (words ≡ codes "run" ∷ folder ∷ (flag_for wanted.mode ++ (strict_for wanted.strict ++ (group_for wanted.group ++ existing_for true))))
-IsLine words folder existing Snapshot = words ≡ codes "snapshot" ∷ folder ∷ existing_for existing
-IsLine words folder existing Upgrade = words ≡ codes "upgrade" ∷ folder ∷ existing_for existing
-IsLine words folder existing (Export content) = words ≡ codes "export" ∷ folder ∷ (data_for content ++ existing_for existing)
-IsLine words folder existing (Tell Dump) = words ≡ codes "dump" ∷ folder ∷ existing_for existing
-IsLine words folder existing (Tell Verify) = words ≡ codes "verify" ∷ folder ∷ existing_for existing
+AreCommandWords words folder existing Snapshot = words ≡ codes "snapshot" ∷ folder ∷ existing_for existing
+AreCommandWords words folder existing Upgrade = words ≡ codes "upgrade" ∷ folder ∷ existing_for existing
+AreCommandWords words folder existing (Export content) = words ≡ codes "export" ∷ folder ∷ (data_for content ++ existing_for existing)
+AreCommandWords words folder existing (Tell Dump) = words ≡ codes "dump" ∷ folder ∷ existing_for existing
+AreCommandWords words folder existing (Tell Verify) = words ≡ codes "verify" ∷ folder ∷ existing_for existing
 
 -- the words are the program's name, and a command on this folder that asks for this
 abbrev pub AsksFor : List Text → Text → Bool → Task → Type 0
 AsksFor words folder existing task =
-    (program : Text) × (line : List Text) × (words ≡ program ∷ line) × IsLine line folder existing task × IsNoOption folder
+    (program : Text) × (line : List Text) × (words ≡ program ∷ line) × AreCommandWords line folder existing task × IsNoOption folder

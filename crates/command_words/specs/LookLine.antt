@@ -56,8 +56,8 @@ abbrev pub dump_line : App
 dump_line = with_rule (folder_line (codes "dump")) (option_rule (codes "at"))
 
 -- the command line with `show`, `info` and `log`
-abbrev pub telling_line : App
-telling_line =
+abbrev pub line_of_reports : App
+line_of_reports =
     with_subcommand (with_subcommand (with_subcommand bare_line show_line.top) info_line.top) log_line.top
 
 -- without the option `verify` is a command of CommandLine
@@ -66,7 +66,7 @@ verify_line = with_rule (folder_line (codes "verify")) (flag_rule (codes "json")
 
 -- the same with `backup` and `dump`
 abbrev pub worlds_line : App
-worlds_line = with_subcommand (with_subcommand telling_line backup_line.top) dump_line.top
+worlds_line = with_subcommand (with_subcommand line_of_reports backup_line.top) dump_line.top
 
 -- the command line of all commands that look: with `verify` too
 abbrev pub looking_line : App
@@ -105,7 +105,7 @@ abbrev pub text_of : Option (Bor Text) → Option Text
 text_of = option_map (λ (text : Bor Text). text.now)
 
 -- which properties are shown, and how, or whether they are only counted
-pub record IsShown (rows : List Row) (shown : Shown) : Type 0 where
+pub record HasShowOptions (rows : List Row) (shown : Shown) : Type 0 where
   pub symbol : text_of shown.symbol ≡ first_of (codes "SYMBOL") rows
   pub in_package : text_of shown.package ≡ first_of (codes "package") rows
   pub indicator : text_of shown.indicator ≡ first_of (codes "indicator") rows
@@ -127,7 +127,7 @@ pub record AreRecords (rows : List Row) (records : Records) : Type 0 where
 
 -- a command of this name with these rows asks for this
 abbrev pub IsLook : Text → List Row → Look → Type 0
-IsLook name rows (Show shown) = (name ≡ codes "show") × IsShown rows shown
+IsLook name rows (Show shown) = (name ≡ codes "show") × HasShowOptions rows shown
 IsLook name rows (Info part) = (name ≡ codes "info") × IsInfo rows part
 IsLook name rows (Log records) = (name ≡ codes "log") × AreRecords rows records
 IsLook name rows (Backup to) = (name ≡ codes "backup") × (Some to.now ≡ first_of (codes "DEST") rows)
@@ -135,9 +135,9 @@ IsLook name rows (Dump place) = (name ≡ codes "dump") × (Some place ≡ place
 IsLook name rows Verify = name ≡ codes "verify"
 
 -- the words of a command ask for this look at this folder
-abbrev pub IsLooked : Text → Look → Text → List Row → Type 0
-IsLooked folder look name rows = (Some folder ≡ first_of (codes "DIR") rows) × IsLook name rows look
+abbrev pub AsksToLookAt : Text → Look → Text → List Row → Type 0
+AsksToLookAt folder look name rows = (Some folder ≡ first_of (codes "DIR") rows) × IsLook name rows look
 
 -- the words ask for a look into the store of this folder
 abbrev pub AsksToLook : List Text → Text → Look → Type 0
-AsksToLook words folder look = FindsCommand (IsLooked folder look) (subcommand_of looking_line words)
+AsksToLook words folder look = FindsCommand (AsksToLookAt folder look) (subcommand_of looking_line words)

@@ -2,7 +2,7 @@
 ghost use Rattle.std.specs.Prelude.{◌≡◌, codes, false, IfOk};
 ghost use Rattle.clap.specs.Words.{app_of, rule_of, with_rule};
 ghost use Rattle.clap.specs.declared.builder.command.Command.TheViews.{out-Command as fields_of};
-ghost use Rattle.command_words.specs.LookLine.{backup_line, dump_line, info_line, layouts_line, log_line, looking_line, names_line, rows_line, show_line, symbol_rule, telling_line, verify_line, worlds_line};
+ghost use Rattle.command_words.specs.LookLine.{backup_line, dump_line, info_line, layouts_line, log_line, looking_line, names_line, rows_line, show_line, symbol_rule, line_of_reports, verify_line, worlds_line};
 ghost use Rattle.command_words.specs.Rules.{bare_line, flag_rule, folder_line};
 
 use crate::help::{
@@ -40,7 +40,7 @@ fn worlds_command<'a>(alloc: Global) -> Result<Command<'a>, AllocError>
 
 // The program with those that tell something alone.
 fn telling_command<'a>(alloc: Global) -> Result<Command<'a>, AllocError>
-    ensures { IfOk result (λ command. app_of command ≡ telling_line) }
+    ensures { IfOk result (λ command. app_of command ≡ line_of_reports) }
 {
     let show = show_command(alloc)?;
     let with_show = bare_command(alloc).subcommand(show)?;

@@ -3,7 +3,7 @@ ghost use Rattle.std.specs.Prelude.{◌≡◌, map, IfOk, Some};
 ghost use Rattle.std.specs.Char.{is_ascii_digit};
 ghost use Rattle.std.specs.List.{list_all};
 ghost use Rattle.clap.specs.Words.{app_of, first_of, found_of, rows_of, subcommand_rows_of};
-ghost use Rattle.command_words.specs.LookLine.{plain_number_of, looking_line, place_given, place_of, written_number, AreRecords, AsksToLook, IsInfo, IsLook, IsLooked, IsShown};
+ghost use Rattle.command_words.specs.LookLine.{plain_number_of, looking_line, place_given, place_of, written_number, AreRecords, AsksToLook, IsInfo, IsLook, AsksToLookAt, HasShowOptions};
 ghost use Rattle.command_words.specs.Rules.{FindsCommand};
 
 use crate::help::{DUMP_USAGE, LOG_USAGE, SHOW_USAGE};
@@ -250,7 +250,7 @@ fn no_place(alloc: Global, option: &str, value: &str) -> Result<Error, AllocErro
 // What was found.
 fn looked_by<'a>(matches: &ArgMatches<'a>) -> Result<Looked<'a>, Mistake<'a>>
     ensures { IfOk result (λ looked.
-        FindsCommand (IsLooked looked.folder.now looked.look) (subcommand_rows_of matches.now)) }
+        FindsCommand (AsksToLookAt looked.folder.now looked.look) (subcommand_rows_of matches.now)) }
 {
     match matches.subcommand() {
         Some((name, found)) => looked_at(name, found),
@@ -261,7 +261,7 @@ fn looked_by<'a>(matches: &ArgMatches<'a>) -> Result<Looked<'a>, Mistake<'a>>
 // What the command of this name looks at, and in which folder.
 fn looked_at<'a>(name: &str, found: &ArgMatches<'a>) -> Result<Looked<'a>, Mistake<'a>>
     ensures { IfOk result (λ looked.
-        IsLooked looked.folder.now looked.look name.now (rows_of (found_of found.now))) }
+        AsksToLookAt looked.folder.now looked.look name.now (rows_of (found_of found.now))) }
 {
     match found.get_str(DIRECTORY) {
         Some(folder) => {
@@ -292,7 +292,7 @@ fn look_for<'a>(name: &str, found: &ArgMatches<'a>) -> Result<Look<'a>, Mistake<
 
 // Which properties are shown.
 fn shown_by<'a>(found: &ArgMatches<'a>) -> Shown<'a>
-    ensures { IsShown (rows_of (found_of found.now)) result }
+    ensures { HasShowOptions (rows_of (found_of found.now)) result }
 {
     Shown {
         symbol: found.get_str(SYMBOL),

@@ -18,7 +18,7 @@ use crate::tips::with_tip;
 use clap::builder::ValueParser;
 use clap::error::ErrorKind;
 use clap::{Arg, ArgMatches, Command, Error};
-use session_words::{Content, Mode, Wanted};
+use session_words::{Content, Mode, SessionOptions};
 use std::alloc::{AllocError, Global};
 use std::convert::AsStr;
 
@@ -58,7 +58,7 @@ const USUAL_RATIO: u64 = 10;
 #[derive(Clone, Copy, Debug, PartialEq, Eq)]
 pub enum Task {
     /// Forms are served, as it is wanted.
-    Run(Wanted),
+    Run(SessionOptions),
     /// A snapshot is taken.
     Snapshot,
     /// Files of version 1 become files of version 2.
@@ -278,10 +278,10 @@ pub(crate) fn number_in(found: &ArgMatches<'_>, option: &str, other: u64) -> u64
 }
 
 // What is wanted of a session.
-fn wanted_in(found: &ArgMatches<'_>) -> Wanted
+fn wanted_in(found: &ArgMatches<'_>) -> SessionOptions
     ensures { result ≡ wanted_of (rows_of (found_of found.now)) }
 {
-    Wanted {
+    SessionOptions {
         mode: mode_for(found.get_str(RESCUE)),
         snapshot_every: number_in(found, EVERY, 0),
         snapshot_ratio: number_in(found, RATIO, USUAL_RATIO),

@@ -19,8 +19,8 @@ abbrev pub with_order : CallsValue → OrderValue → CallsValue
 with_order calls order = record { start = calls.start; done = calls.done; pending = order ∷ calls.pending }
 
 -- the pending ones are done
-abbrev pub reported : CallsValue → CallsValue
-reported calls = record { start = calls.start; done = all_of calls; pending = [] }
+abbrev pub after_report : CallsValue → CallsValue
+after_report calls = record { start = calls.start; done = all_of calls; pending = [] }
 
 -- the calls of a disk that begins with these two files
 abbrev pub first_calls : List ℕ → List ℕ → CallsValue

@@ -2,7 +2,7 @@
 use Rattle.std.specs.Prelude.{◌≡◌, ℕ, List, length, Result, OnOk, OnErr}
 use Rattle.disk_trait.specs.Disk.{State}
 use Rattle.deferred_disk.specs.Bytes.{orders_bytes}
-use Rattle.deferred_disk.specs.Calls.{CallsValue, with_order, reported}
+use Rattle.deferred_disk.specs.Calls.{CallsValue, with_order, after_report}
 use Rattle.deferred_disk.specs.KeptFiles.{IsKeptWhole}
 use Rattle.disk_trait.specs.Orders.{OrderValue}
 use Rattle.deferred_disk.specs.State.{state_after_orders}
@@ -31,7 +31,7 @@ pub record Asks {T E : Type 0} (order : OrderValue) (old new : DeferredDisk) (re
 
 -- A report that so many bytes of orders were done: all pending ones are done, if they have just so many, and else nothing has changed.
 -- So what was asked after the orders were taken is never counted as done.
-pub record IsReported (count : ℕ) (old new : DeferredDisk) : Type 0 where
-  pub all : count ≡ length (orders_bytes (pending_of old)) → calls_of new ≡ reported (calls_of old)
+pub record ReportsOrdersDone (count : ℕ) (old new : DeferredDisk) : Type 0 where
+  pub all : count ≡ length (orders_bytes (pending_of old)) → calls_of new ≡ after_report (calls_of old)
   pub other : (count ≡ length (orders_bytes (pending_of old)) → ⊥) → calls_of new ≡ calls_of old
   pub failures : new.failures ≡ old.failures

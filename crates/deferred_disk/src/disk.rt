@@ -39,7 +39,7 @@ pub struct DeferredDisk {
 
 impl DeferredDisk {
     ghost use Rattle.disk_trait.specs.Disk.{file_of};
-    ghost use Rattle.deferred_disk.specs.Calls.{with_order, first_calls, reported};
+    ghost use Rattle.deferred_disk.specs.Calls.{with_order, first_calls, after_report};
     ghost use Rattle.deferred_disk.specs.Disk.{Asks, KeepsAll, calls_of, pending_of, state_by_calls};
     ghost use Rattle.disk_trait.specs.Orders.{writes, cuts, syncs};
 
@@ -218,9 +218,9 @@ impl Disk for DeferredDisk {
 }
 
 impl DefersCalls for DeferredDisk {
-    ghost use Rattle.deferred_disk.specs.Disk.{IsReported};
+    ghost use Rattle.deferred_disk.specs.Disk.{ReportsOrdersDone};
 
-    ghost reports = { λ count old new. IsReported count old new };
+    ghost reports = { λ count old new. ReportsOrdersDone count old new };
 
     // orders that were made since the bytes were taken are not done
     fn report_done(&mut self, count: usize) {

@@ -3,7 +3,7 @@ use Rattle.std.proofs.Common.{◌≡◌, ◌==◌, ◌+◌, ◌-◌, ◌≤◌, 
 use Rattle.std.proofs.lemmas.List.{length-append}
 use Rattle.std.proofs.Math.Seq.{take-append-add}
 use Rattle.std.specs.Prelude.{IfSome}
-use Rattle.diagnostics.specs.Places.{IsMoved, IsSpotAfter, KeepsIn, column_from, line_from}
+use Rattle.diagnostics.specs.Places.{IsSpotBehind, IsSpotAfter, KeepsIn, column_from, line_from}
 use Rattle.diagnostics.specs.declared.places.Spot.{Spot}
 
 line_more : (line : ℕ) (xs ys : List ℕ) → line_from line (xs ++ ys) ≡ line_from (line_from line xs) ys
@@ -14,10 +14,10 @@ column_more : (column : ℕ) (xs ys : List ℕ) → column_from column (xs ++ ys
 column_more column [] ys = refl
 column_more column (x ∷ xs) ys = column_more (if x == 10 then 1 else column + 1) xs ys
 
-pub not_moved : (spot : Spot) → IsMoved spot [] spot
+pub not_moved : (spot : Spot) → IsSpotBehind spot [] spot
 not_moved spot = record { bytes = omega arith; line = refl; column = refl }
 
-pub moved_on : (spot mid later : Spot) (xs ys : List ℕ) → IsMoved spot xs mid → IsMoved mid ys later → IsMoved spot (xs ++ ys) later
+pub moved_on : (spot mid later : Spot) (xs ys : List ℕ) → IsSpotBehind spot xs mid → IsSpotBehind mid ys later → IsSpotBehind spot (xs ++ ys) later
 moved_on spot mid later xs ys one other =
     let far = one.bytes in
     let further = other.bytes in
@@ -28,7 +28,7 @@ moved_on spot mid later xs ys one other =
       column = other.column ∙ ap (λ n. column_from n ys) one.column ∙ sym (column_more spot.column xs ys);
     }
 
-pub spot_moved : (spot later : Spot) (early text : List ℕ) → IsSpotAfter spot early → IsMoved spot text later → IsSpotAfter later (early ++ text)
+pub spot_moved : (spot later : Spot) (early text : List ℕ) → IsSpotAfter spot early → IsSpotBehind spot text later → IsSpotAfter later (early ++ text)
 spot_moved spot later early text at moved =
     let far = at.bytes in
     let further = moved.bytes in
@@ -41,7 +41,7 @@ spot_moved spot later early text at moved =
 
 -- ---- what is kept
 
-pub keeps_moved : (before later : Option Spot) (older newer bytes : List ℕ) → IfSome later (λ l. (spot : Spot) × (before ≡ Some spot) × IsMoved spot older l)
+pub keeps_moved : (before later : Option Spot) (older newer bytes : List ℕ) → IfSome later (λ l. (spot : Spot) × (before ≡ Some spot) × IsSpotBehind spot older l)
     → KeepsIn before older newer bytes → KeepsIn later newer [] bytes
 keeps_moved before None older newer bytes moved keeps = tt
 keeps_moved before (Some l) older newer bytes (spot, is, moved) keeps =
@@ -58,7 +58,7 @@ keeps_more (Some spot) older newer piece bytes (early, parts, at) =
 
 -- so many bytes after the ones that are not kept any more
 pub spot_found : (before result : Option Spot) (spot : Spot) (older newer given : List ℕ) (bytes count : ℕ) → before ≡ Some spot → bytes ≡ spot.bytes + count
-    → IfSome result (λ later. (count ≤ length (older ++ newer)) × IsMoved spot (take count (older ++ newer)) later)
+    → IfSome result (λ later. (count ≤ length (older ++ newer)) × IsSpotBehind spot (take count (older ++ newer)) later)
     → KeepsIn before older newer given → IfSome result (λ later. (bytes ≤ length given) × IsSpotAfter later (take bytes given))
 spot_found before None spot older newer given bytes count is many found keeps = tt
 spot_found before (Some later) spot older newer given bytes count is many (within, moved) keeps =
@@ -71,11 +71,11 @@ spot_found before (Some later) spot older newer given bytes count is many (withi
     (omega (arith, all, same, within), subst (IsSpotAfter later) (sym taken) (spot_moved spot later had.0 (take count kept) had.2 moved))
 
 -- the rest of so many bytes lies in a second text
-pub moved_two : (spot mid : Spot) (one other : List ℕ) (count : ℕ) (result : Option Spot) → length one ≤ count → count - length one ≤ length other → IsMoved spot one mid
-    → IfSome result (IsMoved mid (take (count - length one) other)) → IfSome result (λ later. (count ≤ length (one ++ other)) × IsMoved spot (take count (one ++ other)) later)
+pub moved_two : (spot mid : Spot) (one other : List ℕ) (count : ℕ) (result : Option Spot) → length one ≤ count → count - length one ≤ length other → IsSpotBehind spot one mid
+    → IfSome result (IsSpotBehind mid (take (count - length one) other)) → IfSome result (λ later. (count ≤ length (one ++ other)) × IsSpotBehind spot (take count (one ++ other)) later)
 moved_two spot mid one other count None longer fits first second = tt
 moved_two spot mid one other count (Some later) longer fits first second =
     let both = length-append one other in
     let parts : count ≡ length one + (count - length one) = omega (arith, longer) in
     let taken : take count (one ++ other) ≡ one ++ take (count - length one) other = ap (λ n. take n (one ++ other)) parts ∙ take-append-add one other (count - length one) in
-    (omega (arith, both, longer, fits), subst (λ t. IsMoved spot t later) (sym taken) (moved_on spot mid later one (take (count - length one) other) first second))
+    (omega (arith, both, longer, fits), subst (λ t. IsSpotBehind spot t later) (sym taken) (moved_on spot mid later one (take (count - length one) other) first second))

@@ -28,14 +28,14 @@ pub record IsSpotAfter (spot : Spot) (text : List ℕ) : Type 0 where
   pub column : spot.column ≡ column_at text
 
 -- The second place is behind this text, if the text begins at the first one.
-pub record IsMoved (spot : Spot) (text : List ℕ) (later : Spot) : Type 0 where
+pub record IsSpotBehind (spot : Spot) (text : List ℕ) (later : Spot) : Type 0 where
   pub bytes : later.bytes ≡ spot.bytes + length text
   pub line : later.line ≡ line_from spot.line text
   pub column : later.column ≡ column_from spot.column text
 
 -- the same of a place that is known
 abbrev pub IsMovedFrom : Option Spot → List ℕ → Spot → Type 0
-IsMovedFrom before text later = (spot : Spot) × (before ≡ Some spot) × IsMoved spot text later
+IsMovedFrom before text later = (spot : Spot) × (before ≡ Some spot) × IsSpotBehind spot text later
 
 -- These bytes were given: the last ones are kept, and it is known which place is before them. Nothing is said if that is lost.
 abbrev pub KeepsIn : Option Spot → (older newer : List ℕ) → List ℕ → Type 0

@@ -1,6 +1,6 @@
 // Lines and columns of an input.
 ghost use Rattle.std.specs.Prelude.{◌≡◌, ◌+◌, ◌≤◌, ℕ, List, [], ◌∷◌, ◌++◌, length, take, IfSome};
-ghost use Rattle.diagnostics.specs.Places.{IsMoved, IsMovedFrom, IsSpotAfter, GivenKeeps};
+ghost use Rattle.diagnostics.specs.Places.{IsSpotBehind, IsMovedFrom, IsSpotAfter, GivenKeeps};
 
 use sessions::Place;
 use std::alloc::{AllocError, Global};
@@ -77,7 +77,7 @@ impl Spot {
 
     // After one byte more.
     fn after(self, byte: u8) -> Option<Spot>
-        ensures { IfSome result (IsMoved self (byte ∷ [])) }
+        ensures { IfSome result (IsSpotBehind self (byte ∷ [])) }
     {
         let bytes = self.bytes.checked_add(1)?;
         let (line, column) = if byte == b'\n' {
@@ -94,7 +94,7 @@ impl Spot {
 
     /// After the bytes of a text more, unless there are more than a number of 64 bits counts.
     pub fn through(self, text: &[u8]) -> Option<Spot>
-        ensures { IfSome result (IsMoved self text.now) }
+        ensures { IfSome result (IsSpotBehind self text.now) }
     {
         let mut spot = self;
         'bytes: for byte in text {
@@ -106,7 +106,7 @@ impl Spot {
     // After so many bytes of two texts more, if they have so many.
     fn through_two(self, one: &[u8], other: &[u8], count: usize) -> Option<Spot>
         ensures { IfSome result (λ spot. (count ≤ length (one.now ++ other.now))
-            × IsMoved self (take count (one.now ++ other.now)) spot) }
+            × IsSpotBehind self (take count (one.now ++ other.now)) spot) }
     {
         if count <= one.len() {
             return self.through(&one[..count]);

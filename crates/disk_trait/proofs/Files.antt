@@ -5,7 +5,7 @@ use Rattle.disk_trait.specs.Disk.{Image, State, AreBytes, HoldsBytes, IsSoundDis
 use Rattle.disk_trait.specs.Memory.{WriteLeaves, TakesWrite}
 use Rattle.disk_trait.specs.Mixes.{mixed_torn, whole_mixed}
 use Rattle.disk_trait.specs.Replay.{PartOf, reads_after, state_after_calls, FollowsOneCall, writes_bytes, wrote_bytes}
-use Rattle.disk_trait.specs.declared.call.Call.{Call}
+use Rattle.disk_trait.specs.declared.call.DiskCall.{DiskCall}
 use Rattle.disk_trait.specs.declared.call.What.{What}
 use Rattle.disk_trait.specs.declared.call.What.TheVariants.{Wrote, WroteMixing}
 use Rattle.disk_trait.specs.declared.half.Half.{Half}
@@ -28,18 +28,18 @@ kept B A what old new keeps follows = follows.other
 kept B B what old new keeps follows = follows.changed ∙ keeps old.reads.b
 
 -- a call that leaves its file as it is, taken or not
-pub kept_either : (mixes taken : Bool) (half at : Half) (what : What) (start : Image) (calls later : List Call) (failures : ℕ) → ((file : List ℕ) → reads_after what file ≡ file) → later ≡ (if taken then calls ++ one half what else calls) → file_of at (state_after_calls mixes start later failures).reads ≡ file_of at (state_after_calls mixes start calls failures).reads
+pub kept_either : (mixes taken : Bool) (half at : Half) (what : What) (start : Image) (calls later : List DiskCall) (failures : ℕ) → ((file : List ℕ) → reads_after what file ≡ file) → later ≡ (if taken then calls ++ one half what else calls) → file_of at (state_after_calls mixes start later failures).reads ≡ file_of at (state_after_calls mixes start calls failures).reads
 kept_either mixes true half at what start calls later failures keeps is = kept half at what (state_after_calls mixes start calls failures) (state_after_calls mixes start later failures) keeps (next_is mixes start calls later half what failures failures is)
-kept_either mixes false half at what start calls later failures keeps is = ap (λ (l : List Call). file_of at (state_after_calls mixes start l failures).reads) is
+kept_either mixes false half at what start calls later failures keeps is = ap (λ (l : List DiskCall). file_of at (state_after_calls mixes start l failures).reads) is
 
 -- what the calls wrote is bytes, with this call too
-pub wrote_push : (calls later : List Call) (half : Half) (what : What) → IsTrue (wrote_bytes calls) → IsTrue (writes_bytes what) → later ≡ calls ++ one half what → IsTrue (wrote_bytes later)
+pub wrote_push : (calls later : List DiskCall) (half : Half) (what : What) → IsTrue (wrote_bytes calls) → IsTrue (writes_bytes what) → later ≡ calls ++ one half what → IsTrue (wrote_bytes later)
 wrote_push calls later half what wrote writes is =
-    subst (λ (l : List Call). IsTrue (wrote_bytes l)) (sym is) (wrote_more calls (record { half = half; what = what }) wrote writes)
+    subst (λ (l : List DiskCall). IsTrue (wrote_bytes l)) (sym is) (wrote_more calls (record { half = half; what = what }) wrote writes)
 
-pub wrote_either : (taken : Bool) (calls later : List Call) (half : Half) (what : What) → IsTrue (wrote_bytes calls) → IsTrue (writes_bytes what) → later ≡ (if taken then calls ++ one half what else calls) → IsTrue (wrote_bytes later)
+pub wrote_either : (taken : Bool) (calls later : List DiskCall) (half : Half) (what : What) → IsTrue (wrote_bytes calls) → IsTrue (writes_bytes what) → later ≡ (if taken then calls ++ one half what else calls) → IsTrue (wrote_bytes later)
 wrote_either true calls later half what wrote writes is = wrote_push calls later half what wrote writes is
-wrote_either false calls later half what wrote writes is = subst (λ (l : List Call). IsTrue (wrote_bytes l)) (sym is) wrote
+wrote_either false calls later half what wrote writes is = subst (λ (l : List DiskCall). IsTrue (wrote_bytes l)) (sym is) wrote
 
 -- a step that is a part of a call, undone or taken
 pub partly : (half : Half) (step : List ℕ → List ℕ → Type 0) (what : What) (d c : Image) → ((old new : List ℕ) → step old new → PartOf what old new) → Partly (OnHalf half step) d c → Partly (OnHalf half (PartOf what)) d c

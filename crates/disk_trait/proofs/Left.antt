@@ -9,7 +9,7 @@ use Rattle.disk_trait.specs.Replay.{FileState, settled_file, after_what, where_s
 use Rattle.disk_trait.specs.ReplayBytes.{LeavesBytes, bytes_tested, bytes_what, bytes_where, settled_bytes}
 use Rattle.disk_trait.specs.ReplayLaws.{Stays, stay, stay_what, stay_where, whole_cut}
 use Rattle.disk_trait.specs.Crash.{FillsBytes, scattered_bytes, torn_after, mixed_after, cut_after, bytes_left_after, on_same, left_by_calls, left_by}
-use Rattle.disk_trait.specs.declared.call.Call.{Call}
+use Rattle.disk_trait.specs.declared.call.DiskCall.{DiskCall}
 use Rattle.disk_trait.specs.declared.call.What.{What}
 use Rattle.disk_trait.specs.declared.call.What.TheVariants.{Looked, Wrote, WroteMixing, Shortened, Synced}
 use Rattle.disk_trait.specs.declared.crash.Crash.{Crash}
@@ -111,7 +111,7 @@ reads_where A B p q = refl
 reads_where B A p q = refl
 reads_where B B p q = refl
 
-swept_left : (kind : Crash) (half : Half) (calls : List Call) (p : FileState) (left : List ℕ) → FillsBytes kind → IsTrue (wrote_bytes calls) → LeavesBytes p → Stays p → p.may_leave left
+swept_left : (kind : Crash) (half : Half) (calls : List DiskCall) (p : FileState) (left : List ℕ) → FillsBytes kind → IsTrue (wrote_bytes calls) → LeavesBytes p → Stays p → p.may_leave left
     → (after_calls half calls p).may_leave (left_by_calls kind half calls p.reads left)
 swept_left kind half [] p left small wrote leaves stays may = may
 swept_left kind half (call ∷ calls) p left small wrote leaves stays may =
@@ -123,13 +123,13 @@ swept_left kind half (call ∷ calls) p left small wrote leaves stays may =
     (stay_where half call.half (after_what call.what p) p (stay_what call.what p stays) stays)
     (left_where half call.half (after_what call.what p) p (bytes_left_after kind call.what p.reads left) left (left_what kind call.what p left small parts.0 (leaves left may) stays may) may))
 
-left_by_may : (kind : Crash) (half : Half) (calls : List Call) (start : List ℕ) → FillsBytes kind → IsTrue (wrote_bytes calls) → AreBytes start → (after_calls half calls (settled_file start)).may_leave (left_by kind half calls start)
+left_by_may : (kind : Crash) (half : Half) (calls : List DiskCall) (start : List ℕ) → FillsBytes kind → IsTrue (wrote_bytes calls) → AreBytes start → (after_calls half calls (settled_file start)).may_leave (left_by kind half calls start)
 left_by_may Kept half calls start small wrote are = stay half calls (settled_file start) refl
 left_by_may Lost half calls start small wrote are = swept_left Lost half calls (settled_file start) start tt wrote (settled_bytes start are) refl refl
 left_by_may (Filled byte) half calls start small wrote are = swept_left (Filled byte) half calls (settled_file start) start small wrote (settled_bytes start are) refl refl
 left_by_may (Scattered share) half calls start small wrote are = swept_left (Scattered share) half calls (settled_file start) start tt wrote (settled_bytes start are) refl refl
 
-pub image_may : (kind : Crash) (start : Image) (calls : List Call) (c : Image) → FillsBytes kind → IsTrue (began_with_bytes start) → IsTrue (wrote_bytes calls) → c ≡ record { a = left_by kind A calls start.a; b = left_by kind B calls start.b } → MayLeave start calls c
+pub image_may : (kind : Crash) (start : Image) (calls : List DiskCall) (c : Image) → FillsBytes kind → IsTrue (began_with_bytes start) → IsTrue (wrote_bytes calls) → c ≡ record { a = left_by kind A calls start.a; b = left_by kind B calls start.b } → MayLeave start calls c
 image_may kind start calls c small began wrote is =
     let parts = and_parts (are_bytes start.a) (are_bytes start.b) began in
     subst (MayLeave start calls) (sym is) (left_by_may kind A calls start.a small wrote (bytes_tested start.a parts.0), left_by_may kind B calls start.b small wrote (bytes_tested start.b parts.1))

@@ -2,7 +2,7 @@
 use Rattle.std.specs.Prelude.{ℕ, suc, ◌-◌, ◌*◌, ◌%◌, ◌<◌, List, [], ◌∷◌, ◌++◌, length, take, drop, get_or, nat_lt, if◌then◌else◌, replicate}
 use Rattle.disk_trait.specs.Disk.{written}
 use Rattle.disk_trait.specs.Replay.{settled_file, reads_after, after_calls}
-use Rattle.disk_trait.specs.declared.call.Call.{Call}
+use Rattle.disk_trait.specs.declared.call.DiskCall.{DiskCall}
 use Rattle.disk_trait.specs.declared.call.What.{What}
 use Rattle.disk_trait.specs.declared.call.What.TheVariants.{Looked, Wrote, WroteMixing, Shortened, Synced}
 use Rattle.disk_trait.specs.declared.crash.Crash.{Crash}
@@ -54,14 +54,14 @@ on_same B A same other = other
 on_same B B same other = same
 
 -- the calls in turn, the oldest first: what a read gives, and what a crash leaves
-abbrev pub left_by_calls : Crash → Half → List Call → List ℕ → List ℕ → List ℕ
+abbrev pub left_by_calls : Crash → Half → List DiskCall → List ℕ → List ℕ → List ℕ
 left_by_calls kind half [] file left = left
 left_by_calls kind half (call ∷ calls) file left = left_by_calls kind half calls
     (on_same half call.half (reads_after call.what file) file)
     (on_same half call.half (bytes_left_after kind call.what file left) left)
 
 -- what a crash of this kind leaves of a half, from the calls since it was opened
-abbrev pub left_by : Crash → Half → List Call → List ℕ → List ℕ
+abbrev pub left_by : Crash → Half → List DiskCall → List ℕ → List ℕ
 left_by Kept half calls start = (after_calls half calls (settled_file start)).reads
 left_by Lost half calls start = left_by_calls Lost half calls start start
 left_by (Filled byte) half calls start = left_by_calls (Filled byte) half calls start start

@@ -23,16 +23,16 @@ pub record Strikes {D F T : Type 0} (strikes : F → Bool) (next : F → F) (old
 -- ---- a fuse, which lets some calls pass and none after them
 
 -- no call is left before the one that fails
-abbrev pub is_burnt : ℕ → Bool
-is_burnt zero = true
-is_burnt (suc calls) = false
+abbrev pub fails_next : ℕ → Bool
+fails_next zero = true
+fails_next (suc calls) = false
 
 -- ---- one call, after so many; none, once it has failed
 
 -- the next call fails
 abbrev pub is_due : Option ℕ → Bool
 is_due None = false
-is_due (Some calls) = is_burnt calls
+is_due (Some calls) = fails_next calls
 
 -- after that call; once it has failed none is to fail
 abbrev pub before_next : Option ℕ → Option ℕ

@@ -17,7 +17,7 @@ abbrev pub left_image : Crash → MemoryDisk → Image
 left_image kind m = record { a = left_by kind A m.calls.items m.start_a.items; b = left_by kind B m.calls.items m.start_b.items }
 
 -- Nothing was done: a read gives what it gave, no time went on, and a crash leaves what it might have left, no less and no more.
-pub record IsUndone (old new : State) : Type 0 where
+pub record IsCallUndone (old new : State) : Type 0 where
   pub reads : new.reads ≡ old.reads
   pub moment : new.moment ≡ old.moment
   pub no_more : (c : Image) → new.may_leave c → old.may_leave c
@@ -30,15 +30,15 @@ IsNotedCall old new = new.moment ≡ old.moment + 1
 
 -- A call that this disk takes a record of: of a crash after it no less is left than the step allows; if it fails, it was not
 -- taken.
-pub record IsRecorded {T E : Type 0} (Leaves : Type 0) (old new : State) (result : Result T E) : Type 0 where
+pub record IsCallRecorded {T E : Type 0} (Leaves : Type 0) (old new : State) (result : Result T E) : Type 0 where
   pub allows : OnOk result Leaves
-  pub undone : OnErr result (IsUndone old new)
+  pub undone : OnErr result (IsCallUndone old new)
   pub noted : OnOk result (IsNotedCall old new)
   pub mixes : new.mixes ≡ old.mixes
 
 -- a call that takes this step
 abbrev pub RecordsStep : {T E : Type 0} → (Image → Image → Type 0) → State → State → Result T E → Type 0
-RecordsStep step old new result = IsRecorded (Allows step old new) old new result
+RecordsStep step old new result = IsCallRecorded (Allows step old new) old new result
 
 -- a call that takes none
 abbrev pub RecordsLook : {T E : Type 0} → State → State → Result T E → Type 0
@@ -60,7 +60,7 @@ RecordsCut half len old new result = RecordsStep (OnHalf half (Cut len)) old new
 -- a sync: of what a crash might have left there is left what a read gives of the half
 abbrev pub RecordsSync : {T E : Type 0} → Half → State → State → Result T E → Type 0
 RecordsSync half old new result =
-    IsRecorded ((c : Image) → old.may_leave c → file_of half c ≡ file_of half old.reads → new.may_leave c) old new result
+    IsCallRecorded ((c : Image) → old.may_leave c → file_of half c ≡ file_of half old.reads → new.may_leave c) old new result
 
 -- a write or a cut that was not refused
 pub record TakesChange (Tears Does : Image → Image → Type 0) (old new : State) : Type 0 where

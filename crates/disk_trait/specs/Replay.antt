@@ -2,7 +2,7 @@
 use Rattle.std.specs.Prelude.{◌≡◌, ◌⊎◌, ℕ, ◌≤◌, Bool, true, ◌&&◌, List, [], ◌∷◌, length, take, nat_lt}
 use Rattle.std.specs.List.{list_all}
 use Rattle.disk_trait.specs.Disk.{Image, State, Elapses, at_once, file_of, other_of, written, Torn, Mixed, Cut, OnHalf, Partly}
-use Rattle.disk_trait.specs.declared.call.Call.{Call}
+use Rattle.disk_trait.specs.declared.call.DiskCall.{DiskCall}
 use Rattle.disk_trait.specs.declared.call.What.{What}
 use Rattle.disk_trait.specs.declared.call.What.TheVariants.{Looked, Wrote, WroteMixing, Shortened, Synced}
 use Rattle.disk_trait.specs.declared.half.Half.{Half}
@@ -57,16 +57,16 @@ where_same B A same other = other
 where_same B B same other = same
 
 -- a call of the other half changes nothing
-abbrev pub after_call : Half → Call → FileState → FileState
+abbrev pub after_call : Half → DiskCall → FileState → FileState
 after_call half call before = where_same half call.half (after_what call.what before) before
 
 -- the calls in turn, the oldest first
-abbrev pub after_calls : Half → List Call → FileState → FileState
+abbrev pub after_calls : Half → List DiskCall → FileState → FileState
 after_calls half [] before = before
 after_calls half (call ∷ calls) before = after_calls half calls (after_call half call before)
 
 -- what a crash after these calls may leave
-abbrev pub MayLeave : Image → List Call → Image → Type 0
+abbrev pub MayLeave : Image → List DiskCall → Image → Type 0
 MayLeave start calls c = (after_calls A calls (settled_file start.a)).may_leave c.a × (after_calls B calls (settled_file start.b)).may_leave c.b
 
 -- each of these numbers is a byte
@@ -86,18 +86,18 @@ abbrev pub began_with_bytes : Image → Bool
 began_with_bytes start = are_bytes start.a && are_bytes start.b
 
 -- what each of these calls wrote is bytes
-abbrev pub wrote_bytes : List Call → Bool
+abbrev pub wrote_bytes : List DiskCall → Bool
 wrote_bytes calls = list_all (λ call. writes_bytes call.what) calls
 
 -- what a crash might have left at some moment from t on: a moment is the number of calls before it
-pub record LeftSince (start : Image) (calls : List Call) (t : ℕ) (c : Image) : Type 0 where
+pub record LeftSince (start : Image) (calls : List DiskCall) (t : ℕ) (c : Image) : Type 0 where
   pub moment : ℕ
   pub not_before : t ≤ moment
   pub not_after : moment ≤ length calls
   pub left : MayLeave start (take moment calls) c
 
 -- a disk, told from the bytes that its files began with, its calls since, and how often it failed
-abbrev pub state_after_calls : Bool → Image → List Call → ℕ → State
+abbrev pub state_after_calls : Bool → Image → List DiskCall → ℕ → State
 state_after_calls mixes start calls failures = record {
   honest = true;
   mixes = mixes;

@@ -5,7 +5,7 @@ use Rattle.std.proofs.lemmas.Bool.{and_parts, and_from, ltb-true, lt-ltb}
 use Rattle.disk_trait.specs.Disk.{Image, AreBytes, HoldsBytes, Torn, Cut}
 use Rattle.disk_trait.specs.Mixes.{mixed_torn}
 use Rattle.disk_trait.specs.Replay.{FileState, PartOf, settled_file, after_what, where_same, after_call, after_calls, LeftSince, are_bytes, writes_bytes, began_with_bytes, wrote_bytes}
-use Rattle.disk_trait.specs.declared.call.Call.{Call}
+use Rattle.disk_trait.specs.declared.call.DiskCall.{DiskCall}
 use Rattle.disk_trait.specs.declared.call.What.{What}
 use Rattle.disk_trait.specs.declared.call.What.TheVariants.{Looked, Wrote, WroteMixing, Shortened, Synced}
 use Rattle.disk_trait.specs.declared.half.Half.{Half}
@@ -70,7 +70,7 @@ bytes_where B B p q first second = first
 
 -- ---- all calls
 
-pub wrote_more : (calls : List Call) (call : Call) → IsTrue (wrote_bytes calls) → IsTrue (writes_bytes call.what) → IsTrue (wrote_bytes (calls ++ call ∷ []))
+pub wrote_more : (calls : List DiskCall) (call : DiskCall) → IsTrue (wrote_bytes calls) → IsTrue (writes_bytes call.what) → IsTrue (wrote_bytes (calls ++ call ∷ []))
 wrote_more [] call wrote writes = and_from (writes_bytes call.what) true writes refl
 wrote_more (first ∷ calls) call wrote writes =
     let parts = and_parts (writes_bytes first.what) (wrote_bytes calls) wrote in
@@ -81,14 +81,14 @@ pub each_byte : (bytes : List ℕ) → ((i : ℕ) → get_or bytes i 0 < 256) �
 each_byte [] each = refl
 each_byte (b ∷ bs) each = and_from (nat_lt b 256) (are_bytes bs) (lt-ltb b 256 (each 0)) (each_byte bs (λ i. each (suc i)))
 
-bytes_calls : (half : Half) (calls : List Call) (p : FileState) → IsTrue (wrote_bytes calls) → LeavesBytes p → LeavesBytes (after_calls half calls p)
+bytes_calls : (half : Half) (calls : List DiskCall) (p : FileState) → IsTrue (wrote_bytes calls) → LeavesBytes p → LeavesBytes (after_calls half calls p)
 bytes_calls half [] p wrote leaves = leaves
 bytes_calls half (call ∷ calls) p wrote leaves =
     let parts = and_parts (writes_bytes call.what) (wrote_bytes calls) wrote in
     bytes_calls half calls (after_call half call p) parts.1
     (bytes_where half call.half (after_what call.what p) p (bytes_what call.what p parts.0 leaves) leaves)
 
-wrote_taken : (n : ℕ) (calls : List Call) → IsTrue (wrote_bytes calls) → IsTrue (wrote_bytes (take n calls))
+wrote_taken : (n : ℕ) (calls : List DiskCall) → IsTrue (wrote_bytes calls) → IsTrue (wrote_bytes (take n calls))
 wrote_taken zero calls wrote = refl
 wrote_taken (suc n) [] wrote = refl
 wrote_taken (suc n) (call ∷ calls) wrote =
@@ -98,7 +98,7 @@ wrote_taken (suc n) (call ∷ calls) wrote =
 pub settled_bytes : (file : List ℕ) → AreBytes file → LeavesBytes (settled_file file)
 settled_bytes file are c left = subst AreBytes (sym left) are
 
-pub left_bytes : (start : Image) (calls : List Call) (t : ℕ) (c : Image) → IsTrue (began_with_bytes start) → IsTrue (wrote_bytes calls) → LeftSince start calls t c → HoldsBytes c
+pub left_bytes : (start : Image) (calls : List DiskCall) (t : ℕ) (c : Image) → IsTrue (began_with_bytes start) → IsTrue (wrote_bytes calls) → LeftSince start calls t c → HoldsBytes c
 left_bytes start calls t c began wrote left =
     let parts = and_parts (are_bytes start.a) (are_bytes start.b) began in
     let taken = wrote_taken left.moment calls wrote in (

@@ -5,7 +5,7 @@ use Rattle.disk_trait.specs.Disk.{Image, Cut, IsSoundDisk}
 use Rattle.disk_trait.specs.Mixes.{whole_mixed}
 use Rattle.disk_trait.specs.Replay.{FileState, settled_file, after_what, where_same, after_call, after_calls, MayLeave, state_after_calls, began_with_bytes, wrote_bytes}
 use Rattle.disk_trait.specs.ReplayBytes.{left_bytes}
-use Rattle.disk_trait.specs.declared.call.Call.{Call}
+use Rattle.disk_trait.specs.declared.call.DiskCall.{DiskCall}
 use Rattle.disk_trait.specs.declared.call.What.{What}
 use Rattle.disk_trait.specs.declared.call.What.TheVariants.{Looked, Wrote, WroteMixing, Shortened, Synced}
 use Rattle.disk_trait.specs.declared.half.Half.{Half}
@@ -31,20 +31,20 @@ stay_where A B p q first second = second
 stay_where B A p q first second = second
 stay_where B B p q first second = first
 
-pub stay : (half : Half) (calls : List Call) (p : FileState) → Stays p → Stays (after_calls half calls p)
+pub stay : (half : Half) (calls : List DiskCall) (p : FileState) → Stays p → Stays (after_calls half calls p)
 stay half [] p stays = stays
 stay half (call ∷ calls) p stays = stay half calls (after_call half call p) (stay_where half call.half (after_what call.what p) p (stay_what call.what p stays) stays)
 
 -- a disk whose state is told from its calls is sound
-pub sound_told : (mixes : Bool) (start : Image) (calls : List Call) (failures : ℕ) → IsTrue (began_with_bytes start) → IsTrue (wrote_bytes calls) → IsSoundDisk (state_after_calls mixes start calls failures)
+pub sound_told : (mixes : Bool) (start : Image) (calls : List DiskCall) (failures : ℕ) → IsTrue (began_with_bytes start) → IsTrue (wrote_bytes calls) → IsSoundDisk (state_after_calls mixes start calls failures)
 sound_told mixes start calls failures began wrote = record {
   reads_stay = (stay A calls (settled_file start.a) refl, stay B calls (settled_file start.b) refl);
   counts_now = λ t c le left. record {
     moment = length calls;
     not_before = le;
     not_after = omega arith;
-    left = subst (λ (l : List Call). MayLeave start l c) (sym (take_all (length calls) calls (omega arith))) left;
+    left = subst (λ (l : List DiskCall). MayLeave start l c) (sym (take_all (length calls) calls (omega arith))) left;
   };
-  only_now = λ c left. subst (λ (l : List Call). MayLeave start l c) (take_all left.moment calls left.not_before) left.left;
+  only_now = λ c left. subst (λ (l : List DiskCall). MayLeave start l c) (take_all left.moment calls left.not_before) left.left;
   bytes = λ t c left. left_bytes start calls t c began wrote left;
 }

@@ -13,7 +13,7 @@ pub enum What {
 }
 
 #[derive(Drop)]
-pub struct Call {
+pub struct DiskCall {
     pub half: Half,
     pub what: What,
 }

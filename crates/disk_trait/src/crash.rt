@@ -5,7 +5,7 @@ ghost use Rattle.disk_trait.specs.Replay.{reads_after};
 ghost use Rattle.disk_trait.specs.Crash.{cut_after, bytes_left_after, mixed_after, scattered_bytes, left_by_calls, torn_after};
 
 use crate::Half;
-use crate::call::{Call, What};
+use crate::call::{DiskCall, What};
 use std::alloc::{AllocError, Global};
 
 /// What a crash makes of the bytes that were not synced.
@@ -187,7 +187,7 @@ fn next_left(
 pub(crate) fn left_of(
     alloc: Global,
     start: &[u8],
-    calls: &[Call],
+    calls: &[DiskCall],
     half: Half,
     kind: Crash,
 ) -> Result<Vec<u8>, AllocError>

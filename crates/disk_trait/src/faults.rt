@@ -1,6 +1,6 @@
 //! Which calls of a disk fail.
 ghost use Rattle.std.specs.Prelude.{◌≡◌, ℕ, ◌-◌, Bool, Option, Some};
-ghost use Rattle.disk_trait.specs.Faulty.{before_next, is_burnt, is_due};
+ghost use Rattle.disk_trait.specs.Faulty.{before_next, fails_next, is_due};
 
 use std::marker::Model;
 
@@ -40,7 +40,7 @@ impl Fuse {
 }
 
 impl Faults for Fuse {
-    ghost fails = { is_burnt };
+    ghost fails = { fails_next };
 
     ghost after = { λ calls. calls - 1 };
 

@@ -15,8 +15,8 @@ use Rattle.lisp_operators.specs.Evaluation.{gives, also, and_then}
 use Rattle.evaluator.specs.Value.{value, choice, other_value, value_over}
 use Rattle.lisp_operators.specs.EvaluationAnswers.{Answers, done}
 use Rattle.evaluator.specs.ArgumentValues.{arguments_of}
-use Rattle.evaluator.specs.declared.wanted.Wanted.{Wanted}
-use Rattle.evaluator.specs.declared.wanted.Wanted.TheVariants.{Truth}
+use Rattle.evaluator.specs.declared.wanted.ValueUse.{ValueUse}
+use Rattle.evaluator.specs.declared.wanted.ValueUse.TheVariants.{Truth}
 use Rattle.evaluator.specs.StandIns.{seen}
 use Rattle.evaluator.proofs.Forms.{two_arguments}
 use Rattle.evaluator.proofs.Seen.{seen_also, refused_seen, refused_so, evaluated_so, truth_of}
@@ -32,7 +32,7 @@ at_two (a ∷ []) e some = absurd (omega arith)
 at_two (a ∷ b ∷ []) e some = absurd (omega arith)
 at_two (a ∷ b ∷ c ∷ cs) e some = refl
 
-pub choice_refused : (w : Wanted) (names : List Name) (s t u : WorldState) (items : List Datum) (x : Datum) (e : EvaluationError) → 3 ≤ length items → x ≡ get_or items 1 x
+pub choice_refused : (w : ValueUse) (names : List Name) (s t u : WorldState) (items : List Datum) (x : Datum) (e : EvaluationError) → 3 ≤ length items → x ≡ get_or items 1 x
     → Answers done (Err e) t (seen Truth (value names s (object_of x))) → Answers done (Err e) u (seen w (choice names s (arguments_of (map object_of items))))
 choice_refused w names s t u items x e some is h =
     refused_seen w e u (choice names s (arguments_of (map object_of items))) (refused names s t u items x e some is (refused_so Truth e t t (value names s (object_of x)) h))
@@ -54,7 +54,7 @@ after_test names s t items x y v wrote b some is at h test =
     ∙ ap (λ k. also wrote (cond k (value names t (object_of y)) (other_value names t (list_of (map object_of (drop 3 items)))))) test
 
 -- the same, where it is only seen whether the first is true, and less may be seen of the value
-seen_test : (w : Wanted) (names : List Name) (s t : WorldState) (items : List Datum) (x y : Datum) (d : Evaluated) (b : Bool) → 3 ≤ length items → x ≡ get_or items 1 x → y ≡ get_or items 2 y
+seen_test : (w : ValueUse) (names : List Name) (s t : WorldState) (items : List Datum) (x y : Datum) (d : Evaluated) (b : Bool) → 3 ≤ length items → x ≡ get_or items 1 x → y ≡ get_or items 2 y
     → seen Truth (value names s (object_of x)) ≡ Ok (done d t) → is_true (object_of d.value) ≡ b
     → seen w (choice names s (arguments_of (map object_of items))) ≡ also d.wrote (seen w (cond b (value names t (object_of y)) (other_value names t (list_of (map object_of (drop 3 items))))))
 seen_test w names s t items x y d b some is at h test =
@@ -62,7 +62,7 @@ seen_test w names s t items x y d b some is at h test =
     ap (seen w) (after_test names s t items x y so.0 d.wrote b some is at so.1 (sym (truth_of so.0) ∙ ap is_true so.2 ∙ test))
     ∙ seen_also w d.wrote (cond b (value names t (object_of y)) (other_value names t (list_of (map object_of (drop 3 items)))))
 
-pub choice_true : (w : Wanted) (names : List Name) (s t u : WorldState) (items : List Datum) (x y : Datum) (d : Evaluated) (r : Result Evaluated EvaluationError) → 3 ≤ length items → x ≡ get_or items 1 x → y ≡ get_or items 2 y
+pub choice_true : (w : ValueUse) (names : List Name) (s t u : WorldState) (items : List Datum) (x y : Datum) (d : Evaluated) (r : Result Evaluated EvaluationError) → 3 ≤ length items → x ≡ get_or items 1 x → y ≡ get_or items 2 y
     → seen Truth (value names s (object_of x)) ≡ Ok (done d t) → is_true (object_of d.value) ≡ true → Answers done r u (also d.wrote (seen w (value names t (object_of y)))) → Answers done r u (seen w (choice names s (arguments_of (map object_of items))))
 choice_true w names s t u items x y d r some is at h test after = subst (Answers done r u) (sym (seen_test w names s t items x y d true some is at h test)) after
 
@@ -74,7 +74,7 @@ pub other_one : (names : List Name) (s : WorldState) (x rest : Object) → other
 unfolding value_over
 other_one names s x rest = refl
 
-pub choice_none : (w : Wanted) (names : List Name) (s t u : WorldState) (items : List Datum) (x : Datum) (d : Evaluated) (r : Result Evaluated EvaluationError) → 3 ≤ length items → length items ≡ 3 → x ≡ get_or items 1 x
+pub choice_none : (w : ValueUse) (names : List Name) (s t u : WorldState) (items : List Datum) (x : Datum) (d : Evaluated) (r : Result Evaluated EvaluationError) → 3 ≤ length items → length items ≡ 3 → x ≡ get_or items 1 x
     → seen Truth (value names s (object_of x)) ≡ Ok (done d t) → is_true (object_of d.value) ≡ false → Answers done r u (also d.wrote (seen w (gives nil t))) → Answers done r u (seen w (choice names s (arguments_of (map object_of items))))
 choice_none w names s t u items x d r some three is h test after =
     subst (Answers done r u)
@@ -90,7 +90,7 @@ choice_none w names s t u items x d r some three is h test after =
     none_left (a ∷ b ∷ c ∷ []) e = refl
     none_left (a ∷ b ∷ c ∷ k ∷ ks) e = absurd (omega arith)
 
-pub choice_other : (w : Wanted) (names : List Name) (s t u : WorldState) (items : List Datum) (x z : Datum) (d : Evaluated) (r : Result Evaluated EvaluationError) → 3 ≤ length items → (length items ≡ 3 → ⊥) → x ≡ get_or items 1 x → z ≡ get_or items 3 z
+pub choice_other : (w : ValueUse) (names : List Name) (s t u : WorldState) (items : List Datum) (x z : Datum) (d : Evaluated) (r : Result Evaluated EvaluationError) → 3 ≤ length items → (length items ≡ 3 → ⊥) → x ≡ get_or items 1 x → z ≡ get_or items 3 z
     → seen Truth (value names s (object_of x)) ≡ Ok (done d t) → is_true (object_of d.value) ≡ false → Answers done r u (also d.wrote (seen w (value names t (object_of z)))) → Answers done r u (seen w (choice names s (arguments_of (map object_of items))))
 choice_other w names s t u items x z d r some more is at h test after =
     subst (Answers done r u)

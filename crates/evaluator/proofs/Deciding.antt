@@ -31,8 +31,8 @@ use Rattle.evaluator.specs.declared.operation.Operation.TheVariants.{Decides}
 use Rattle.evaluator.specs.declared.decision.Decision.{Decision}
 use Rattle.evaluator.specs.declared.decision.Decision.TheVariants.{Assert}
 use Rattle.evaluator.specs.Operations.{HasRightCount}
-use Rattle.evaluator.specs.declared.wanted.Wanted.{Wanted}
-use Rattle.evaluator.specs.declared.wanted.Wanted.TheVariants.{Truth, Nothing}
+use Rattle.evaluator.specs.declared.wanted.ValueUse.{ValueUse}
+use Rattle.evaluator.specs.declared.wanted.ValueUse.TheVariants.{Truth, Nothing}
 use Rattle.evaluator.specs.StandIns.{seen, stand_in}
 use Rattle.evaluator.proofs.Branches.{other_one}
 use Rattle.evaluator.proofs.Forms.{one_argument, arguments_from}
@@ -46,7 +46,7 @@ stopped (Refused code) s u o next h = ap (λ p. and_then p next) h
 stopped OutOfMemory s u o next h = tt
 
 -- a form of which it is seen whether it is true, before one that its truth chooses
-pub going_on : (w : Wanted) (o : Evaluation Object) (d : Evaluated) (s : WorldState) (b : Bool) (next : Object → WorldState → Evaluation Object) → ((x : Object) → is_true (stand_in w x) ≡ is_true x)
+pub going_on : (w : ValueUse) (o : Evaluation Object) (d : Evaluated) (s : WorldState) (b : Bool) (next : Object → WorldState → Evaluation Object) → ((x : Object) → is_true (stand_in w x) ≡ is_true x)
     → seen w o ≡ Ok (done d s) → is_true (object_of d.value) ≡ b
     → (v : Object) × (stand_in w v ≡ object_of d.value) × (is_true v ≡ b) × (and_then o next ≡ also d.wrote (next v s))
 going_on w o d s b next same h test =
@@ -79,7 +79,7 @@ assert_form : (names : List Name) (s : WorldState) (items : List Datum) (x : Dat
 assert_form names s items x some is =
     ap (λ l. asserted (other_value names s l)) (one_argument items x some is) ∙ ap asserted (other_one names s (object_of x) (list_of (map object_of (drop 2 items))))
 
-pub assert_answers : (w : Wanted) (names : List Name) (s u : WorldState) (items : List Datum) (x : Datum) (decision : Decision) (r : Result Evaluated EvaluationError) → decision ≡ Assert → HasRightCount (Decides decision) (length items) → x ≡ get_or items 1 x
+pub assert_answers : (w : ValueUse) (names : List Name) (s u : WorldState) (items : List Datum) (x : Datum) (decision : Decision) (r : Result Evaluated EvaluationError) → decision ≡ Assert → HasRightCount (Decides decision) (length items) → x ≡ get_or items 1 x
     → Answers done r u (seen w (asserted (value names s (object_of x)))) → Answers done r u (seen w (operation_value names (Decides decision) (arguments_of (map object_of items)) s))
 assert_answers w names s u items x decision r same counted is h =
     let some : 2 ≤ length items = (subst (λ d. HasRightCount (Decides d) (length items)) same counted).0 in
@@ -115,19 +115,19 @@ module _ (names : List Name) (truth : Bool) (s t : WorldState) (items : List Dat
   sought_at : sought names truth s (list_of (map object_of (drop i items))) ≡ and_then (value names s (object_of f)) (λ y later. cond (has_truth truth y) (gives y later) (cond (is_pair after_form) (sought names truth later after_form) (gives y later)))
   sought_at = ap (sought names truth s) (forms_from items i f within at) ∙ sought_of names truth s (object_of f) after_form
 
-  pub sought_stops : (w : Wanted) (e : EvaluationError) (u : WorldState) → Answers done (Err e) t (seen w (value names s (object_of f))) → Answers done (Err e) u (sought names truth s (list_of (map object_of (drop i items))))
+  pub sought_stops : (w : ValueUse) (e : EvaluationError) (u : WorldState) → Answers done (Err e) t (seen w (value names s (object_of f))) → Answers done (Err e) u (sought names truth s (list_of (map object_of (drop i items))))
   sought_stops w e u h =
       subst (Answers done (Err e) u) (sym sought_at) (stopped e t u (value names s (object_of f)) _ (refused_so w e t t (value names s (object_of f)) h))
 
   -- the form is not the last one
-  pub sought_next : (w : Wanted) (d : Evaluated) → ((x : Object) → is_true (stand_in w x) ≡ is_true x) → i + 1 < length items → seen w (value names s (object_of f)) ≡ Ok (done d t) → has_truth truth (object_of d.value) ≡ false
+  pub sought_next : (w : ValueUse) (d : Evaluated) → ((x : Object) → is_true (stand_in w x) ≡ is_true x) → i + 1 < length items → seen w (value names s (object_of f)) ≡ Ok (done d t) → has_truth truth (object_of d.value) ≡ false
       → sought names truth s (list_of (map object_of (drop i items))) ≡ also d.wrote (sought names truth t (list_of (map object_of (drop (i + 1) items))))
   sought_next w d same more h test =
       let so = going_on w (value names s (object_of f)) d t (is_true (object_of d.value)) (λ y later. cond (has_truth truth y) (gives y later) (cond (is_pair after_form) (sought names truth later after_form) (gives y later))) same h refl in
       sought_at ∙ so.3 ∙ ap (λ b. also d.wrote (cond b (gives so.0 t) (cond (is_pair after_form) (sought names truth t after_form) (gives so.0 t)))) (ap (λ b. cond truth b (not b)) so.2 ∙ test)
       ∙ ap (λ b. also d.wrote (cond b (sought names truth t after_form) (gives so.0 t))) (more_forms items (i + 1) f more)
 
-  pub sought_here : (w : Wanted) (d : Evaluated) → ((x : Object) → is_true (stand_in w x) ≡ is_true x) → ((x : Object) → has_truth truth x ≡ true → stand_in w x ≡ x)
+  pub sought_here : (w : ValueUse) (d : Evaluated) → ((x : Object) → is_true (stand_in w x) ≡ is_true x) → ((x : Object) → has_truth truth x ≡ true → stand_in w x ≡ x)
       → seen w (value names s (object_of f)) ≡ Ok (done d t) → has_truth truth (object_of d.value) ≡ true → sought names truth s (list_of (map object_of (drop i items))) ≡ Ok (done d t)
   sought_here w d same kept h test =
       let so = going_on w (value names s (object_of f)) d t (is_true (object_of d.value)) (λ y later. cond (has_truth truth y) (gives y later) (cond (is_pair after_form) (sought names truth later after_form) (gives y later))) same h refl in
@@ -188,23 +188,23 @@ module _ (names : List Name) (s t : WorldState) (items clause : List Datum) (i :
   selected_at =
       ap (selected names s) (forms_from items i f within at ∙ ap (λ c. pair c others) (is ∙ forms_from clause 0 x some head)) ∙ selected_of names s (object_of x) body others
 
-  pub selected_stops : (w : Wanted) (e : EvaluationError) (u : WorldState) → Answers done (Err e) t (seen w (value names s (object_of x))) → Answers done (Err e) u (selected names s (list_of (map object_of (drop i items))))
+  pub selected_stops : (w : ValueUse) (e : EvaluationError) (u : WorldState) → Answers done (Err e) t (seen w (value names s (object_of x))) → Answers done (Err e) u (selected names s (list_of (map object_of (drop i items))))
   selected_stops w e u h =
       subst (Answers done (Err e) u) (sym selected_at) (stopped e t u (value names s (object_of x)) _ (refused_so w e t t (value names s (object_of x)) h))
 
-  selected_so : (w : Wanted) (d : Evaluated) (b : Bool) → ((z : Object) → is_true (stand_in w z) ≡ is_true z) → seen w (value names s (object_of x)) ≡ Ok (done d t) → is_true (object_of d.value) ≡ b
+  selected_so : (w : ValueUse) (d : Evaluated) (b : Bool) → ((z : Object) → is_true (stand_in w z) ≡ is_true z) → seen w (value names s (object_of x)) ≡ Ok (done d t) → is_true (object_of d.value) ≡ b
       → (v : Object) × (stand_in w v ≡ object_of d.value) × (is_true v ≡ b)
       × (selected names s (list_of (map object_of (drop i items))) ≡ also d.wrote (cond b (cond (is_pair body) (sequence_value names t body) (gives v t)) (selected names t others)))
   selected_so w d b same h test =
       let so = going_on w (value names s (object_of x)) d t b (λ y later. cond (is_true y) (cond (is_pair body) (sequence_value names later body) (gives y later)) (selected names later others)) same h test in
       (so.0, so.1, so.2, selected_at ∙ so.3 ∙ ap (λ k. also d.wrote (cond k (cond (is_pair body) (sequence_value names t body) (gives so.0 t)) (selected names t others))) so.2)
 
-  pub selected_next : (w : Wanted) (d : Evaluated) → ((z : Object) → is_true (stand_in w z) ≡ is_true z) → seen w (value names s (object_of x)) ≡ Ok (done d t) → is_true (object_of d.value) ≡ false
+  pub selected_next : (w : ValueUse) (d : Evaluated) → ((z : Object) → is_true (stand_in w z) ≡ is_true z) → seen w (value names s (object_of x)) ≡ Ok (done d t) → is_true (object_of d.value) ≡ false
       → selected names s (list_of (map object_of (drop i items))) ≡ also d.wrote (selected names t (list_of (map object_of (drop (i + 1) items))))
   selected_next w d same h test = (selected_so w d false same h test).3
 
   -- the test alone, of which the value is kept
-  pub selected_test : (w : Wanted) (d : Evaluated) → ((z : Object) → is_true (stand_in w z) ≡ is_true z) → ((z : Object) → has_truth true z ≡ true → stand_in w z ≡ z) → length clause ≡ 1
+  pub selected_test : (w : ValueUse) (d : Evaluated) → ((z : Object) → is_true (stand_in w z) ≡ is_true z) → ((z : Object) → has_truth true z ≡ true → stand_in w z ≡ z) → length clause ≡ 1
       → seen w (value names s (object_of x)) ≡ Ok (done d t) → is_true (object_of d.value) ≡ true → selected names s (list_of (map object_of (drop i items))) ≡ Ok (done d t)
   selected_test w d same kept one h test =
       let so = selected_so w d true same h test in
@@ -212,7 +212,7 @@ module _ (names : List Name) (s t : WorldState) (items clause : List Datum) (i :
       ∙ ap (λ b. Ok (record { value = so.0; state = t; wrote = b })) (or_false d.wrote)
       ∙ ap (λ z. Ok (record { value = z; state = t; wrote = d.wrote })) (sym (kept so.0 so.2) ∙ so.1)
 
-  pub selected_forms : (w : Wanted) (d : Evaluated) → ((z : Object) → is_true (stand_in w z) ≡ is_true z) → 1 < length clause → seen w (value names s (object_of x)) ≡ Ok (done d t) → is_true (object_of d.value) ≡ true
+  pub selected_forms : (w : ValueUse) (d : Evaluated) → ((z : Object) → is_true (stand_in w z) ≡ is_true z) → 1 < length clause → seen w (value names s (object_of x)) ≡ Ok (done d t) → is_true (object_of d.value) ≡ true
       → selected names s (list_of (map object_of (drop i items))) ≡ also d.wrote (sequence_value names t (arguments_of (map object_of clause)))
   selected_forms w d same more h test =
       let so = selected_so w d true same h test in
@@ -237,7 +237,7 @@ later_items u v (x ∷ []) xs some same keeps all = absurd (omega arith)
 later_items u v (x ∷ y ∷ ys) xs some same keeps all =
     subst (λ l. (1 ≤ length l) × All (IsArgument v) l) (sym same) (omega arith, λ k d h. keeps _ (All-tail (IsArgument u) x (y ∷ ys) all k d h))
 
-module _ (w : Wanted) (names : List Name) (truth : Bool) (s t : WorldState) (items : List Datum) (x : Datum) (some : 2 ≤ length items) (is : x ≡ get_or items 1 x) where
+module _ (w : ValueUse) (names : List Name) (truth : Bool) (s t : WorldState) (items : List Datum) (x : Datum) (some : 2 ≤ length items) (is : x ≡ get_or items 1 x) where
   abbrev forms : Object
   forms = list_of (map object_of (drop 2 items))
 
@@ -276,7 +276,7 @@ first_of y v (Ok d) = ap (λ b. Ok (record { value = y; state = d.state; wrote =
     ors false true = refl
     ors false false = refl
 
-module _ (w : Wanted) (names : List Name) (s t : WorldState) (items : List Datum) (x : Datum) (some : 2 ≤ length items) (is : x ≡ get_or items 1 x) where
+module _ (w : ValueUse) (names : List Name) (s t : WorldState) (items : List Datum) (x : Datum) (some : 2 ≤ length items) (is : x ≡ get_or items 1 x) where
   first_at : first_value names s (arguments_of (map object_of items)) ≡ first_value names s (pair (object_of x) (list_of (map object_of (drop 2 items))))
   first_at = ap (first_value names s) (one_argument items x some is)
 

@@ -40,8 +40,8 @@ use Rattle.evaluator.specs.ArgumentValues.{all_done}
 use Rattle.evaluator.specs.ArgumentValues.{arguments_of, parts, values_after, subforms, gathered, refusal_of_place, list_place, place_form_of, IsOperatorHead}
 use Rattle.evaluator.specs.ArgumentValues.{operation_value}
 use Rattle.evaluator.specs.declared.place.PlaceForm.{PlaceForm}
-use Rattle.evaluator.specs.declared.wanted.Wanted.{Wanted}
-use Rattle.evaluator.specs.declared.wanted.Wanted.TheVariants.{Value}
+use Rattle.evaluator.specs.declared.wanted.ValueUse.{ValueUse}
+use Rattle.evaluator.specs.declared.wanted.ValueUse.TheVariants.{Value}
 use Rattle.evaluator.specs.StandIns.{seen}
 use Rattle.evaluator.proofs.Places.{count_pairs}
 use Rattle.evaluator.proofs.Seen.{seen_also, seen_value}
@@ -144,7 +144,7 @@ ordinary_is names (LooksUp operator) s arguments e = refl
 ordinary_is names (Changes operator) s arguments e = changed_at operator (refusal_of_place (Changes operator) arguments) (values_at_place names s arguments) (has_default (first arguments))
 ordinary_is names (Computes function) s arguments e = ap (λ f. and_then (values names s arguments) f) (bounded function (most_arguments function) e)
 
-pub performed : (wanted : Wanted) (names : List Name) (operation : Operation) (place : PlaceForm) (s t u : WorldState) (arguments : Object) (v : Values) (r : Result Evaluated EvaluationError) → is_ordinary operation ≡ true
+pub performed : (wanted : ValueUse) (names : List Name) (operation : Operation) (place : PlaceForm) (s t u : WorldState) (arguments : Object) (v : Values) (r : Result Evaluated EvaluationError) → is_ordinary operation ≡ true
     → refusal_of_place operation arguments ≡ None → place ≡ place_form_of operation arguments → gathered names s operation arguments ≡ Ok (all_done v t)
     → Answers done r u (also v.wrote (seen wanted (function_of_operation names operation place (map object_of v.values.items) t))) → Answers done r u (seen wanted (operation_value names operation arguments s))
 performed wanted names operation place s t u arguments v r ordinary none at is h =

@@ -7,7 +7,7 @@ use Rattle.lisp_operators.specs.declared.list_builder.ListBuilder.TheVariants.{W
 use Rattle.lisp_operators.specs.ListBuilder.{HoldsList}
 use Rattle.lisp_operators.proofs.ListBuilding.{deep_more, deep_still, shallow_more, large_still, not_deep}
 use Rattle.evaluator.specs.StandIns.{stand_in, wanted_for}
-use Rattle.evaluator.specs.declared.wanted.Wanted.TheVariants.{Depth}
+use Rattle.evaluator.specs.declared.wanted.ValueUse.TheVariants.{Depth}
 
 module _ (xs : List Object) (x y : Object) where
   -- what is too deep for an item is not replaced

@@ -23,8 +23,8 @@ use Rattle.package_table.specs.Growth.{Grows}
 use Rattle.package_table.specs.Table.{Name, Table}
 use Rattle.lisp_object.specs.Datum.{object_of}
 use Rattle.plist_state.specs.Sound.{IsSoundWorldState, IsValue}
-use Rattle.evaluator.specs.declared.wanted.Wanted.{Wanted}
-use Rattle.evaluator.specs.declared.wanted.Wanted.TheVariants.{Value, Truth, Depth, Nothing}
+use Rattle.evaluator.specs.declared.wanted.ValueUse.{ValueUse}
+use Rattle.evaluator.specs.declared.wanted.ValueUse.TheVariants.{Value, Truth, Depth, Nothing}
 use Rattle.evaluator.specs.StandIns.{stand_in, seen}
 use Rattle.evaluator.specs.Value.{value}
 use Rattle.evaluator.proofs.Steps.{good_value}
@@ -33,20 +33,20 @@ pub seen_value : (o : Evaluation Object) → seen Value o ≡ o
 seen_value (Ok d) = refl
 seen_value (Err code) = refl
 
-pub seen_also : (w : Wanted) (b : Bool) (o : Evaluation Object) → seen w (also b o) ≡ also b (seen w o)
+pub seen_also : (w : ValueUse) (b : Bool) (o : Evaluation Object) → seen w (also b o) ≡ also b (seen w o)
 seen_also w b (Ok d) = refl
 seen_also w b (Err code) = refl
 
-pub refused_seen : (w : Wanted) (e : EvaluationError) (s : WorldState) (o : Evaluation Object) → Answers done (Err e) s o → Answers done (Err e) s (seen w o)
+pub refused_seen : (w : ValueUse) (e : EvaluationError) (s : WorldState) (o : Evaluation Object) → Answers done (Err e) s o → Answers done (Err e) s (seen w o)
 refused_seen w (Refused code) s o is = ap (seen w) is
 refused_seen w OutOfMemory s o is = tt
 
-pub refused_so : (w : Wanted) (e : EvaluationError) (s t : WorldState) (o : Evaluation Object) → Answers done (Err e) s (seen w o) → Answers done (Err e) t o
+pub refused_so : (w : ValueUse) (e : EvaluationError) (s t : WorldState) (o : Evaluation Object) → Answers done (Err e) s (seen w o) → Answers done (Err e) t o
 refused_so w (Refused code) s t (Ok d) is = absurd (cc)
 refused_so w (Refused code) s t (Err number) is = is
 refused_so w OutOfMemory s t o is = tt
 
-pub evaluated_so : (w : Wanted) (o : Evaluation Object) (d : Done Object) → seen w o ≡ Ok d
+pub evaluated_so : (w : ValueUse) (o : Evaluation Object) (d : Done Object) → seen w o ≡ Ok d
     → (v : Object) × (o ≡ Ok (record { value = v; state = d.state; wrote = d.wrote })) × (stand_in w v ≡ d.value)
 evaluated_so w (Err code) d is = absurd (cc)
 evaluated_so w (Ok e) d is = (e.value, ap (λ (f : Done Object). Ok (record { value = e.value; state = f.state; wrote = f.wrote })) same, ap (λ (f : Done Object). f.value) same)
@@ -61,13 +61,13 @@ truth_of x = by_test (is_true x) refl
     by_test true is = refl
     by_test false is = is
 
-pub stand_in_value : (w : Wanted) (u : Table) (x : Object) → IsValue u x → IsValue u (stand_in w x)
+pub stand_in_value : (w : ValueUse) (u : Table) (x : Object) → IsValue u x → IsValue u (stand_in w x)
 stand_in_value Value u x is = is
 stand_in_value Truth u x is = elim (is_true x) as (λ b. IsValue u (cond b (integer (pos 1)) x)) [ true ↦ base_value u 1 (omega arith) | false ↦ is ]
 stand_in_value Depth u x is = elim (nat_lt 99 (object_depth x)) as (λ b. IsValue u (cond b x (integer (pos 1)))) [ true ↦ is | false ↦ base_value u 1 (omega arith) ]
 stand_in_value Nothing u x is = base_value u 1 (omega arith)
 
-pub evaluated_good : (w : Wanted) (names : List Name) (s t : WorldState) (x : Object) (e : Evaluated) → AreFunctionNames names → IsSoundWorldState s → IsValue s.packages x → seen w (value names s x) ≡ Ok (done e t)
+pub evaluated_good : (w : ValueUse) (names : List Name) (s t : WorldState) (x : Object) (e : Evaluated) → AreFunctionNames names → IsSoundWorldState s → IsValue s.packages x → seen w (value names s x) ≡ Ok (done e t)
     → IsValue t.packages (object_of e.value) × Grows s.packages t.packages
 evaluated_good w names s t x e all sound is h =
     let so = evaluated_so w (value names s x) (done e t) h in

@@ -16,7 +16,7 @@ use Rattle.lisp_operators.specs.Evaluation.{Evaluation, gives, also, and_then}
 use Rattle.evaluator.specs.Value.{last, value, values, value_over}
 use Rattle.evaluator.specs.ArgumentValues.{arguments_of, sequence_value}
 use Rattle.lisp_operators.specs.declared.evaluated.Evaluated.{Evaluated}
-use Rattle.evaluator.specs.declared.wanted.Wanted.{Wanted}
+use Rattle.evaluator.specs.declared.wanted.ValueUse.{ValueUse}
 use Rattle.evaluator.specs.StandIns.{seen}
 use Rattle.evaluator.proofs.Seen.{seen_also, refused_seen}
 use Rattle.evaluator.proofs.Steps.{or_false, forms_from, value_first}
@@ -35,11 +35,11 @@ also_refused (Refused code) s w o p same is = same ∙ ap (also w) is
 also_refused OutOfMemory s w o p same is = tt
 
 -- what a loop over forms answers: the forms before wrote this, or not
-module _ (w : Wanted) (wrote : Bool) (o p : Evaluation Object) where
+module _ (w : ValueUse) (wrote : Bool) (o p : Evaluation Object) where
   pub answered : (q : Evaluation Object) (r : Result Evaluated EvaluationError) (u : WorldState) → o ≡ also wrote p → p ≡ q → Answers done r u (also wrote (seen w q)) → Answers done r u (seen w o)
   answered q r u same is h = subst (Answers done r u) (sym (ap (seen w) (same ∙ ap (also wrote) is) ∙ seen_also w wrote q)) h
 
-pub refused_after : (w : Wanted) (e : EvaluationError) (s : WorldState) (wrote : Bool) (o p : Evaluation Object) → o ≡ also wrote p → Answers done (Err e) s p → Answers done (Err e) s (seen w o)
+pub refused_after : (w : ValueUse) (e : EvaluationError) (s : WorldState) (wrote : Bool) (o p : Evaluation Object) → o ≡ also wrote p → Answers done (Err e) s p → Answers done (Err e) s (seen w o)
 refused_after w e s wrote o p same is = refused_seen w e s o (also_refused e s wrote o p same is)
 
 pub step_after : (a b both : Bool) (o p q : Evaluation Object) → o ≡ also a p → p ≡ also b q → both ≡ (a || b) → o ≡ also both q

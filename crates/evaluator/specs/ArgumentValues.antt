@@ -21,7 +21,7 @@ use Rattle.evaluator.specs.declared.place.PlaceForm.TheVariants.{Property, Prope
 use Rattle.lisp_operators.specs.Evaluation.{Evaluation, gives, also, and_then}
 use Rattle.lisp_operators.specs.Kinds.{is_true}
 use Rattle.lisp_operators.specs.Properties.{list}
-use Rattle.evaluator.specs.declared.wanted.Wanted.{Wanted}
+use Rattle.evaluator.specs.declared.wanted.ValueUse.{ValueUse}
 use Rattle.evaluator.specs.declared.wanted.EvaluationTask.{EvaluationTask}
 use Rattle.evaluator.specs.StandIns.{seen}
 use Rattle.evaluator.specs.Operators.{count, first}
@@ -63,7 +63,7 @@ abbrev pub Evaluates : List Name → Object → WorldState → WorldState → Re
 Evaluates names x old new result = Answers done result new (value names old x)
 
 -- the same, where less is asked of the value
-abbrev pub EvaluatesFor : Wanted → List Name → Object → WorldState → WorldState → Result Evaluated EvaluationError → Type 0
+abbrev pub EvaluatesFor : ValueUse → List Name → Object → WorldState → WorldState → Result Evaluated EvaluationError → Type 0
 EvaluatesFor wanted names x old new result = Answers done result new (seen wanted (value names old x))
 
 -- an operator with these items was carried out as `operation_value` says

@@ -46,8 +46,8 @@ pub record Operator : Type 0 where
   pub action : Action
 
 -- an operator of so many arguments
-abbrev pub takes : ℕ → ℕ → Action → Option Operator
-takes least most action = Some (record { least = least; most = Some most; action = action })
+abbrev pub operator_of_arity : ℕ → ℕ → Action → Option Operator
+operator_of_arity least most action = Some (record { least = least; most = Some most; action = action })
 
 -- one of any number of arguments
 abbrev pub takes_any : Action → Option Operator
@@ -60,31 +60,31 @@ takes_one_or_more action = Some (record { least = 1; most = None; action = actio
 -- the operator of this name, where these are the names of macro functions
 abbrev pub operator_named : List Name → Name → Option Operator
 operator_named names name =
-    if bytes_eq name (codes "QUOTE") then takes 1 1 quotes
+    if bytes_eq name (codes "QUOTE") then operator_of_arity 1 1 quotes
     else (if bytes_eq name (codes "PROGN") then takes_any sequence
-    else (if bytes_eq name (codes "IF") then takes 2 3 chooses
+    else (if bytes_eq name (codes "IF") then operator_of_arity 2 3 chooses
     else (if bytes_eq name (codes "LIST") then takes_any (calls list)
-    else (if bytes_eq name (codes "GET") then takes 2 3 (calls get)
-    else (if bytes_eq name (codes "SETF") then takes 2 2 assigns
-    else (if bytes_eq name (codes "REMPROP") then takes 2 2 (calls remove)
-    else (if bytes_eq name (codes "SYMBOL-PLIST") then takes 1 1 (calls symbol_plist)
-    else (if bytes_eq name (codes "INCF") then takes 1 2 increments
-    else (if bytes_eq name (codes "PUSH") then takes 2 2 pushes
-    else (if bytes_eq name (codes "MAKE-PACKAGE") then takes 1 1 (calls make)
-    else (if bytes_eq name (codes "IN-PACKAGE") then takes 1 1 enters_package
-    else (if bytes_eq name (codes "EXPORT") then takes 1 2 (calls export)
-    else (if bytes_eq name (codes "IMPORT") then takes 1 2 (calls import)
-    else (if bytes_eq name (codes "USE-PACKAGE") then takes 1 2 (calls use_package)
-    else (if bytes_eq name (codes "INTERN") then takes 1 2 (calls intern)
-    else (if bytes_eq name (codes "COPY-READTABLE") then takes 2 2 (calls copy_readtable)
-    else (if bytes_eq name (codes "IN-READTABLE") then takes 1 1 (calls enter_readtable)
-    else (if bytes_eq name (codes "SET-SYNTAX-FROM-CHAR") then takes 2 4 (calls set_syntax)
-    else (if bytes_eq name (codes "SET-MACRO-CHARACTER") then takes 2 4 (calls (set_macro names))
-    else (if bytes_eq name (codes "GET-MACRO-CHARACTER") then takes 1 2 (calls get_macro)
-    else (if bytes_eq name (codes "MAKE-DISPATCH-MACRO-CHARACTER") then takes 1 3 (calls make_dispatch)
-    else (if bytes_eq name (codes "SET-DISPATCH-MACRO-CHARACTER") then takes 3 4 (calls (set_dispatch names))
-    else (if bytes_eq name (codes "GET-DISPATCH-MACRO-CHARACTER") then takes 2 3 (calls get_dispatch)
-    else (if bytes_eq name (codes "READTABLE-CASE") then takes 1 1 (calls readtable_case)
+    else (if bytes_eq name (codes "GET") then operator_of_arity 2 3 (calls get)
+    else (if bytes_eq name (codes "SETF") then operator_of_arity 2 2 assigns
+    else (if bytes_eq name (codes "REMPROP") then operator_of_arity 2 2 (calls remove)
+    else (if bytes_eq name (codes "SYMBOL-PLIST") then operator_of_arity 1 1 (calls symbol_plist)
+    else (if bytes_eq name (codes "INCF") then operator_of_arity 1 2 increments
+    else (if bytes_eq name (codes "PUSH") then operator_of_arity 2 2 pushes
+    else (if bytes_eq name (codes "MAKE-PACKAGE") then operator_of_arity 1 1 (calls make)
+    else (if bytes_eq name (codes "IN-PACKAGE") then operator_of_arity 1 1 enters_package
+    else (if bytes_eq name (codes "EXPORT") then operator_of_arity 1 2 (calls export)
+    else (if bytes_eq name (codes "IMPORT") then operator_of_arity 1 2 (calls import)
+    else (if bytes_eq name (codes "USE-PACKAGE") then operator_of_arity 1 2 (calls use_package)
+    else (if bytes_eq name (codes "INTERN") then operator_of_arity 1 2 (calls intern)
+    else (if bytes_eq name (codes "COPY-READTABLE") then operator_of_arity 2 2 (calls copy_readtable)
+    else (if bytes_eq name (codes "IN-READTABLE") then operator_of_arity 1 1 (calls enter_readtable)
+    else (if bytes_eq name (codes "SET-SYNTAX-FROM-CHAR") then operator_of_arity 2 4 (calls set_syntax)
+    else (if bytes_eq name (codes "SET-MACRO-CHARACTER") then operator_of_arity 2 4 (calls (set_macro names))
+    else (if bytes_eq name (codes "GET-MACRO-CHARACTER") then operator_of_arity 1 2 (calls get_macro)
+    else (if bytes_eq name (codes "MAKE-DISPATCH-MACRO-CHARACTER") then operator_of_arity 1 3 (calls make_dispatch)
+    else (if bytes_eq name (codes "SET-DISPATCH-MACRO-CHARACTER") then operator_of_arity 3 4 (calls (set_dispatch names))
+    else (if bytes_eq name (codes "GET-DISPATCH-MACRO-CHARACTER") then operator_of_arity 2 3 (calls get_dispatch)
+    else (if bytes_eq name (codes "READTABLE-CASE") then operator_of_arity 1 1 (calls readtable_case)
     else None))))))))))))))))))))))))
 
 -- which objects are operators
@@ -138,7 +138,7 @@ deciding_operator_or other name =
     else (if bytes_eq name (codes "WHEN") then takes_one_or_more (guards true)
     else (if bytes_eq name (codes "UNLESS") then takes_one_or_more (guards false)
     else (if bytes_eq name (codes "PROG1") then takes_one_or_more keeps_first
-    else (if bytes_eq name (codes "ASSERT") then takes 1 2 asserts
+    else (if bytes_eq name (codes "ASSERT") then operator_of_arity 1 2 asserts
     else other))))))
 
 -- the operator of PAZTURROK of this name

@@ -11,7 +11,7 @@ ghost use Rattle.evaluator.specs.ArgumentValues.{arguments_in, Evaluates};
 
 use crate::direct::{into_call, is_literal, set_moved};
 use crate::evaluation::evaluate_for;
-use crate::wanted::Wanted;
+use crate::wanted::ValueUse;
 use lisp_object::{Datum, Items};
 use lisp_operators::{Evaluated, EvaluationError};
 use plist_state::World;
@@ -33,7 +33,7 @@ pub fn evaluate(
     ensures kept { IfOk result (λ _. KeepsArguments world.old.0.packages world.new.0.packages) }
     ensures marked { world.new.1 ≡ world.old.1 }
 {
-    evaluate_for(alloc, world, names, form, Wanted::Value)
+    evaluate_for(alloc, world, names, form, ValueUse::Value)
 }
 
 /// What a form does, as `evaluate` does it, where its value is not asked for. Gives whether anything was written. Where it is
@@ -99,7 +99,7 @@ fn carry_out(
     ensures gives { Leaves result world.new.0 (value names.now world.old.0 (object_of form.now)) }
     ensures marked { world.new.1 ≡ world.old.1 }
 {
-    match evaluate_for(alloc, world, names, form, Wanted::Nothing) {
+    match evaluate_for(alloc, world, names, form, ValueUse::Nothing) {
         Ok(evaluated) => Ok(evaluated.wrote),
         Err(error) => Err(error),
     }

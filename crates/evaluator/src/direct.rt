@@ -17,7 +17,7 @@ ghost use Rattle.evaluator.specs.StandIns.{seen};
 use crate::control::nothing;
 use crate::place::is_standard;
 use crate::trimmed::trimmed;
-use crate::wanted::{Wanted, seen, shown};
+use crate::wanted::{ValueUse, seen, shown};
 use lisp_object::Datum;
 use lisp_operators::{Evaluated, EvaluationError};
 use plist_state::{BorrowedSymbol, World};
@@ -246,7 +246,7 @@ pub(crate) fn get_directly(
     alloc: Global,
     world: &World,
     property: QuotedProperty<'_>,
-    wanted: Wanted,
+    wanted: ValueUse,
 ) -> Result<Evaluated, EvaluationError>
     ensures gives { Answers done result world.now.0
         (seen wanted (property_value property.entry world.now.0)) }
@@ -267,7 +267,7 @@ pub(crate) fn set_directly(
     alloc: Global,
     world: &mut World,
     assignment: Assignment<'_>,
-    wanted: Wanted,
+    wanted: ValueUse,
 ) -> Result<Evaluated, EvaluationError>
     requires { IsStorable world.old.0.packages assignment.property assignment.literal.now }
     ensures gives { Answers done result world.new.0

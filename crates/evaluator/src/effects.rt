@@ -10,12 +10,12 @@ ghost use Rattle.lisp_operators.specs.Evaluation.{Evaluation};
 ghost use Rattle.lisp_operators.specs.Readtables.{AreFunctionNames};
 ghost use Rattle.evaluator.specs.Operations.{function_of_operation};
 ghost use Rattle.evaluator.specs.StandIns.{seen};
-ghost use Rattle.evaluator.specs.declared.wanted.Wanted.TheVariants.{Truth, Nothing};
+ghost use Rattle.evaluator.specs.declared.wanted.ValueUse.TheVariants.{Truth, Nothing};
 
 use crate::operation::Operation;
 use crate::perform::carry_out;
 use crate::place::PlaceForm;
-use crate::wanted::{Wanted, seen};
+use crate::wanted::{ValueUse, seen};
 use lisp_object::Datum;
 use lisp_operators::{Evaluated, EvaluationError, effects, values};
 use plist_state::World;
@@ -97,7 +97,7 @@ pub(crate) fn truth(
         Operation::Get => shown(alloc, effects::get(world, values)),
         _ => seen(
             carry_out(alloc, world, names, operation, place, values),
-            Wanted::Truth,
+            ValueUse::Truth,
         ),
     }
 }
@@ -125,7 +125,7 @@ pub(crate) fn effect(
         (Operation::Push, _) => left(effects::push(alloc, world, values)),
         _ => seen(
             carry_out(alloc, world, names, operation, place, values),
-            Wanted::Nothing,
+            ValueUse::Nothing,
         ),
     }
 }

@@ -16,7 +16,7 @@ use crate::control::{after, atom, nothing, quoted};
 use crate::direct::{get_directly, literal_assignment, quoted_property, set_directly};
 use crate::operation::{Operation, operation_of};
 use crate::values::Values;
-use crate::wanted::{EvaluationTask, Wanted, seen, wanted_for};
+use crate::wanted::{EvaluationTask, ValueUse, seen, wanted_for};
 use deciding::{chosen, decided};
 use lisp_object::refusal::{ARGUMENT_KIND, NOT_A_FORM};
 use lisp_object::{Datum, Items};
@@ -34,7 +34,7 @@ pub(crate) fn evaluate_for(
     world: &mut World,
     names: &[FnName],
     form: &Datum,
-    wanted: Wanted,
+    wanted: ValueUse,
 ) -> Result<Evaluated, EvaluationError>
     requires names { AreFunctionNames names.now }
     requires form { IsArgument world.old.0.packages form.now }
@@ -57,7 +57,7 @@ fn any_form(
     world: &mut World,
     names: &[FnName],
     form: &Datum,
-    wanted: Wanted,
+    wanted: ValueUse,
 ) -> Result<Evaluated, EvaluationError>
     requires names { AreFunctionNames names.now }
     requires form { IsArgument world.old.0.packages form.now }
@@ -83,7 +83,7 @@ fn list_form(
     world: &mut World,
     names: &[FnName],
     items: &Items<Datum>,
-    wanted: Wanted,
+    wanted: ValueUse,
 ) -> Result<Evaluated, EvaluationError>
     requires some { 0 < length items.now }
     requires names { AreFunctionNames names.now }
@@ -243,7 +243,7 @@ fn before_place(
     if !kinds::is_pair(&items[2]) {
         return Err(Refused(ARGUMENT_KIND));
     }
-    let first = match evaluate_for(alloc, world, names, &items[1], Wanted::Value) {
+    let first = match evaluate_for(alloc, world, names, &items[1], ValueUse::Value) {
         Ok(evaluated) => Values::one(alloc, evaluated)?,
         Err(error) => return Err(error),
     };
@@ -302,7 +302,7 @@ fn extended(
 {
     let mut values = values;
     for i in from..forms.len() {
-        let evaluated = match evaluate_for(alloc, world, names, &forms[i], Wanted::Value) {
+        let evaluated = match evaluate_for(alloc, world, names, &forms[i], ValueUse::Value) {
             Ok(evaluated) => evaluated,
             Err(error) => return Err(error),
         };
@@ -349,7 +349,7 @@ pub(crate) fn sequence(
     world: &mut World,
     names: &[FnName],
     items: &[Datum],
-    wanted: Wanted,
+    wanted: ValueUse,
 ) -> Result<Evaluated, EvaluationError>
     requires counted { 1 ≤ length items.now }
     requires names { AreFunctionNames names.now }
@@ -365,7 +365,7 @@ pub(crate) fn sequence(
     }
     let mut wrote = false;
     for i in 1..last {
-        match evaluate_for(alloc, world, names, &items[i], Wanted::Nothing) {
+        match evaluate_for(alloc, world, names, &items[i], ValueUse::Nothing) {
             Ok(evaluated) => wrote = either(wrote, evaluated.wrote),
             Err(error) => return Err(error),
         }

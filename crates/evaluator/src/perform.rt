@@ -12,7 +12,7 @@ use crate::effects::{effect, truth};
 use crate::operation::Operation;
 use crate::place::PlaceForm;
 use crate::values::Values;
-use crate::wanted::{EvaluationTask, Wanted, seen};
+use crate::wanted::{EvaluationTask, ValueUse, seen};
 use lisp_object::Datum;
 use lisp_object::refusal::ARGUMENT_KIND;
 use lisp_operators::EvaluationError::Refused;
@@ -45,16 +45,16 @@ pub(crate) fn perform(
     let Values { values, wrote } = values;
     let operation = task.operation;
     match task.wanted {
-        Wanted::Value => after(
+        ValueUse::Value => after(
             wrote,
             carry_out(alloc, world, names, operation, place, values),
         ),
-        Wanted::Truth => after(wrote, truth(alloc, world, names, operation, place, values)),
-        Wanted::Depth => {
+        ValueUse::Truth => after(wrote, truth(alloc, world, names, operation, place, values)),
+        ValueUse::Depth => {
             let evaluated = carry_out(alloc, world, names, operation, place, values);
-            after(wrote, seen(evaluated, Wanted::Depth))
+            after(wrote, seen(evaluated, ValueUse::Depth))
         }
-        Wanted::Nothing => after(wrote, effect(alloc, world, names, operation, place, values)),
+        ValueUse::Nothing => after(wrote, effect(alloc, world, names, operation, place, values)),
     }
 }
 

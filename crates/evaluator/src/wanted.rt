@@ -16,7 +16,7 @@ use std::alloc::{AllocError, Global};
 
 /// What is asked of the value of a form.
 #[derive(Clone, Copy, Debug, PartialEq, Eq)]
-pub(crate) enum Wanted {
+pub(crate) enum ValueUse {
     /// The value itself.
     Value,
     /// Whether it is true.
@@ -31,87 +31,87 @@ pub(crate) enum Wanted {
 #[derive(Clone, Copy, Debug, PartialEq, Eq)]
 pub(crate) struct EvaluationTask {
     pub operation: Operation,
-    pub wanted: Wanted,
+    pub wanted: ValueUse,
 }
 
 /// What is asked of one value more for a list.
-pub(crate) fn wanted_for(values: &ListBuilder) -> Wanted
+pub(crate) fn wanted_for(values: &ListBuilder) -> ValueUse
     ensures { result ≡ wanted_for values.now }
 {
     match values {
-        ListBuilder::Within { .. } => Wanted::Value,
-        ListBuilder::TooLarge => Wanted::Depth,
-        ListBuilder::TooDeep => Wanted::Nothing,
+        ListBuilder::Within { .. } => ValueUse::Value,
+        ListBuilder::TooLarge => ValueUse::Depth,
+        ListBuilder::TooDeep => ValueUse::Nothing,
     }
 }
 
 /// What is asked of a test whose value may be that of its form where it is true, or else where it is false.
-pub(crate) fn wanted_of_test(where_true: bool) -> Wanted
+pub(crate) fn wanted_of_test(where_true: bool) -> ValueUse
     ensures truth { (x : Object) → is_true (stand_in result x) ≡ is_true x }
     ensures kept { (x : Object) → has_truth where_true x ≡ true → stand_in result x ≡ x }
 {
     if where_true {
-        return Wanted::Value;
+        return ValueUse::Value;
     }
-    Wanted::Truth
+    ValueUse::Truth
 }
 
 /// The value, or what stands for it.
-fn stand_in(value: Datum, wanted: Wanted) -> Datum
+fn stand_in(value: Datum, wanted: ValueUse) -> Datum
     requires { IsProper value }
     ensures object { object_of result ≡ stand_in wanted (object_of value) }
     ensures proper { IsProper result }
 {
     match wanted {
-        Wanted::Value => value,
-        Wanted::Truth => {
+        ValueUse::Value => value,
+        ValueUse::Truth => {
             if kinds::is_true(&value) {
                 Datum::Integer(1)
             } else {
                 value
             }
         }
-        Wanted::Depth => {
+        ValueUse::Depth => {
             if values::is_too_deep_within(&value) {
                 value
             } else {
                 Datum::Integer(1)
             }
         }
-        Wanted::Nothing => Datum::Integer(1),
+        ValueUse::Nothing => Datum::Integer(1),
     }
 }
 
 /// A copy of a value, or what stands for it: no more is copied than is asked for.
-pub(crate) fn shown(alloc: Global, value: &Datum, wanted: Wanted) -> Result<Datum, AllocError>
+pub(crate) fn shown(alloc: Global, value: &Datum, wanted: ValueUse) -> Result<Datum, AllocError>
     requires { IsProper value.now }
     ensures object { IfOk result (λ d. object_of d ≡ stand_in wanted (object_of value.now)) }
     ensures proper { IfOk result IsProper }
 {
     match wanted {
-        Wanted::Value => value.copy(alloc),
-        Wanted::Truth => {
+        ValueUse::Value => value.copy(alloc),
+        ValueUse::Truth => {
             if kinds::is_true(value) {
                 Ok(Datum::Integer(1))
             } else {
                 value.copy(alloc)
             }
         }
-        Wanted::Depth => {
+        ValueUse::Depth => {
             if values::is_too_deep_within(value) {
                 value.copy(alloc)
             } else {
                 Ok(Datum::Integer(1))
             }
         }
-        Wanted::Nothing => Ok(Datum::Integer(1)),
+        ValueUse::Nothing => Ok(Datum::Integer(1)),
     }
 }
 
 /// What was evaluated, with what stands for its value. What was refused stays refused.
 pub(crate) fn seen(
     evaluated: Result<Evaluated, EvaluationError>,
-    wanted: Wanted,
+    wanted: ValueUse,
 ) -> Result<Evaluated, EvaluationError>
     requires { IfOk evaluated IsProperValue }
     ensures gives { (s : WorldState) (o : Evaluation Object)

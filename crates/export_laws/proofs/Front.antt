@@ -11,7 +11,7 @@ use Rattle.lisp_reading.specs.declared.found.Found.{Found}
 use Rattle.lisp_reading.specs.declared.found.Found.TheVariants.{Nothing as nothing, One as one, LoneDot as lone_dot, TheEnd as the_end}
 use Rattle.lisp_reading.specs.Plans.{Read, run}
 use Rattle.lisp_reading.specs.Setting.{Setting, setting_of}
-use Rattle.lisp_reading.specs.Reading.{Outcome, attempt, empty, form, outcome, reads, reads_at, reads_in, refused, space_at}
+use Rattle.lisp_reading.specs.Reading.{ReadingResult, attempt, empty, form, outcome, reads, reads_at, reads_in, refused, space_at}
 use Rattle.lisp_reading.proofs.Forms.{reads_is}
 use Rattle.session_words.specs.declared.mode.Mode.TheVariants.{Current}
 use Rattle.prevalence_store.specs.meaning.Acceptance.{form_limits, read_in, transaction_value}
@@ -20,13 +20,13 @@ use Rattle.world_text.proofs.Begun.{newline_begun}
 use Rattle.export_laws.specs.Texts.{Makes, ReadsAsExported}
 
 -- the same, a byte later
-abbrev later : Outcome → Outcome
+abbrev later : ReadingResult → ReadingResult
 later (form x start «end» next) = form x (1 + start) (1 + «end») (1 + next)
 later empty = empty
 later (refused number at) = refused number (1 + at)
 
 module _ (setting : Setting) where
-  outcome_later : (start : ℕ) (more : ℕ → List ℕ → Outcome) (more2 : ℕ → List ℕ → Outcome) → ((at : ℕ) (cs : List ℕ) → more2 (1 + at) cs ≡ later (more at cs))
+  outcome_later : (start : ℕ) (more : ℕ → List ℕ → ReadingResult) (more2 : ℕ → List ℕ → ReadingResult) → ((at : ℕ) (cs : List ℕ) → more2 (1 + at) cs ≡ later (more at cs))
       → (r : Read Found) → outcome setting.table (1 + start) more2 r ≡ later (outcome setting.table start more r)
   outcome_later start more more2 all (Ok (nothing token, at, cs)) =
       ap (λ n. more2 n cs) (let h : 1 + start + at ≡ 1 + (start + at) = omega arith in h) ∙ all (start + at) cs
@@ -63,7 +63,7 @@ module _ (functions : Functions) (s : WorldState) (as_exported : ReadsAsExported
       ∙ ap (outcome standard 0 (λ next cs. reads_at its_setting next cs)) (newline_begun form_limits s.packages common_lisp_user functions 100 0 text (omega arith))
       ∙ reads_later its_setting (length text + 1) 0 text
 
-  form_later : (r : Outcome) → one_form functions s Current (10 ∷ text) (later r) ≡ one_form functions s Current text r
+  form_later : (r : ReadingResult) → one_form functions s Current (10 ∷ text) (later r) ≡ one_form functions s Current text r
   form_later (form x start «end» next) =
       let a : 1 + start ≡ suc start = omega arith in
       let n : 1 + next ≡ suc next = omega arith in

@@ -3,7 +3,7 @@ use Rattle.std.proofs.Common.{◌≡◌, ◌⊎◌, inl, inr, ℕ, List, [], ◌
 use Rattle.std.specs.List.{AllByRecursion}
 use Rattle.disk_trait.specs.Disk.{Image, State, IsHonest}
 use Rattle.gate_log.specs.Layout.{LogRecord}
-use Rattle.feeding_laws.specs.Feeding.{FramesAreHanded, ArePlaced, FeedsAgain, FrameHanding, HaveNoNames, IsFirst, account_after_frames, request_of, rounds_of_frames}
+use Rattle.feeding_laws.specs.Feeding.{FramesAreHanded, AccountTellsPlace, FeedsAgain, FrameHanding, HaveNoNames, IsFirst, account_after_frames, request_of, rounds_of_frames}
 use Rattle.feeding_laws.proofs.Over.{names_both}
 use Rattle.feeding_laws.proofs.Stands.{Stands, fed_later, first_stands, requests_alike, stands_after}
 use Rattle.message_frames.specs.Frames.{IsFrame, Sent}
@@ -39,7 +39,7 @@ abbrev records_at : Functions → {D : Type 0} → MessageAccount D → List Sen
 records_at functions account frames = entries_by (round_after functions account frames).wrote (round_after functions account frames).entries
 
 module _ (functions : Functions) {D : Type 0} where
-  round_at : (place : Place) (account : MessageAccount D) → ArePlaced place account → (frames : List Sent) → HaveNoNames frames → round_after_requests functions (begun_from place) (map request_of frames) ≡ round_after functions account frames
+  round_at : (place : Place) (account : MessageAccount D) → AccountTellsPlace place account → (frames : List Sent) → HaveNoNames frames → round_after_requests functions (begun_from place) (map request_of frames) ≡ round_after functions account frames
   round_at place account placed frames unnamed =
       ap with_its_position (requests_alike functions frames (begun_from place) unnamed) ∙ (λ i. with_its_position (each_frame functions (first_round (placed.last i) (placed.world i)) frames))
 
@@ -102,8 +102,8 @@ module _ (functions : Functions) {D R : Type 0} (state : D → State) where
       → (with_frames functions one.frames one.store account).now ≡ left_at functions account one.frames
   now_after account one stored = ap (λ o. unwrap_or o account.now) stored.known
 
-  one_placed : (place : Place) (account : MessageAccount D) → ArePlaced place account → (one : FrameHanding D R) → HaveNoNames one.frames → AnswersAreStored functions state account one.store one.frames one.bytes
-      → ArePlaced (with_round place (round_after_requests functions (begun_from place) (map request_of one.frames))) (with_frames functions one.frames one.store account)
+  one_placed : (place : Place) (account : MessageAccount D) → AccountTellsPlace place account → (one : FrameHanding D R) → HaveNoNames one.frames → AnswersAreStored functions state account one.store one.frames one.bytes
+      → AccountTellsPlace (with_round place (round_after_requests functions (begun_from place) (map request_of one.frames))) (with_frames functions one.frames one.store account)
   one_placed place account placed one unnamed stored =
       let same = round_at functions place account placed one.frames unnamed in
       record {
@@ -111,8 +111,8 @@ module _ (functions : Functions) {D R : Type 0} (state : D → State) where
         last = ap (λ (r : Round). r.last) same;
       }
 
-  pub placed_after : (handings : List (FrameHanding D R)) (place : Place) (account : MessageAccount D) → ArePlaced place account → FramesAreHanded functions state account handings
-      → ArePlaced (after_rounds functions place (rounds_of_frames handings)) (account_after_frames functions account handings)
+  pub placed_after : (handings : List (FrameHanding D R)) (place : Place) (account : MessageAccount D) → AccountTellsPlace place account → FramesAreHanded functions state account handings
+      → AccountTellsPlace (after_rounds functions place (rounds_of_frames handings)) (account_after_frames functions account handings)
   placed_after [] place account placed handed = placed
   placed_after (one ∷ more) place account placed handed =
       placed_after more (with_round place (round_after_requests functions (begun_from place) (map request_of one.frames))) (with_frames functions one.frames one.store account)

@@ -11,7 +11,7 @@ use Rattle.message_frames.specs.Lists.{SplitsOneWay}
 use Rattle.message_laws.specs.NearRounds.{Near}
 use Rattle.message_session.specs.Answers.{answers_of, each_frame, session_bytes}
 use Rattle.message_session.specs.Sessions.{EndsBy, MessagesBegin, ServesMessages, text_limit}
-use Rattle.message_session.specs.declared.ended.Ended.TheVariants.{End}
+use Rattle.message_session.specs.declared.ended.MessagesEnd.TheVariants.{End}
 use Rattle.message_session.proofs.Pieces.{begun_none}
 use Rattle.message_laws.proofs.Together.{near_on}
 use Rattle.feeding_laws.proofs.Stands.{near_back}

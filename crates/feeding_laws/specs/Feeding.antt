@@ -71,7 +71,7 @@ abbrev pub rounds_of_frames : {D R : Type 0} → List (FrameHanding D R) → Lis
 rounds_of_frames handings = map (λ one. map request_of one.frames) handings
 
 -- the account tells of this place
-pub record ArePlaced {D : Type 0} (place : Place) (account : MessageAccount D) : Type 0 where
+pub record AccountTellsPlace {D : Type 0} (place : Place) (account : MessageAccount D) : Type 0 where
   pub world : place.world ≡ account.now
   pub last : place.last ≡ account.last
 

@@ -2,7 +2,7 @@
 ghost use Rattle.std.specs.Prelude.{◌≡◌, ℕ, List, [], ◌∷◌, ◌++◌, Option, Some};
 ghost use Rattle.std.specs.List.{AllByRecursion, flat_map};
 ghost use Rattle.disk_trait.specs.Disk.{Image, IsHonest};
-ghost use Rattle.feeding_laws.specs.Feeding.{AreAnsweredAgain, FramesAreHanded, ArePlaced, FeedsAgain, FrameHanding, HaveNoNames, IsFirst, account_after_frames, over, rounds_of_frames, told_position};
+ghost use Rattle.feeding_laws.specs.Feeding.{AreAnsweredAgain, FramesAreHanded, AccountTellsPlace, FeedsAgain, FrameHanding, HaveNoNames, IsFirst, account_after_frames, over, rounds_of_frames, told_position};
 ghost use Rattle.message_frames.specs.Frames.{IsFrame, Sent, frame_bytes};
 ghost use Rattle.message_session.specs.Account.{MessageAccount, AnswersAreStored, FramesAreUnderWay, with_frames};
 ghost use Rattle.message_session.specs.Sessions.{ServesMessages, text_limit};
@@ -16,7 +16,7 @@ ghost use Rattle.user_macros.specs.Functions.{Functions};
 
 use disk_trait::Disk;
 use message_frames::bytes_are_one_list;
-use message_session::Ended;
+use message_session::MessagesEnd;
 
 /// Answers were handed to the recipient of a session, one time after the other (`FramesAreHanded`), from its position on, to frames without a name.
 /// Of an honest disk of which each crash would have left its first world:
@@ -39,7 +39,7 @@ pub fn feeding_again<D: Disk, R>()
     ensures in_rounds { (functions : Functions) (account : MessageAccount D)
         (handings : List (FrameHanding D R))
         → FramesAreHanded functions D.state account handings
-        → ArePlaced (after_rounds functions (place_at account.last account.now) (rounds_of_frames handings)) (account_after_frames functions account handings) }
+        → AccountTellsPlace (after_rounds functions (place_at account.last account.now) (rounds_of_frames handings)) (account_after_frames functions account handings) }
     ensures while_stored { (functions : Functions) (account : MessageAccount D)
         (handings : List (FrameHanding D R)) (one : FrameHanding D R)
         → (more : List Sent) (image : Image) (now : WorldState)
@@ -69,7 +69,7 @@ pub fn fed_sessions<D: Disk, R>()
         → (left held written : Option (List ℕ))
         → FeedsAgain functions last first frames now → told_in now ≡ Some position
         → AllByRecursion (IsFrame text_limit) frames
-        → ServesMessages functions D.state old new now (Some (flat_map frame_bytes (over position frames))) left held written Ended.End
+        → ServesMessages functions D.state old new now (Some (flat_map frame_bytes (over position frames))) left held written MessagesEnd.End
         → AreAnsweredAgain functions new last first frames position held written }
 {
     bytes_are_one_list();

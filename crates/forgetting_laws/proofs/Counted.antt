@@ -20,7 +20,7 @@ use Rattle.plist_state.specs.Properties.{Symbol}
 use Rattle.plist_state.specs.State.{WorldState}
 use Rattle.world_text.proofs.Ascii.{entries_pass}
 use Rattle.world_text.proofs.RowsWritten.{filter_images}
-use Rattle.forgotten_names.specs.WorldsWithoutNames.{forgettable, forgotten, is_kept}
+use Rattle.forgotten_names.specs.WorldsWithoutNames.{forgettable, without_unneeded_symbols, is_kept}
 use Rattle.forgotten_names.specs.NeededSymbols.{is_needed}
 use Rattle.forgetting_laws.proofs.Left.{own_left, packages_left}
 
@@ -56,7 +56,7 @@ module _ (t : Table) where
 
 module _ (held : List Symbol) (s : WorldState) where
   abbrev left : Table
-  left = (forgotten held s).packages
+  left = (without_unneeded_symbols held s).packages
 
   home_left : (p : Name) → own_symbols left p ≡ filter (is_needed held s) (own_symbols s.packages p)
   home_left p = ap (map (λ (n : Name). (p, n))) (own_left held s p) ∙ filter_images (is_needed held s) (λ (n : Name). (p, n)) (own_names s.packages p)

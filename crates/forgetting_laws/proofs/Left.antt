@@ -17,7 +17,7 @@ use Rattle.plist_state.specs.Properties.{Symbol}
 use Rattle.plist_state.specs.State.{WorldState}
 use Rattle.world_text.proofs.Ascii.{entries_pass}
 use Rattle.world_text.proofs.RowsWritten.{filter_images}
-use Rattle.forgotten_names.specs.WorldsWithoutNames.{forgotten, is_kept, kept_package, kept_packages}
+use Rattle.forgotten_names.specs.WorldsWithoutNames.{without_unneeded_symbols, is_kept, kept_package, kept_packages}
 use Rattle.forgotten_names.specs.NeededSymbols.{is_needed}
 use Rattle.forgetting_laws.proofs.Passing.{same, passing_both, passing_alike}
 
@@ -96,7 +96,7 @@ other_case false false = refl
 
 module _ (held : List Symbol) (s : WorldState) (p : Name) where
   abbrev left : Table
-  left = (forgotten held s).packages
+  left = (without_unneeded_symbols held s).packages
 
   abbrev is_own : Name × Present → Bool
   is_own x = bytes_eq x.1.home p

@@ -8,7 +8,7 @@
 #![tactic(auto)]
 
 ghost use Rattle.std.specs.Prelude.{◌≡◌, ◌+◌, List, filter, length};
-ghost use Rattle.forgotten_names.specs.WorldsWithoutNames.{forgettable, forgotten};
+ghost use Rattle.forgotten_names.specs.WorldsWithoutNames.{forgettable, without_unneeded_symbols};
 ghost use Rattle.forgotten_names.specs.NeededSymbols.{is_needed};
 ghost use Rattle.package_table.specs.Readers.{imports};
 ghost use Rattle.package_table.specs.Table.{Name, symbol_count};
@@ -19,7 +19,7 @@ ghost use Rattle.plist_state.specs.State.{WorldState};
 /// The imports of each package are what they were: the same names, each with the same home, also where it is inherited besides.
 pub fn imports_stay()
     ensures { (held : List Symbol) (s : WorldState) (p : Name)
-        → imports (forgotten held s).packages p ≡ imports s.packages p }
+        → imports (without_unneeded_symbols held s).packages p ≡ imports s.packages p }
 {}
 
 /// The symbols that are not needed go, and no others.
@@ -28,8 +28,8 @@ pub fn imports_stay()
 /// - `count`: a world has so many symbols less as there are that it does not need
 pub fn forgettable_symbols_go()
     ensures left { (held : List Symbol) (s : WorldState)
-        → symbols (forgotten held s).packages ≡ filter (is_needed held s) (symbols s.packages) }
+        → symbols (without_unneeded_symbols held s).packages ≡ filter (is_needed held s) (symbols s.packages) }
     ensures count { (held : List Symbol) (s : WorldState)
-        → symbol_count (forgotten held s).packages + length (forgettable held s)
+        → symbol_count (without_unneeded_symbols held s).packages + length (forgettable held s)
         ≡ symbol_count s.packages }
 {}

@@ -21,11 +21,11 @@ use Rattle.package_table.proofs.Found.{external_shows, shows_external}
 use Rattle.package_table.proofs.Frames.{name_cases}
 use Rattle.plist_state.specs.Properties.{Symbol, Plist}
 use Rattle.plist_state.specs.State.{WorldState}
-use Rattle.plist_state.specs.Sound.{IsSymbol, IsKnown, IsValue, IsPlist, IsSoundWorldState}
+use Rattle.plist_state.specs.Sound.{IsSymbol, IsSymbolStorable, IsValue, IsPlist, IsSoundWorldState}
 use Rattle.plist_state.proofs.Soundness.{symbol_is, symbol_from}
 use Rattle.snapshot_text.proofs.PartFinds.{external_more}
 use Rattle.forgotten_names.specs.NeededSymbols.{stands_among, plist_symbols, is_needed}
-use Rattle.forgotten_names.specs.WorldsWithoutNames.{kept_package, is_kept, forgotten}
+use Rattle.forgotten_names.specs.WorldsWithoutNames.{kept_package, is_kept, without_unneeded_symbols}
 use Rattle.forgotten_names.proofs.Members.{among_itself, among_later, among_left, among_right, imported_from, imported_where}
 use Rattle.forgotten_names.proofs.NeededSymbols.{needed_external, needed_imported, needed_among, needed_cases, needed_owner, in_list, kept_needed, kept_external, kept_imported, kept_is_needed}
 use Rattle.forgotten_names.proofs.KeptPackages.{package_kept, there_kept, kept_part, all_kept}
@@ -34,7 +34,7 @@ use Rattle.forgotten_names.proofs.KeptSound.{present_stays, external_stays, pres
 -- ---- what stands in lists of which all symbols stay
 
 module _ (t u : Table) (Stays : Symbol → Type 0) (stays : (x : Symbol) → IsSymbol t x → Stays x → IsSymbol u x) where
-  atoms_stay : (x : Object) → ((y : Symbol) → stands_among y (symbols x) ≡ true → Stays y) → AllAtoms (IsKnown t) x → AllAtoms (IsKnown u) x
+  atoms_stay : (x : Object) → ((y : Symbol) → stands_among y (symbols x) ≡ true → Stays y) → AllAtoms (IsSymbolStorable t) x → AllAtoms (IsSymbolStorable u) x
   atoms_stay (integer n) each known = tt
   atoms_stay (rational n d) each known = tt
   atoms_stay (character c) each known = tt
@@ -87,7 +87,7 @@ functions_stay t u stays (n ∷ ns) is =
 
 module _ (held : List Symbol) (s : WorldState) where
   abbrev left : Table
-  left = (forgotten held s).packages
+  left = (without_unneeded_symbols held s).packages
 
   pub symbol_stays : (x : Symbol) → IsSymbol s.packages x → is_needed held s x ≡ true → IsSymbol left x
   symbol_stays x there needed = present_stays (is_kept held s) s.packages (kept_external held s) (kept_imported held s) x.0 x.1 x.0 (kept_needed held s x.0 x.1 needed) there
@@ -97,7 +97,7 @@ module _ (held : List Symbol) (s : WorldState) where
       let was = present_was (is_kept held s) s.packages (kept_external held s) (kept_imported held s) x.0 x.1 x.0 there in
       (was.0, kept_is_needed held s x.0 x.1 was.0 was.1)
 
-  pub forgotten_sound : IsSoundWorldState s → IsSoundWorldState (forgotten held s)
+  pub forgotten_sound : IsSoundWorldState s → IsSoundWorldState (without_unneeded_symbols held s)
   forgotten_sound sound = record {
     packages = kept_sound (is_kept held s) s.packages (kept_external held s) (kept_imported held s) sound.packages;
     symbols = λ x there. symbol_stays x (sound.symbols x there) (needed_owner held s x there);
@@ -139,21 +139,21 @@ module _ (held : List Symbol) (s : WorldState) where
   pub external_same : (p n : Name) → is_external left p n ≡ is_external s.packages p n
   external_same p n = both_ways (is_external left p n) (is_external s.packages p n) (external_before p n) (external_still p n)
 
-  needed_still : (x : Symbol) → is_needed held s x ≡ true → is_needed held (forgotten held s) x ≡ true
+  needed_still : (x : Symbol) → is_needed held s x ≡ true → is_needed held (without_unneeded_symbols held s) x ≡ true
   needed_still x needed =
       elim (needed_cases held s x needed) [
-        | inl external ↦ needed_external held (forgotten held s) x (external_still x.0 x.1 external)
+        | inl external ↦ needed_external held (without_unneeded_symbols held s) x (external_still x.0 x.1 external)
         | inr other ↦ elim other [
           | inl imported ↦
               let p = imported_where s.packages x imported in
-              needed_imported held (forgotten held s) x (imported_from left p.0 x.1 x.0 (present_stays (is_kept held s) s.packages (kept_external held s) (kept_imported held s) p.0 x.1 x.0 (kept_imported held s p.0 x.1 x.0 p.1 p.2).0 p.1) p.2)
-          | inr among ↦ needed_among held (forgotten held s) x among
+              needed_imported held (without_unneeded_symbols held s) x (imported_from left p.0 x.1 x.0 (present_stays (is_kept held s) s.packages (kept_external held s) (kept_imported held s) p.0 x.1 x.0 (kept_imported held s p.0 x.1 x.0 p.1 p.2).0 p.1) p.2)
+          | inr among ↦ needed_among held (without_unneeded_symbols held s) x among
         ]
       ]
 
-  needed_before : (x : Symbol) → is_needed held (forgotten held s) x ≡ true → is_needed held s x ≡ true
+  needed_before : (x : Symbol) → is_needed held (without_unneeded_symbols held s) x ≡ true → is_needed held s x ≡ true
   needed_before x needed =
-      elim (needed_cases held (forgotten held s) x needed) [
+      elim (needed_cases held (without_unneeded_symbols held s) x needed) [
         | inl external ↦ needed_external held s x (external_before x.0 x.1 external)
         | inr other ↦ elim other [
           | inl imported ↦
@@ -163,16 +163,16 @@ module _ (held : List Symbol) (s : WorldState) where
         ]
       ]
 
-  pub needed_same : (x : Symbol) → is_needed held (forgotten held s) x ≡ is_needed held s x
-  needed_same x = both_ways (is_needed held (forgotten held s) x) (is_needed held s x) (needed_before x) (needed_still x)
+  pub needed_same : (x : Symbol) → is_needed held (without_unneeded_symbols held s) x ≡ is_needed held s x
+  needed_same x = both_ways (is_needed held (without_unneeded_symbols held s) x) (is_needed held s x) (needed_before x) (needed_still x)
 
   -- each name that is left is kept again
-  kept_still : (p n : Name) (e : Present) → entry_at left p n ≡ Some e → is_kept held (forgotten held s) p n ≡ true
+  kept_still : (p n : Name) (e : Present) → entry_at left p n ≡ Some e → is_kept held (without_unneeded_symbols held s) p n ≡ true
   kept_still p n e here =
       elim (name_cases e.home p) [
-        | inl same ↦ kept_needed held (forgotten held s) p n (needed_still (p, n) (symbol_was (p, n) (ap (option_map (λ (e : Present). e.home)) here ∙ ap (λ h. Some h) same)).1)
-        | inr differ ↦ (kept_imported held (forgotten held s) p n e.home (ap (option_map (λ (e : Present). e.home)) here) differ).0
+        | inl same ↦ kept_needed held (without_unneeded_symbols held s) p n (needed_still (p, n) (symbol_was (p, n) (ap (option_map (λ (e : Present). e.home)) here ∙ ap (λ h. Some h) same)).1)
+        | inr differ ↦ (kept_imported held (without_unneeded_symbols held s) p n e.home (ap (option_map (λ (e : Present). e.home)) here) differ).0
       ]
 
-  pub forgotten_again : forgotten held (forgotten held s) ≡ forgotten held s
-  forgotten_again = λ i. record s { packages = all_kept (is_kept held (forgotten held s)) left kept_still i }
+  pub forgotten_again : without_unneeded_symbols held (without_unneeded_symbols held s) ≡ without_unneeded_symbols held s
+  forgotten_again = λ i. record s { packages = all_kept (is_kept held (without_unneeded_symbols held s)) left kept_still i }

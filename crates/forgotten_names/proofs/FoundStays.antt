@@ -10,7 +10,7 @@ use Rattle.plist_state.specs.State.{WorldState}
 use Rattle.plist_state.specs.Sound.{IsSoundWorldState}
 use Rattle.snapshot_text.proofs.PartFinds.{finds_more}
 use Rattle.forgotten_names.specs.NeededSymbols.{is_needed}
-use Rattle.forgotten_names.specs.WorldsWithoutNames.{is_kept, forgotten}
+use Rattle.forgotten_names.specs.WorldsWithoutNames.{is_kept, without_unneeded_symbols}
 use Rattle.forgotten_names.proofs.NeededSymbols.{kept_needed, kept_external, kept_imported}
 use Rattle.forgotten_names.proofs.KeptPackages.{uses_kept, kept_part}
 use Rattle.forgotten_names.proofs.KeptSound.{present_stays, external_stays}
@@ -18,7 +18,7 @@ use Rattle.forgotten_names.proofs.ForgottenSound.{forgotten_sound, symbol_was}
 
 module _ (held : List Symbol) (s : WorldState) (sound : IsSoundWorldState s) where
   abbrev left : Table
-  left = (forgotten held s).packages
+  left = (without_unneeded_symbols held s).packages
 
   finds_still : (p n h : Name) → is_needed held s (h, n) ≡ true → Finds s.packages p n h → Finds left p n h
   finds_still p n h needed (inl here) =

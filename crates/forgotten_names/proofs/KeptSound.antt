@@ -8,7 +8,7 @@ use Rattle.std.specs.Prelude.{option_map, option_and_then}
 use Rattle.std.specs.List.{list_any}
 use Rattle.std.specs.Ordering.{eq_by_cmp}
 use Rattle.std.specs.FinMap as finite
-use Rattle.package_table.specs.Table.{Name, name_cmp, Present, Package, Table, entry_at, IsPresent, IsExternal, IsJoined, HasFirst, IsWithin, AreSoundPackages, common_lisp, common_lisp_user, keyword, common_lisp_package, common_lisp_names}
+use Rattle.package_table.specs.Table.{Name, name_cmp, Present, Package, Table, entry_at, IsPresent, IsExternal, AreUsesSound, HasFirst, IsWithin, AreSoundPackages, common_lisp, common_lisp_user, keyword, common_lisp_package, common_lisp_names}
 use Rattle.package_table.proofs.Names.{same_some, none_some}
 use Rattle.package_table.proofs.Frames.{name_cases}
 use Rattle.package_table.proofs.First.{at_home, symbol_first}
@@ -49,7 +49,7 @@ module _ (keep : Name → Name → Bool) (t : Table)
       let was = entry_was keep t p n e.0 e.1 in
       (ap (option_map (λ (e : Present). e.home)) was.0 ∙ ap (λ h. Some h) e.2, was.1)
 
-  kept_joined : IsJoined t → IsJoined kept
+  kept_joined : AreUsesSound t → AreUsesSound kept
   kept_joined is = record {
     homes = λ p n h here.
         elim (name_cases h p) [

@@ -16,7 +16,7 @@ use Rattle.world_text.specs.Snapshot.{texts, made_names, shown_names, imported_n
 use Rattle.world_text.proofs.PlainLines.{plain_packages, plain_third}
 use Rattle.world_text.proofs.PlainObjects.{plain_printed}
 use Rattle.forgotten_names.specs.NeededSymbols.{is_needed}
-use Rattle.forgotten_names.specs.WorldsWithoutNames.{is_kept, forgotten}
+use Rattle.forgotten_names.specs.WorldsWithoutNames.{is_kept, without_unneeded_symbols}
 use Rattle.forgotten_names.proofs.Filtered.{filter_alike, filter_swap}
 use Rattle.forgotten_names.proofs.ForgottenSound.{forgotten_sound}
 use Rattle.forgotten_names.proofs.KeptLists.{packages_kept, used_kept, own_kept, external_kept, imports_kept}
@@ -29,7 +29,7 @@ module _ (held : List Symbol) (s : WorldState) where
   t = s.packages
 
   abbrev left : Table
-  left = (forgotten held s).packages
+  left = (without_unneeded_symbols held s).packages
 
   -- ---- a test that agrees with what is needed on the symbols that are there
 
@@ -55,7 +55,7 @@ module _ (held : List Symbol) (s : WorldState) where
     packages_same : packages_with t (kept_names keeps t) ≡ packages_object left
     packages_same = λ i. list_of (map (λ p. package_same p i) (filter (λ p. not (bytes_eq p common_lisp)) (sym (packages_kept (is_kept held s) t) i)))
 
-    pub kept_text : IsSoundWorldState s → kept_snapshot keeps s ≡ snapshot (forgotten held s)
+    pub kept_text : IsSoundWorldState s → kept_snapshot keeps s ≡ snapshot (without_unneeded_symbols held s)
     kept_text sound =
         let here = sound.packages in
         let there = (forgotten_sound held s sound).packages in

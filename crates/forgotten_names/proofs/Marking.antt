@@ -11,7 +11,7 @@ use Rattle.std.proofs.lemmas.List.{map_more, take_more}
 use Rattle.std.proofs.lemmas.List.Concat.{flat_map-append}
 use Rattle.std.proofs.lemmas.List.Folds.{list_any-append}
 use Rattle.package_table.specs.Numbers.{Numbered, number_of}
-use Rattle.package_table.specs.Numbering.{IsNumbered}
+use Rattle.package_table.specs.Numbering.{AreSymbolsNumbered}
 use Rattle.package_table.proofs.Names.{same_some, none_some}
 use Rattle.package_table.proofs.Numbered.{number_some, number_apart}
 use Rattle.plist_state.specs.Properties.{Symbol, same_symbol}
@@ -46,7 +46,7 @@ only x y is =
       | inr wrong ↦ absurd (false≢true wrong)
     ]
 
-module _ (s : Numbered) (count : ℕ) (numbered : IsNumbered s count) (y : Symbol) where
+module _ (s : Numbered) (count : ℕ) (numbered : AreSymbolsNumbered s count) (y : Symbol) where
   pub marked_absent : (a : List Bool) → number_of s y.0 y.1 ≡ None → AddsMarks s a a (y ∷ [])
   marked_absent a none = record {
     marked = λ x there.

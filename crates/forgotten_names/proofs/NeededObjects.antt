@@ -29,7 +29,7 @@ use Rattle.plist_state.proofs.Soundness.{symbol_is, symbol_from}
 use Rattle.snapshot_text.proofs.PartFinds.{present_entry}
 use Rattle.world_text.specs.Snapshot.{symbol_object, plist_object, properties_object}
 use Rattle.forgotten_names.specs.NeededSymbols.{stands_among, plist_symbols, is_needed}
-use Rattle.forgotten_names.specs.WorldsWithoutNames.{is_kept, forgotten}
+use Rattle.forgotten_names.specs.WorldsWithoutNames.{is_kept, without_unneeded_symbols}
 use Rattle.forgotten_names.proofs.Members.{among_itself, among_left, among_later, among_right}
 use Rattle.forgotten_names.proofs.NeededSymbols.{needed_external, in_list, needed_owner}
 use Rattle.forgotten_names.proofs.KeptSound.{first_external}
@@ -72,7 +72,7 @@ module _ (f g : Name → Name → List ℕ) (P : Name → Name → Type 0) (same
 
 module _ (held : List Symbol) (s : WorldState) where
   abbrev left : Table
-  left = (forgotten held s).packages
+  left = (without_unneeded_symbols held s).packages
 
   abbrev Needs : Name → Name → Type 0
   Needs h n = is_needed held s (h, n) ≡ true

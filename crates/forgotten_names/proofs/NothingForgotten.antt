@@ -12,7 +12,7 @@ use Rattle.plist_state.specs.State.{WorldState}
 use Rattle.plist_state.proofs.AllSymbols.{symbol_among}
 use Rattle.plist_state.proofs.Orders.{one_symbol}
 use Rattle.forgotten_names.specs.NeededSymbols.{is_needed}
-use Rattle.forgotten_names.specs.WorldsWithoutNames.{is_kept, forgotten, forgettable}
+use Rattle.forgotten_names.specs.WorldsWithoutNames.{is_kept, without_unneeded_symbols, forgettable}
 use Rattle.forgotten_names.proofs.KeptPackages.{all_kept}
 use Rattle.forgotten_names.proofs.NeededSymbols.{kept_needed}
 
@@ -43,5 +43,5 @@ module _ (held : List Symbol) (s : WorldState) (none : forgettable held s ≡ []
         | false ↦ λ other. or_left (not (is_symbol s.packages p n)) (is_needed held s (p, n)) (ap not other)
       ] refl
 
-  pub nothing_forgotten : forgotten held s ≡ s
+  pub nothing_forgotten : without_unneeded_symbols held s ≡ s
   nothing_forgotten = λ i. record s { packages = all_kept (is_kept held s) s.packages each_kept i }

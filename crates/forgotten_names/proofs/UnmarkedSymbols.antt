@@ -26,7 +26,7 @@ use Rattle.plist_state.specs.State.{WorldState}
 use Rattle.plist_state.proofs.Soundness.{symbol_is}
 use Rattle.world_text.proofs.Ascii.{from_truth}
 use Rattle.forgotten_names.specs.WorldsWithoutNames.{forgettable}
-use Rattle.forgotten_names.specs.Marks.{AreMarked, is_marked}
+use Rattle.forgotten_names.specs.Marks.{AreMarksOfNeeded, is_marked}
 use Rattle.forgotten_names.specs.NeededSymbols.{stands_among, property_symbols, is_imported, is_needed}
 use Rattle.forgotten_names.proofs.Filtered.{filter_alike}
 use Rattle.forgotten_names.proofs.Imports.{among_imports}
@@ -111,7 +111,7 @@ same_truth false false false true = refl
 same_truth false false false false = refl
 
 module _ (held : List Symbol) (s : WorldState) (n : Numbered) (marks : List Bool) where
-  needed_is : AreMarked held s n marks → (x : Symbol) → IsThere n.0 x → (is_external n.0 x.0 x.1 || is_marked n marks x) ≡ is_needed held (record s { packages = n.0 }) x
+  needed_is : AreMarksOfNeeded held s n marks → (x : Symbol) → IsThere n.0 x → (is_external n.0 x.0 x.1 || is_marked n marks x) ≡ is_needed held (record s { packages = n.0 }) x
   unfolding is_needed
   needed_is marked x there =
       ap (λ m. is_external n.0 x.0 x.1 || m) (marked.marked x (symbol_is n.0 x.0 x.1 there))
@@ -119,7 +119,7 @@ module _ (held : List Symbol) (s : WorldState) (n : Numbered) (marks : List Bool
       ∙ same_truth (is_external n.0 x.0 x.1) (is_imported n.0 x) (stands_among x (property_symbols s.properties)) (stands_among x held)
       ∙ ap (λ m. is_external n.0 x.0 x.1 || (is_imported n.0 x || m)) (sym (list_any-append (same_symbol x) held (property_symbols s.properties)))
 
-  pub unneeded_same : n.0 ≡ s.packages → AreMarked held s n marks → filter (λ x. not (is_external n.0 x.0 x.1 || is_marked n marks x)) (symbols n.0) ≡ forgettable held s
+  pub unneeded_same : n.0 ≡ s.packages → AreMarksOfNeeded held s n marks → filter (λ x. not (is_external n.0 x.0 x.1 || is_marked n marks x)) (symbols n.0) ≡ forgettable held s
   unneeded_same same marked =
       filter_alike (λ x. not (is_external n.0 x.0 x.1 || is_marked n marks x)) (λ x. not (is_needed held (record s { packages = n.0 }) x)) (symbols n.0)
       (All-weaker (IsThere n.0) (λ x. not (is_external n.0 x.0 x.1 || is_marked n marks x) ≡ not (is_needed held (record s { packages = n.0 }) x))
@@ -127,6 +127,6 @@ module _ (held : List Symbol) (s : WorldState) (n : Numbered) (marks : List Bool
       ∙ (λ i. forgettable held (record s { packages = same i }))
 
   -- the same of the state that these are the packages of
-  pub same_needed : n.0 ≡ s.packages → AreMarked held s n marks → (x : Symbol) → IsThere s.packages x → (is_external n.0 x.0 x.1 || is_marked n marks x) ≡ is_needed held s x
+  pub same_needed : n.0 ≡ s.packages → AreMarksOfNeeded held s n marks → (x : Symbol) → IsThere s.packages x → (is_external n.0 x.0 x.1 || is_marked n marks x) ≡ is_needed held s x
   same_needed same marked x there =
       needed_is marked x (subst (λ (t : Table). IsThere t x) (sym same) there) ∙ (λ i. is_needed held (record s { packages = same i }) x)

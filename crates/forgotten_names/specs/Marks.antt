@@ -18,7 +18,7 @@ pub record AddsMarks (s : Numbered) (old new : List Bool) (xs : List Symbol) : T
   pub marked : (x : Symbol) → IsSymbol s.0 x → is_marked s new x ≡ (stands_among x xs || is_marked s old x)
 
 -- these are marked, and no others: what packages import, what stands in the property lists, and what is held
-pub record AreMarked (held : List Symbol) (s : WorldState) (n : Numbered) (marks : List Bool) : Type 0 where
+pub record AreMarksOfNeeded (held : List Symbol) (s : WorldState) (n : Numbered) (marks : List Bool) : Type 0 where
   pub marked : (x : Symbol) → IsSymbol n.0 x
       → is_marked n marks x ≡ (stands_among x (flat_map (λ p. map (λ r. (r.1, r.0)) (imports n.0 p)) (package_names n.0))
       || (stands_among x (property_symbols s.properties) || (stands_among x held || false)))

@@ -22,8 +22,8 @@ module _ (held : List Symbol) where
   is_kept s p n = not (is_symbol s.packages p n) || is_needed held s (p, n)
 
   -- the world without the symbols that it does not need
-  abbrev pub forgotten : WorldState → WorldState
-  forgotten s = record s { packages = kept_packages (is_kept s) s.packages }
+  abbrev pub without_unneeded_symbols : WorldState → WorldState
+  without_unneeded_symbols s = record s { packages = kept_packages (is_kept s) s.packages }
 
   -- these symbols, in the order of their homes and then of their names
   abbrev pub forgettable : WorldState → List Symbol

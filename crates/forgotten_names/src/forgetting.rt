@@ -4,7 +4,7 @@ ghost use Rattle.package_table.specs.Lookup.{is_external};
 ghost use Rattle.package_table.specs.Numbers.{table_now};
 ghost use Rattle.plist_state.specs.Readers.{borrowed_symbols};
 ghost use Rattle.world_text.specs.Snapshot.{snapshot};
-ghost use Rattle.forgotten_names.specs.WorldsWithoutNames.{forgotten};
+ghost use Rattle.forgotten_names.specs.WorldsWithoutNames.{without_unneeded_symbols};
 ghost use Rattle.forgotten_names.specs.Marks.{is_marked};
 
 use crate::unneeded::{is_needed, needed_marks};
@@ -37,7 +37,7 @@ impl NameTest for NeededNames<'_> {
 // The text of the world without the symbols that it does not need.
 fn kept_text(alloc: Global, world: &World, held: &[(&[u8], &[u8])]) -> Result<Vec<u8>, AllocError>
     ensures { IfOk result (λ text. text.items
-        ≡ snapshot (forgotten (borrowed_symbols held.now) world.now.0)) }
+        ≡ snapshot (without_unneeded_symbols (borrowed_symbols held.now) world.now.0)) }
 {
     world.soundness();
     let packages = world.packages();
@@ -64,7 +64,7 @@ pub fn forget<R: MacroFunctions>(
 ) -> Result<World, AllocError>
     requires { R.answers macros.now }
     ensures { IfOk result (λ new. new
-        ≡ (forgotten (borrowed_symbols held.now) world.now.0, [])) }
+        ≡ (without_unneeded_symbols (borrowed_symbols held.now) world.now.0, [])) }
 {
     world.soundness();
     let text = kept_text(alloc, world, held)?;

@@ -11,7 +11,7 @@ ghost use Rattle.plist_state.specs.Lists.{symbols};
 ghost use Rattle.plist_state.specs.Readers.{borrowed_symbol, borrowed_symbols};
 ghost use Rattle.plist_state.specs.Views.{property_of};
 ghost use Rattle.forgotten_names.specs.WorldsWithoutNames.{forgettable};
-ghost use Rattle.forgotten_names.specs.Marks.{AddsMarks, AreMarked, is_marked};
+ghost use Rattle.forgotten_names.specs.Marks.{AddsMarks, AreMarksOfNeeded, is_marked};
 ghost use Rattle.forgotten_names.specs.NeededSymbols.{plist_symbols};
 
 use crate::marks::{is_marked, mark, mark_all, mark_datum};
@@ -174,7 +174,7 @@ pub(crate) fn needed_marks(
     world: &World,
     held: &[(&[u8], &[u8])],
 ) -> Result<Vec<bool>, AllocError>
-    ensures { IfOk result (λ marks. AreMarked (borrowed_symbols held.now) world.now.0
+    ensures { IfOk result (λ marks. AreMarksOfNeeded (borrowed_symbols held.now) world.now.0
         (table_now packages.now) marks.items) }
 {
     let mut marks = Vec::new(alloc);

@@ -7,14 +7,14 @@ use Rattle.lisp_object.specs.Datum.{object_of}
 use Rattle.lisp_object.specs.Object.{Object}
 use Rattle.lisp_reading.specs.declared.limits.Limits.{Limits}
 use Rattle.lisp_reading.specs.Setting.{Setting}
-use Rattle.lisp_reading.specs.Reading.{Outcome, form, refused, reads}
+use Rattle.lisp_reading.specs.Reading.{ReadingResult, form, refused, reads}
 use Rattle.lisp_reading.specs.Deciding.{decided_from}
 use Rattle.form_reader.specs.declared.reader.FormReader.{FormReader}
 use Rattle.form_reader.specs.declared.reader.Advance.{Advance}
 use Rattle.form_reader.specs.declared.reader.Advance.TheVariants.{More as AdvanceMore, Form as AdvanceForm, Refused as AdvanceRefused}
 use Rattle.form_reader.specs.declared.reader.ReadOutcome.{ReadOutcome}
 use Rattle.form_reader.specs.declared.reader.ReadOutcome.TheVariants as outcomes
-use Rattle.form_reader.specs.Reader.{begun, FeedsReader, HasBegun, IsAfterBytes, IsOutcome, RefusesFrom, Steps, StepsBegun}
+use Rattle.form_reader.specs.Reader.{begun, FeedsReader, HasBegunAfter, IsAfterBytes, IsOutcome, RefusesFrom, Steps, StepsBegun}
 use Rattle.form_check.specs.Checking.{IsBeginning, ending}
 use Rattle.form_check.specs.declared.begin.Beginning.TheVariants as begins
 
@@ -55,11 +55,11 @@ whole_fed setting new text count step feeds is all =
     subst (IsAfterBytes setting new) same steps.0
 
 pub whole_begun : (setting : Setting) (new : FormReader) (text : List ℕ) (count : ℕ) (step : Advance) → StepsBegun setting new (take count text) step
-    → step ≡ AdvanceMore → count ≡ length text → HasBegun setting new text
+    → step ≡ AdvanceMore → count ≡ length text → HasBegunAfter setting new text
 whole_begun setting new text count step has is all =
     let began : StepsBegun setting new (take count text) AdvanceMore = subst (StepsBegun setting new (take count text)) is has in
     let same : take count text ≡ text = ap (λ n. take n text) all ∙ take-length text in
-    subst (HasBegun setting new) same began
+    subst (HasBegunAfter setting new) same began
 
 -- at the end of the text
 pub ends : (setting : Setting) (text : List ℕ) (outcome : ReadOutcome) (start : ℕ) → IsOutcome outcome (reads setting text) → RefusesFrom setting text start outcome
@@ -69,7 +69,7 @@ ends setting text (outcomes.Form datum first «end» next) start is from far for
     (object_of datum, first, «end», is.0, forms setting text (object_of datum) first «end» next is.0)
 ends setting text (outcomes.Refused number at) start is from far forms refusals = (is, from, far, refusals setting text number at is)
 
-pub began_within : (setting : Setting) (reader : FormReader) (text : List ℕ) (start : ℕ) → start ≡ begun reader → HasBegun setting reader text → start ≤ length text
+pub began_within : (setting : Setting) (reader : FormReader) (text : List ℕ) (start : ℕ) → start ≡ begun reader → HasBegunAfter setting reader text → start ≤ length text
 began_within setting reader text start same has = subst (λ (n : ℕ). n ≤ length text) (sym same) has.begins.within
 
 pub refused_from : (setting : Setting) (text : List ℕ) (outcome : ReadOutcome) (first start : ℕ) → start ≡ first → RefusesFrom setting text first outcome

@@ -3,7 +3,7 @@ use Rattle.std.proofs.Common.{◌≡◌, ℕ, zero, suc, ◌+◌, ◌-◌, ◌�
 use Rattle.std.proofs.lemmas.List.{append-nil, take_all}
 use Rattle.lisp_object.specs.Object.{Object}
 use Rattle.lisp_reading.specs.Setting.{Setting}
-use Rattle.lisp_reading.specs.Reading.{Outcome, form, empty, refused, reads}
+use Rattle.lisp_reading.specs.Reading.{ReadingResult, form, empty, refused, reads}
 use Rattle.lisp_reading.specs.Deciding.{decided_from}
 use Rattle.form_check.specs.Checking.{Checking, after_line, checked_in, found_after, with_one}
 use Rattle.form_check.specs.declared.checking.Unreadable.{Unreadable}
@@ -41,7 +41,7 @@ module _ (setting : Setting) (forms whole : ℕ) (text : List ℕ) (before : Lis
   abbrev next : List ℕ → Checking
   next rest = checked_in setting (left whole (forms + 1)) (forms + 1) whole rest
 
-  by_outcome : (o : Outcome) → reads setting text ≡ o
+  by_outcome : (o : ReadingResult) → reads setting text ≡ o
       → after_found before (found_after next forms (whole - length text) (decided_from setting text) text o) ≡ all
   by_outcome o is =
       sym (ap (λ z. after_found before (found_after next forms (whole - length text) (decided_from setting text) text z)) is)

@@ -6,7 +6,7 @@ use Rattle.user_macros.specs.Functions.{Functions}
 use Rattle.lisp_object.specs.Object.{Object}
 use Rattle.lisp_reading.specs.declared.limits.Limits.{Limits}
 use Rattle.lisp_reading.specs.Setting.{Setting, setting_of}
-use Rattle.lisp_reading.specs.Reading.{Outcome, form, empty, refused, reads}
+use Rattle.lisp_reading.specs.Reading.{ReadingResult, form, empty, refused, reads}
 use Rattle.lisp_reading.specs.Deciding.{decided_from}
 use Rattle.form_reader.specs.declared.reader.ReadOutcome.{ReadOutcome}
 use Rattle.form_reader.specs.declared.reader.ReadOutcome.TheVariants as outcomes
@@ -35,7 +35,7 @@ with_one one others = (others.0, one ∷ others.1)
 
 -- What is found in a text that begins so, where so many forms and so many bytes come before it. After a form comes what follows it; after a
 -- refusal what comes after the line in which it is.
-abbrev pub found_after : (more : List ℕ → Checking) → (forms offset start : ℕ) → List ℕ → Outcome → Checking
+abbrev pub found_after : (more : List ℕ → Checking) → (forms offset start : ℕ) → List ℕ → ReadingResult → Checking
 found_after more forms offset start text empty = (forms, [])
 found_after more forms offset start text (form x from «end» next) = more (drop next text)
 found_after more forms offset start text (refused number at) =

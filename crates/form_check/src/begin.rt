@@ -3,7 +3,7 @@ ghost use Rattle.std.specs.Prelude.{◌≡◌, ◌≤◌, ◌^◌, ℕ, List, If
 ghost use Rattle.package_table.specs.Table.{IsPackage};
 ghost use Rattle.lisp_reading.specs.Setting.{setting_of};
 ghost use Rattle.form_check.specs.Checking.{IsBeginning, ending, setting_under};
-ghost use Rattle.form_reader.specs.Reader.{IsAfterBytes, HasBegun, fed, limits_of};
+ghost use Rattle.form_reader.specs.Reader.{IsAfterBytes, HasBegunAfter, fed, limits_of};
 
 use form_reader::{
     Advance, FormReader, Limits, ReadOutcome, forms_are_framed, refusals_are_decided,
@@ -90,7 +90,7 @@ fn finished<M: MacroFunctions>(
     requires count { fed reader ≤ 2 ^ 63 }
     ensures { let setting = setting_of (limits_of reader) under.now.readtable.now under.now.base
         under.now.packages.now.0 under.now.current.now (M.functions macros.now) in
-        (text : List ℕ) → IsAfterBytes setting reader text → HasBegun setting reader text
+        (text : List ℕ) → IsAfterBytes setting reader text → HasBegunAfter setting reader text
         → IfOk result (IsBeginning setting text) }
 {
     forms_are_framed();

@@ -23,7 +23,7 @@ use Rattle.package_table.proofs.KeptChanges.{kept_intern}
 use Rattle.plist_state.specs.Properties.{Symbol}
 use Rattle.plist_state.specs.State.{WorldState}
 use Rattle.plist_state.specs.Changes.{with_packages}
-use Rattle.plist_state.specs.Sound.{IsSymbol, IsKnown, IsValue, IsSoundWorldState}
+use Rattle.plist_state.specs.Sound.{IsSymbol, IsSymbolStorable, IsValue, IsSoundWorldState}
 use Rattle.plist_state.proofs.Soundness.{sound_packages}
 use Rattle.lisp_operators.specs.Evaluation.{Done}
 use Rattle.lisp_operators.specs.Packages.{one_by_one, then_others}
@@ -138,7 +138,7 @@ both_parts P (x ∷ xs) ys all =
     let later = both_parts P xs ys (All-tail P x (xs ++ ys) all) in
     (All-cons P x xs (All-head P x (xs ++ ys) all) later.0, later.1)
 
-pub known_from : (u v : Table) (x : Object) → AllAtoms (FitsTable u) x → All (IsSymbol v) (symbols x) → AllAtoms (IsKnown v) x
+pub known_from : (u v : Table) (x : Object) → AllAtoms (FitsTable u) x → All (IsSymbol v) (symbols x) → AllAtoms (IsSymbolStorable v) x
 known_from u v (symbol home name) fits all = All-head (IsSymbol v) (home, name) [] all
 known_from u v (pair a b) fits all =
     let both = both_parts (IsSymbol v) (symbols a) (symbols b) all in

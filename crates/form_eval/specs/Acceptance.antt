@@ -71,5 +71,5 @@ abbrev pub question_value : List Name → WorldState → Object → Evaluation O
 question_value names s x = asked_with names s (with_symbols s.packages (symbols x)) x
 
 -- a form as a question is answered what the definition says, from the first of two states to the second
-abbrev pub IsAsked : List Name → Object → WorldState → WorldState → Result Evaluated EvaluationError → Type 0
-IsAsked names x old new result = Answers done result new (question_value names old x)
+abbrev pub AnswersQuestion : List Name → Object → WorldState → WorldState → Result Evaluated EvaluationError → Type 0
+AnswersQuestion names x old new result = Answers done result new (question_value names old x)

@@ -1,7 +1,7 @@
 //! A form as a question: it is evaluated as a transaction is, and tells whether its evaluation wrote.
 ghost use Rattle.std.specs.Prelude.{◌≡◌, ◌∷◌, ◌++◌, [], IfOk, IfErr};
 ghost use Rattle.lisp_object.specs.Datum.{object_of};
-ghost use Rattle.form_eval.specs.Acceptance.{IsAsked};
+ghost use Rattle.form_eval.specs.Acceptance.{AnswersQuestion};
 ghost use Rattle.form_eval.specs.Laws.{MayEvaluate};
 ghost use Rattle.lisp_operators.specs.EvaluationAnswers.{IsArgument};
 ghost use Rattle.lisp_operators.specs.Readtables.{AreFunctionNames};
@@ -27,7 +27,7 @@ pub fn question<M: Meaning>(
     form: &ReadForm,
 ) -> Result<Evaluated, EvaluationError>
     requires form { MayEvaluate world.old.0.packages form.now }
-    ensures gives { IsAsked M.functions.names (object_of form.now.datum)
+    ensures gives { AnswersQuestion M.functions.names (object_of form.now.datum)
         world.old.0 world.new.0 result }
     ensures value { IfOk result (λ e. IsArgument world.new.0.packages e.value) }
     ensures marked { IfOk result (λ _. world.new.1 ≡ world.old.1 ++ world.old.0 ∷ []) }
@@ -47,7 +47,7 @@ fn ask(
 ) -> Result<Evaluated, EvaluationError>
     requires names { AreFunctionNames names.now }
     requires form { MayEvaluate world.old.0.packages form.now }
-    ensures gives { IsAsked names.now (object_of form.now.datum) world.old.0 world.new.0 result }
+    ensures gives { AnswersQuestion names.now (object_of form.now.datum) world.old.0 world.new.0 result }
     ensures value { IfOk result (λ e. IsArgument world.new.0.packages e.value) }
     ensures marked { IfOk result (λ _. world.new.1 ≡ world.old.1 ++ world.old.0 ∷ []) }
     ensures unchanged { IfErr result (λ _. world.new ≡ world.old) }

@@ -11,7 +11,7 @@ use Rattle.lisp_reading.specs.Plans.{Read, fault, run}
 use Rattle.lisp_reading.specs.Deciding.{decided_from}
 use Rattle.lisp_reading.proofs.Deciding.{decided_is}
 use Rattle.lisp_reading.specs.Setting.{Setting}
-use Rattle.lisp_reading.specs.Reading.{Outcome, form, empty, refused, attempt, is_whitespace, outcome, reads_in, reads_at, reads, space_at}
+use Rattle.lisp_reading.specs.Reading.{ReadingResult, form, empty, refused, attempt, is_whitespace, outcome, reads_in, reads_at, reads, space_at}
 use Rattle.lisp_reading.proofs.Forms.{reads_is, the_end_there}
 use Rattle.form_reader.specs.declared.stack.Frame.{Frame}
 use Rattle.form_reader.specs.declared.reader.FormReader.{FormReader}
@@ -29,13 +29,13 @@ use Rattle.form_reader.specs.State.{state_gives}
 use Rattle.form_reader.specs.EndOfText.{RefusesIn}
 use Rattle.form_reader.specs.declared.reader.ReadOutcome.{ReadOutcome}
 use Rattle.form_reader.specs.declared.reader.ReadOutcome.TheVariants.{Form as ReadForm, Empty as ReadEmpty, Refused as ReadRefused}
-use Rattle.form_reader.specs.Reader.{fed, begun, further, BeginsAt, HasBegun, StepsBegun, IsDecidedFrom, RefusesFrom, IsNew, IsBetween, IsAfterBytes, IsAfterIn, Steps, Becomes}
+use Rattle.form_reader.specs.Reader.{fed, begun, further, BeginsAt, HasBegunAfter, StepsBegun, IsDecidedFrom, RefusesFrom, IsNewReader, IsBetweenForms, IsAfterBytes, IsAfterIn, Steps, Becomes}
 use Rattle.form_reader.proofs.Readers.{anew_between, between_reads, between_empty}
 use Rattle.form_reader.proofs.EndOfText.{ended_there}
 
 -- ---- offsets
 
-further_twice : (a b : ℕ) (o : Outcome) → further a (further b o) ≡ further (a + b) o
+further_twice : (a b : ℕ) (o : ReadingResult) → further a (further b o) ≡ further (a + b) o
 further_twice a b (form x start «end» next) =
     let sum : (n : ℕ) → a + (b + n) ≡ a + b + n = λ n. omega arith in
     λ i. form x (sum start i) (sum «end» i) (sum next i)
@@ -43,7 +43,7 @@ further_twice a b empty = refl
 further_twice a b (refused number offset) = let sum : a + (b + offset) ≡ a + b + offset = omega arith in ap (refused number) sum
 
 module _ (setting : Setting) where
-  turn_further : (again : ℕ → List ℕ → Outcome) (start : ℕ) (r : Read Found) → ((at : ℕ) (cs : List ℕ) → again (start + at) cs ≡ further start (again (0 + at) cs))
+  turn_further : (again : ℕ → List ℕ → ReadingResult) (start : ℕ) (r : Read Found) → ((at : ℕ) (cs : List ℕ) → again (start + at) cs ≡ further start (again (0 + at) cs))
       → outcome setting.table start again r ≡ further start (outcome setting.table 0 again r)
   turn_further again start (Ok (nothing token, at, cs)) all = all at cs
   turn_further again start (Ok (one token x, at, cs)) all =
@@ -133,7 +133,7 @@ refused_begins setting bytes from number offset begins is = (some (drop from byt
         ap (λ (t : List ℕ). further from (reads setting t)) (sym (append-nil (drop from bytes))) ∙ sym (begins.alone [])
         ∙ ap (reads setting) (append-nil bytes) ∙ is
 
-    back : (o : Outcome) → further from o ≡ refused number offset → (from ≤ offset) × (o ≡ refused number (offset - from))
+    back : (o : ReadingResult) → further from o ≡ refused number offset → (from ≤ offset) × (o ≡ refused number (offset - from))
     back (form x start «end» next) e = cc
     back empty e = cc
     back (refused code at) e =
@@ -155,9 +155,9 @@ refused_begins setting bytes from number offset begins is = (some (drop from byt
 
 -- ---- a reader
 
-pub between_begun : (setting : Setting) (reader : FormReader) (bytes : List ℕ) → IsAfterBytes setting reader bytes → IsBetween reader
+pub between_begun : (setting : Setting) (reader : FormReader) (bytes : List ℕ) → IsAfterBytes setting reader bytes → IsBetweenForms reader
     → ((cs : List ℕ) → decided_from setting (bytes ++ cs) ≡ start_of setting reader.start (state_gives setting reader.stack AtObject reader.at cs))
-    → HasBegun setting reader bytes
+    → HasBegunAfter setting reader bytes
 between_begun setting reader bytes after between decides =
     let here : IsAfterIn setting reader (Open AtObject) bytes = subst (λ (s : ReaderState). IsAfterIn setting reader s bytes) between.state after in
     let from : begun reader ≡ length bytes = omega (arith, here.0, between.at) in
@@ -176,7 +176,7 @@ first_decides : (setting : Setting) (cs : List ℕ) → decided_from setting cs 
 unfolding decided_from
 first_decides setting cs = decided_is setting 0 cs
 
-pub new_begun : (setting : Setting) (reader : FormReader) → IsNew reader → IsAfterBytes setting reader [] → HasBegun setting reader []
+pub new_begun : (setting : Setting) (reader : FormReader) → IsNewReader reader → IsAfterBytes setting reader [] → HasBegunAfter setting reader []
 new_begun setting reader new after =
     between_begun setting reader [] after (record { at = new.at; stack = new.stack; state = new.state })
     (λ cs. first_decides setting cs ∙ (λ i. start_of setting (sym new.start i) (state_gives setting (sym new.stack i) AtObject (sym new.at i) cs)))
@@ -188,14 +188,14 @@ space_there setting c e some = ap (λ (b : Bool). b && is_whitespace setting.tab
 other_byte : (setting : Setting) (c : ℕ) → is_space setting c ≡ false → 0 < setting.limits.text → is_whitespace setting.table c ≡ false
 other_byte setting c is some = ap (λ (b : Bool). b && is_whitespace setting.table c) (sym (lt-ltb 0 setting.limits.text some)) ∙ is
 
-module _ (setting : Setting) (old : FormReader) (state : State) (bytes : List ℕ) (byte : ℕ) (after : IsAfterIn setting old (Open state) bytes) (has : HasBegun setting old bytes)
+module _ (setting : Setting) (old : FormReader) (state : State) (bytes : List ℕ) (byte : ℕ) (after : IsAfterIn setting old (Open state) bytes) (has : HasBegunAfter setting old bytes)
     (is_open : old.state ≡ Open state) where
   -- the byte, where it is the first of what is open
   abbrev IsOther : Type 0
-  IsOther = IsBetween old → 0 < setting.limits.text → is_whitespace setting.table byte ≡ false
+  IsOther = IsBetweenForms old → 0 < setting.limits.text → is_whitespace setting.table byte ≡ false
 
   -- it is that, where it is not passed over
-  other_than : (change : Change) → (IsBetween old → is_space setting byte ≡ true → change ≡ Goes (old.start + 1) 0 AtObject) → (change ≡ Goes (old.start + 1) 0 AtObject → ⊥) → IsOther
+  other_than : (change : Change) → (IsBetweenForms old → is_space setting byte ≡ true → change ≡ Goes (old.start + 1) 0 AtObject) → (change ≡ Goes (old.start + 1) 0 AtObject → ⊥) → IsOther
   other_than change passes never between some = by (is_whitespace setting.table byte) refl
     where
       by : (b : Bool) → is_whitespace setting.table byte ≡ b → is_whitespace setting.table byte ≡ false
@@ -227,7 +227,7 @@ module _ (setting : Setting) (old : FormReader) (state : State) (bytes : List �
   decides_on cs = ap (decided_from setting) (append_assoc bytes (byte ∷ []) cs) ∙ has.decides state is_open (byte ∷ cs)
 
   pub stepped_begun : (mid new : FormReader) (stack : List Frame) (change : Change) (step : Advance)
-      → (IsBetween old → is_space setting byte ≡ true → change ≡ Goes (old.start + 1) 0 AtObject)
+      → (IsBetweenForms old → is_space setting byte ≡ true → change ≡ Goes (old.start + 1) 0 AtObject)
       → ((cs : List ℕ) → ChangesTo setting stack cs change (verdict_of setting old.start (state_gives setting old.stack state old.at (byte ∷ cs))))
       → Starts setting old.stack state old.start old.at byte change → BeginsAnew stack change → Becomes change mid new step → mid.stack ≡ stack
       → Steps setting new (bytes ++ byte ∷ []) step → StepsBegun setting new (bytes ++ byte ∷ []) step
@@ -237,7 +237,7 @@ module _ (setting : Setting) (old : FormReader) (state : State) (bytes : List �
       told : Steps setting new (bytes ++ byte ∷ []) AdvanceMore
       told = subst (λ (s : Advance). Steps setting new (bytes ++ byte ∷ []) s) takes.0 steps
 
-      between : begun new ≡ fed new → IsBetween new
+      between : begun new ≡ fed new → IsBetweenForms new
       between = anew_between mid new stack (Goes start at there) step anew takes same takes.0
 
       decides : (state : State) → new.state ≡ Open state
@@ -247,17 +247,17 @@ module _ (setting : Setting) (old : FormReader) (state : State) (bytes : List �
           decides_on cs ∙ (λ i. (turns cs i).1)
           ∙ (λ i. start_of setting (sym takes.1 i) (state_gives setting ((sym same ∙ sym takes.3) i) (found i) (sym takes.2 i) cs))
 
-      has_begun : BeginsAt setting (bytes ++ byte ∷ []) start → HasBegun setting new (bytes ++ byte ∷ [])
+      has_begun : BeginsAt setting (bytes ++ byte ∷ []) start → HasBegunAfter setting new (bytes ++ byte ∷ [])
       has_begun begins =
           record { goes_on = (there, takes.4); begins = subst (BeginsAt setting (bytes ++ byte ∷ [])) (sym takes.1) begins; between = between; decides = decides }
 
       later : IsOther → 0 < at → (start ≡ old.start) ⊎ ((at ≡ 0) ⊎ ((start ≡ old.start + old.at) × AttemptEndsBefore setting old.stack state old.at byte))
-          → HasBegun setting new (bytes ++ byte ∷ [])
+          → HasBegunAfter setting new (bytes ++ byte ∷ [])
       later other some (inl stays) = has_begun (subst (BeginsAt setting (bytes ++ byte ∷ [])) (sym stays) (stays_begun other))
       later other some (inr (inl none)) = absurd (omega (arith, some, none))
       later other some (inr (inr here)) = has_begun (subst (BeginsAt setting (bytes ++ byte ∷ [])) (sym here.0) (ended_begins here.1))
 
-      by : (n : ℕ) → at ≡ n → HasBegun setting new (bytes ++ byte ∷ [])
+      by : (n : ℕ) → at ≡ n → HasBegunAfter setting new (bytes ++ byte ∷ [])
       by zero none =
           let anew = between (omega (arith, takes.2, none)) in
           between_begun setting new (bytes ++ byte ∷ []) told.0 anew (decides AtObject anew.state)
@@ -280,7 +280,7 @@ module _ (setting : Setting) (old : FormReader) (state : State) (bytes : List �
 
 -- ---- the end of the text
 
-pub refuses_from : (setting : Setting) (reader : FormReader) (state : State) (bytes : List ℕ) (result : Result ReadOutcome AllocError) → reader.state ≡ Open state → HasBegun setting reader bytes
+pub refuses_from : (setting : Setting) (reader : FormReader) (state : State) (bytes : List ℕ) (result : Result ReadOutcome AllocError) → reader.state ≡ Open state → HasBegunAfter setting reader bytes
     → IfOk result (RefusesIn setting reader.start (state_gives setting reader.stack state reader.at [])) → IfOk result (RefusesFrom setting bytes (begun reader))
 refuses_from setting reader state bytes (Ok (ReadRefused number offset)) is has h = ap (decided_from setting) (sym (append-nil bytes)) ∙ has.decides state is [] ∙ h
 refuses_from setting reader state bytes (Ok ReadEmpty) is has h = tt

@@ -26,7 +26,7 @@ use Rattle.lisp_reading.specs.Setting.{Setting}
 use Rattle.form_reader.specs.Token.{is_going, token_read, refused_number}
 use Rattle.form_reader.specs.Stack.{close_of, close_of_stack, next_item_in, call_in, outer_plan, between_objects, token_goes_on}
 use Rattle.lisp_reading.specs.Gathering.{text_turn, kept_characters, line_turn, block_turn}
-use Rattle.lisp_reading.specs.Reading.{Piece, Outcome, form, empty, refused, piece_of, closed, or_closed, next_item_turn, next_item, stands_alone, alone, inner, attempt, reads, number_after, sub_there, dispatch_plan}
+use Rattle.lisp_reading.specs.Reading.{Piece, ReadingResult, form, empty, refused, piece_of, closed, or_closed, next_item_turn, next_item, stands_alone, alone, inner, attempt, reads, number_after, sub_there, dispatch_plan}
 use Rattle.form_reader.specs.State.{IsStateAt, inner_at, state_gives}
 use Rattle.form_reader.specs.Reader.{MayGoOn, DecideNothing}
 use Rattle.form_reader.specs.Step.{outcome_of, rest_of_attempt}
@@ -201,7 +201,7 @@ state_fails setting stack (AtNumber character number) at c stands le alien = num
 -- ---- where a reader waits for more
 
 -- what one byte more refuses at the end decided nothing before
-may_go_on_by : (setting : Setting) (bytes : List ℕ) (c code : ℕ) (o : Outcome) → reads setting bytes ≡ o → reads setting (bytes ++ c ∷ []) ≡ refused code (length bytes) → MayGoOn bytes o
+may_go_on_by : (setting : Setting) (bytes : List ℕ) (c code : ℕ) (o : ReadingResult) → reads setting bytes ≡ o → reads setting (bytes ++ c ∷ []) ≡ refused code (length bytes) → MayGoOn bytes o
 may_go_on_by setting bytes c code empty e next = tt
 may_go_on_by setting bytes c code (form x start «end» last) e next =
     let framed = form_framed setting bytes x start «end» last e in
@@ -251,6 +251,6 @@ may_go_on setting stack state start at bytes stands le count rest =
     let next = next_refused setting stack state start at bytes stands le count rest in
     may_go_on_by setting bytes next.0 next.1.0 (reads setting bytes) refl next.1.1
 
-pub undecided : (setting : Setting) (bytes : List ℕ) (o : Outcome) → DecideNothing setting bytes → ((cs : List ℕ) → reads setting (bytes ++ cs) ≡ o) → ⊥
+pub undecided : (setting : Setting) (bytes : List ℕ) (o : ReadingResult) → DecideNothing setting bytes → ((cs : List ℕ) → reads setting (bytes ++ cs) ≡ o) → ⊥
 undecided setting bytes o h all =
     h.1.2 (sym (ap (reads setting) (append-nil bytes)) ∙ all [] ∙ sym (all (h.0 ∷ [])) ∙ h.1.1)

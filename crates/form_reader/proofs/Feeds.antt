@@ -5,7 +5,7 @@ use Rattle.form_reader.specs.declared.reader.FormReader.{FormReader}
 use Rattle.form_reader.specs.declared.reader.Advance.{Advance}
 use Rattle.form_reader.specs.declared.reader.Advance.TheVariants.{More as AdvanceMore, Form as AdvanceForm, Refused as AdvanceRefused}
 use Rattle.lisp_reading.specs.Setting.{Setting}
-use Rattle.form_reader.specs.Reader.{fed, begun, DecideNothing, IsAfterBytes, HasBegun, Steps, StepsBegun, BeginsLater, CountsFedBytes, FeedsReader, AdvancesFed, is_more, IsSoundStep, IsOutcome}
+use Rattle.form_reader.specs.Reader.{fed, begun, DecideNothing, IsAfterBytes, HasBegunAfter, Steps, StepsBegun, BeginsLater, CountsFedBytes, FeedsReader, AdvancesFed, is_more, IsSoundStep, IsOutcome}
 use Rattle.std.proofs.lemmas.List.{take-append-drop}
 use Rattle.std.specs.Prelude.{◌&&◌}
 use Rattle.std.specs.List.{list_all}
@@ -41,8 +41,8 @@ advances_last old middle new k (AdvanceRefused number offset) so le counts begin
 pub none_taken : (setting : Setting) (reader : FormReader) (before bytes : List ℕ) → IsAfterBytes setting reader before → IsAfterBytes setting reader (before ++ take 0 bytes)
 none_taken setting reader before bytes after = subst (λ (t : List ℕ). IsAfterBytes setting reader t) (sym (append-nil before)) after
 
-pub none_begun : (setting : Setting) (reader : FormReader) (before bytes : List ℕ) → HasBegun setting reader before → HasBegun setting reader (before ++ take 0 bytes)
-none_begun setting reader before bytes has = subst (λ (t : List ℕ). HasBegun setting reader t) (sym (append-nil before)) has
+pub none_begun : (setting : Setting) (reader : FormReader) (before bytes : List ℕ) → HasBegunAfter setting reader before → HasBegunAfter setting reader (before ++ take 0 bytes)
+none_begun setting reader before bytes has = subst (λ (t : List ℕ). HasBegunAfter setting reader t) (sym (append-nil before)) has
 
 module _ (setting : Setting) (old middle new : FormReader) (bytes : List ℕ) (k c : ℕ) (step : Advance) (is : take (k + 1) bytes ≡ take k bytes ++ c ∷ [])
     (after : (before : List ℕ) → IsAfterBytes setting old before → IsAfterBytes setting middle (before ++ take k bytes))
@@ -69,12 +69,12 @@ module _ (setting : Setting) (old middle new : FormReader) (bytes : List ℕ) (k
   }
 
   -- where what is open then began
-  module _ (kept : (before : List ℕ) → IsAfterBytes setting old before → HasBegun setting old before → HasBegun setting middle (before ++ take k bytes))
-      (begins : (before : List ℕ) → IsAfterBytes setting middle before → HasBegun setting middle before → StepsBegun setting new (before ++ c ∷ []) step) where
-    pub begun_last : (before : List ℕ) → IsAfterBytes setting old before → HasBegun setting old before → StepsBegun setting new (before ++ take (k + 1) bytes) step
+  module _ (kept : (before : List ℕ) → IsAfterBytes setting old before → HasBegunAfter setting old before → HasBegunAfter setting middle (before ++ take k bytes))
+      (begins : (before : List ℕ) → IsAfterBytes setting middle before → HasBegunAfter setting middle before → StepsBegun setting new (before ++ c ∷ []) step) where
+    pub begun_last : (before : List ℕ) → IsAfterBytes setting old before → HasBegunAfter setting old before → StepsBegun setting new (before ++ take (k + 1) bytes) step
     begun_last before a has = subst (λ (t : List ℕ). StepsBegun setting new t step) (one_more before) (begins (before ++ take k bytes) (after before a) (kept before a has))
 
-    pub begun_on : step ≡ AdvanceMore → (before : List ℕ) → IsAfterBytes setting old before → HasBegun setting old before → HasBegun setting new (before ++ take (k + 1) bytes)
+    pub begun_on : step ≡ AdvanceMore → (before : List ℕ) → IsAfterBytes setting old before → HasBegunAfter setting old before → HasBegunAfter setting new (before ++ take (k + 1) bytes)
     begun_on more before a has = subst (λ (s : Advance). StepsBegun setting new (before ++ take (k + 1) bytes) s) more (begun_last before a has)
 
 -- all are taken, and more decide

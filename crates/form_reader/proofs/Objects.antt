@@ -29,9 +29,9 @@ use Rattle.token_scan.specs.Spelling.{ends_tokens}
 use Rattle.form_reader.specs.declared.state.Moved.{Moved}
 use Rattle.form_reader.specs.declared.state.State.{State}
 use Rattle.form_reader.specs.declared.token.FirstByte.{FirstByte}
-use Rattle.lisp_reading.specs.declared.told.Told.{Told}
-use Rattle.lisp_reading.specs.declared.told.TellError.{TellError}
-use Rattle.lisp_reading.specs.declared.told.TellError.TheVariants.{Refused as TellRefused}
+use Rattle.lisp_reading.specs.declared.told.ResolvedToken.{ResolvedToken}
+use Rattle.lisp_reading.specs.declared.told.ResolutionError.{ResolutionError}
+use Rattle.lisp_reading.specs.declared.told.ResolutionError.TheVariants.{Refused as TellRefused}
 use Rattle.lisp_reading.specs.Naming.{token_meant, told_meaning, TellsMeaning}
 use Rattle.token_meaning.specs.Meanings.{meaning_of}
 use Rattle.token_meaning.specs.Folding.{folded_marks}
@@ -219,10 +219,10 @@ first_told table limits at cs read fed known e h = subst (λ (f : FirstByte). Fi
 -- ---- where it ends
 
 -- the number of its refusal
-pub refused_told : (setting : Setting) (letters : Case) (marks : List Mark) (e : TellError) (code : ℕ) → letters ≡ setting.table.letters → e ≡ TellRefused code
+pub refused_told : (setting : Setting) (letters : Case) (marks : List Mark) (e : ResolutionError) (code : ℕ) → letters ≡ setting.table.letters → e ≡ TellRefused code
     → TellsMeaning (Err e) (told_meaning setting.packages setting.current (meaning_of setting.base (folded_marks letters marks))) → token_meant setting marks ≡ Err code
 refused_told setting letters marks e code same is tells =
-    subst (λ (e : TellError). TellsMeaning (Err e) (token_meant setting marks)) is
+    subst (λ (e : ResolutionError). TellsMeaning (Err e) (token_meant setting marks)) is
     (subst (λ (letters : Case). TellsMeaning (Err e) (told_meaning setting.packages setting.current (meaning_of setting.base (folded_marks letters marks)))) same tells)
 
 module _ (setting : Setting) (stack : List Frame) (at : ℕ) (cs : List ℕ) where
@@ -233,7 +233,7 @@ module _ (setting : Setting) (stack : List Frame) (at : ℕ) (cs : List ℕ) whe
   some_marks [] some = absurd (omega (arith, some))
   some_marks (m ∷ ms) some = refl
 
-  pub token_told : (marks : List Mark) (answer : Result Told ℕ) → 0 < length marks → token_meant setting marks ≡ answer
+  pub token_told : (marks : List Mark) (answer : Result ResolvedToken ℕ) → 0 < length marks → token_meant setting marks ≡ answer
       → comes (token_found setting marks) ≡ comes (told_found answer)
   token_told marks answer some same = ap comes (some_marks marks some ∙ ap told_found same)
 

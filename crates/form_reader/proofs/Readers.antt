@@ -20,8 +20,8 @@ use Rattle.form_reader.specs.declared.step.object.Passed.TheVariants.{Done as Pa
 use Rattle.form_reader.specs.Step.{Passes, outcome_of, rest_of_attempt, verdict_of, ChangesTo, IsReadyChange, Settles, BeginsAnew}
 use Rattle.form_reader.specs.State.{state_gives, Brings}
 use Rattle.lisp_reading.specs.Setting.{Setting}
-use Rattle.lisp_reading.specs.Reading.{form, refused, reads, Outcome, empty, reads_at}
-use Rattle.form_reader.specs.Reader.{fed, begun, IsNew, IsAfterBytes, IsAfterIn, Steps, Becomes, IsBetween, LeavesBetween}
+use Rattle.lisp_reading.specs.Reading.{form, refused, reads, ReadingResult, empty, reads_at}
+use Rattle.form_reader.specs.Reader.{fed, begun, IsNewReader, IsAfterBytes, IsAfterIn, Steps, Becomes, IsBetweenForms, LeavesBetween}
 use Rattle.form_reader.proofs.Deciding.{may_go_on, decide_nothing}
 use Rattle.lisp_reading.proofs.Forms.{reads_is, stood}
 use Rattle.form_reader.specs.declared.state.Event.{Event}
@@ -34,7 +34,7 @@ pub new_rest : (setting : Setting) (stack : List Frame) → stack ≡ [] → (cs
 unfolding reads
 new_rest setting stack none cs = reads_is setting 0 cs ∙ ap (λ (fs : List Frame). rest_of_attempt setting fs AtObject 0 0 cs) (sym none)
 
-pub new_after : (setting : Setting) (reader : FormReader) → IsNew reader → IsAfterBytes setting reader []
+pub new_after : (setting : Setting) (reader : FormReader) → IsNewReader reader → IsAfterBytes setting reader []
 new_after setting reader n =
     subst (λ (s : ReaderState). IsAfterIn setting reader s []) (sym n.state)
     (omega (arith, n.start, n.at), λ cs. new_rest setting reader.stack n.stack cs ∙ (λ i. rest_of_attempt setting reader.stack AtObject (sym n.start i) (sym n.at i) cs))
@@ -61,7 +61,7 @@ module _ (setting : Setting) (old mid new : FormReader) (state : State) (bytes :
       )
   stepped (ChangeForm x start «end» next) (AdvanceForm datum s e n) a turns ready takes same =
       let many : length fed_now ≡ length bytes + 1 = length-append bytes (byte ∷ []) in
-      let new_form : IsNew new = record { start = takes.5; at = takes.6; stack = takes.7 ∙ same ∙ (turns []).1; state = takes.8 } in (
+      let new_form : IsNewReader new = record { start = takes.5; at = takes.6; stack = takes.7 ∙ same ∙ (turns []).1; state = takes.8 } in (
         λ cs. one_more a cs ∙ (λ i. ((turns cs).0 i).0) ∙ (λ i. form (sym takes.0 i) (sym takes.2 i) (sym takes.3 i) (sym takes.4 i)),
         takes.1,
         omega (arith, many, ready.0, takes.4, a.0),
@@ -114,7 +114,7 @@ done_outcome setting stack after start at c cs passed found read result e passes
     subst (λ (r : Read Found). IfOk result (λ change. ChangesTo setting after cs change (verdict_of setting start r))) (sym told.0) turns
 
 -- after a form nothing is open
-pub leaves_between : (setting : Setting) (mid new : FormReader) (after : List Frame) (change : Change) (step : Advance) (v : Outcome × ℕ) → ChangesTo setting after [] change v → Becomes change mid new step
+pub leaves_between : (setting : Setting) (mid new : FormReader) (after : List Frame) (change : Change) (step : Advance) (v : ReadingResult × ℕ) → ChangesTo setting after [] change v → Becomes change mid new step
     → mid.stack ≡ after → LeavesBetween new step
 leaves_between setting mid new after (Goes start at state) step v turns takes same = subst (λ (s : Advance). LeavesBetween new s) (sym takes.0) tt
 leaves_between setting mid new after (ChangeForm x start «end» next) (AdvanceForm datum s e n) v turns takes same =
@@ -138,7 +138,7 @@ done_anew setting stack at settled found read change e settles anew =
 
 -- where the attempt that is open after a change has no byte, the reader is between forms
 pub anew_between : (mid new : FormReader) (after : List Frame) (change : Change) (step : Advance) → BeginsAnew after change → Becomes change mid new step → mid.stack ≡ after
-    → step ≡ AdvanceMore → begun new ≡ fed new → IsBetween new
+    → step ≡ AdvanceMore → begun new ≡ fed new → IsBetweenForms new
 anew_between mid new after (Goes start at state) step anew takes same e here =
     let none = anew (omega (arith, takes.2, here)) in
     record { at = omega (arith, here); stack = takes.3 ∙ same ∙ none.0; state = takes.4 ∙ ap Open none.1 }
@@ -153,18 +153,18 @@ ok_change change known e = cc
 
 -- ---- what is read where a reader is between forms
 
-between_rest : (setting : Setting) (reader : FormReader) (bytes more : List ℕ) → IsAfterBytes setting reader bytes → IsBetween reader
+between_rest : (setting : Setting) (reader : FormReader) (bytes more : List ℕ) → IsAfterBytes setting reader bytes → IsBetweenForms reader
     → reads setting (bytes ++ more) ≡ rest_of_attempt setting [] AtObject (length bytes) 0 more
 between_rest setting reader bytes more after between =
     let here : IsAfterIn setting reader (Open AtObject) bytes = subst (λ (s : ReaderState). IsAfterIn setting reader s bytes) between.state after in
     let start : reader.start ≡ length bytes = omega (arith, here.0, between.at) in
     here.1 more ∙ (λ i. rest_of_attempt setting (between.stack i) AtObject (start i) (between.at i) more)
 
-pub between_reads : (setting : Setting) (reader : FormReader) (bytes more : List ℕ) → IsAfterBytes setting reader bytes → IsBetween reader
+pub between_reads : (setting : Setting) (reader : FormReader) (bytes more : List ℕ) → IsAfterBytes setting reader bytes → IsBetweenForms reader
     → reads setting (bytes ++ more) ≡ reads_at setting (length bytes) more
 between_reads setting reader bytes more after between = between_rest setting reader bytes more after between ∙ sym (reads_is setting (length bytes) more)
 
-pub between_empty : (setting : Setting) (reader : FormReader) (bytes : List ℕ) → IsAfterBytes setting reader bytes → IsBetween reader → reads setting bytes ≡ empty
+pub between_empty : (setting : Setting) (reader : FormReader) (bytes : List ℕ) → IsAfterBytes setting reader bytes → IsBetweenForms reader → reads setting bytes ≡ empty
 between_empty setting reader bytes after between =
     ap (reads setting) (sym (append-nil bytes)) ∙ between_rest setting reader bytes [] after between
     ∙ ap (outcome_of setting (length bytes)) (none_waits setting [] 0 (omega arith) refl).0

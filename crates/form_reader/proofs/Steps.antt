@@ -16,7 +16,7 @@ use Rattle.form_reader.specs.declared.step.object.Passed.{Passed}
 use Rattle.form_reader.specs.declared.step.object.Passed.TheVariants.{Done as PassedDone}
 use Rattle.form_reader.specs.Step.{Passes, verdict_of, Settles, ChangesTo, IsReadySettled, IsReadyChange, is_space, StartsAt, StartsWith, StartsAfter, AttemptEndsBefore, Starts}
 use Rattle.form_reader.specs.Stack.{outer_plan}
-use Rattle.lisp_reading.specs.Reading.{Outcome, is_blank, is_whitespace, stands_alone}
+use Rattle.lisp_reading.specs.Reading.{ReadingResult, is_blank, is_whitespace, stands_alone}
 use Rattle.std.proofs.lemmas.Bool.{ltb-true, and_parts}
 use Rattle.std.specs.Prelude.{nat_lt}
 use Rattle.lisp_reading.proofs.Forms.{reads_is}
@@ -65,7 +65,7 @@ pub nothing_before : (setting : Setting) (start at c : ℕ) (cs : List ℕ) (fou
     → found ≡ nothing token → IfOk result (λ change. ChangesTo setting after cs change (verdict_of setting (start + at) (state_gives setting [] AtObject 0 (c ∷ cs))))
     → IfOk result (λ change. ChangesTo setting after cs change (verdict_of setting start (Ok (found, at, c ∷ cs))))
 nothing_before setting start at c cs found token after result e turns =
-    subst (λ (v : Outcome × ℕ). IfOk result (λ change. ChangesTo setting after cs change v)) (sym (nothing_turns setting start at (c ∷ cs) found token e)) turns
+    subst (λ (v : ReadingResult × ℕ). IfOk result (λ change. ChangesTo setting after cs change v)) (sym (nothing_turns setting start at (c ∷ cs) found token e)) turns
 
 blank_is : (s : Syntax) → is_blank s ≡ true → s ≡ Whitespace
 blank_is Whitespace e = refl
@@ -99,7 +99,7 @@ module _ (setting : Setting) (start c : ℕ) (stack : List Frame) (none : stack 
       → IfOk result (λ change. ChangesTo setting after cs change (verdict_of setting start (state_gives setting stack AtObject 0 (c ∷ cs))))
       → IfOk result (λ change. ChangesTo setting after cs change (verdict_of setting start (state_gives setting [] AtObject 0 (c ∷ cs))))
   first_turns after cs result turns =
-      subst (λ (v : Outcome × ℕ). IfOk result (λ change. ChangesTo setting after cs change v))
+      subst (λ (v : ReadingResult × ℕ). IfOk result (λ change. ChangesTo setting after cs change v))
       (ap (λ (fs : List Frame). verdict_of setting start (state_gives setting fs AtObject 0 (c ∷ cs))) none) turns
 
   pub first_starts : (result : Result Change AllocError) → is_space setting c ≡ false → IfOk result (StartsAt start) → IfOk result (StartsWith setting start c)
@@ -133,7 +133,7 @@ module _ (setting : Setting) (stack : List Frame) (state : State) (start at c : 
       → IfOk result (λ change. ChangesTo setting after cs change (verdict_of setting start (state_gives setting [] AtObject 0 (c ∷ cs))))
       → IfOk result (λ change. ChangesTo setting after cs change (verdict_of setting start (state_gives setting stack state at (c ∷ cs))))
   with_turns after cs result none there first turns =
-      subst (λ (v : Outcome × ℕ). IfOk result (λ change. ChangesTo setting after cs change v))
+      subst (λ (v : ReadingResult × ℕ). IfOk result (λ change. ChangesTo setting after cs change v))
       (λ i. verdict_of setting start (state_gives setting (sym none i) (sym there i) (sym first i) (c ∷ cs))) turns
 
   -- the attempt ended before it

@@ -39,8 +39,8 @@ use Rattle.form_reader.specs.declared.stack.Part.{Part}
 use Rattle.form_reader.specs.declared.stack.Part.TheVariants.{Next as InNext, List as InList, Until as InUntil, Dotted as InDotted, Tailed as InTailed}
 use Rattle.form_reader.specs.declared.state.State.{State}
 use Rattle.form_reader.specs.declared.state.State.TheVariants.{Object as AtObject, Token as AtToken, CallToken as AtCallToken, Text as AtText, Escaped as AtEscaped, Line as AtLine, Block as AtBlock, Number as AtNumber}
-use Rattle.lisp_reading.specs.declared.told.Told.{Told}
-use Rattle.lisp_reading.specs.declared.told.Told.TheVariants.{Object as told_object, Dot as dot_alone}
+use Rattle.lisp_reading.specs.declared.told.ResolvedToken.{ResolvedToken}
+use Rattle.lisp_reading.specs.declared.told.ResolvedToken.TheVariants.{Object as told_object, Dot as dot_alone}
 use Rattle.lisp_reading.specs.declared.way.Function.{Function}
 use Rattle.lisp_reading.specs.declared.way.Function.TheVariants.{Standard as AStandard, User}
 use Rattle.lisp_reading.specs.Plans.{Plan, gives, refuses, then_plan, next_byte, Read, run}
@@ -51,7 +51,7 @@ use Rattle.lisp_reading.specs.Naming.{symbol_in, symbol_at, named, told_meaning,
 use Rattle.lisp_reading.specs.Answering.{may_be_answered}
 use Rattle.form_reader.specs.Token.{is_going}
 use Rattle.form_reader.specs.Stack.{next_item_in, part_gives, call_in, outer_plan, between_objects, token_goes_on}
-use Rattle.lisp_reading.specs.Reading.{Piece, item, dot, closed, is_whitespace, without_space, piece_of, or_closed, next_item_turn, next_item, Items, items_step, items_turn, items_after, undotted_plan, after_tail, after_dot, list_end, bytes_back, finished_plan, plan_after_answer, completed_by, completed_call, text_to, line_after, block_after, number_after, sub_there, dispatch_plan, told_found, token_found, attempt, Outcome, form, empty, refused}
+use Rattle.lisp_reading.specs.Reading.{Piece, item, dot, closed, is_whitespace, without_space, piece_of, or_closed, next_item_turn, next_item, Items, items_step, items_turn, items_after, undotted_plan, after_tail, after_dot, list_end, bytes_back, finished_plan, plan_after_answer, completed_by, completed_call, text_to, line_after, block_after, number_after, sub_there, dispatch_plan, told_found, token_found, attempt, ReadingResult, form, empty, refused}
 use Rattle.form_reader.specs.State.{IsStateAt, inner_at, state_gives}
 use Rattle.form_reader.specs.Step.{outcome_of}
 use Rattle.form_reader.proofs.Tokens.{cut, refused_cut}
@@ -152,7 +152,7 @@ told_blames packages current (Ok a_dot) = tt
 told_blames packages current (Ok (name own)) = named_blames packages current own
 told_blames packages current (Err refusal) = meaning_blames refusal
 
-told_found_at_end : (r : Result Told ℕ) → Blameless r → AtEnd Whatever (told_found r)
+told_found_at_end : (r : Result ResolvedToken ℕ) → Blameless r → AtEnd Whatever (told_found r)
 told_found_at_end (Ok (told_object x)) h = gives_at_end Whatever (one true x) tt
 told_found_at_end (Ok dot_alone) h = gives_at_end Whatever lone_dot tt
 told_found_at_end (Err code) h = refuses_at_end Whatever code 0 h
@@ -301,7 +301,7 @@ module _ (setting : Setting) where
 
 -- ---- of the whole text
 
-abbrev Blames : Outcome → Type 0
+abbrev Blames : ReadingResult → Type 0
 Blames (form x start «end» next) = Unit {0}
 Blames empty = Unit {0}
 Blames (refused code offset) = blames_byte code ≡ false
@@ -316,5 +316,5 @@ last_blames setting start (Ok (lone_dot, at, cs)) h = refl
 last_blames setting start (Ok (the_end, at, cs)) h = tt
 last_blames setting start (Err e) h = h
 
-pub last_refused : (o : Outcome) (code offset : ℕ) → o ≡ refused code offset → Blames o → blames_byte code ≡ false
+pub last_refused : (o : ReadingResult) (code offset : ℕ) → o ≡ refused code offset → Blames o → blames_byte code ≡ false
 last_refused o code offset e h = subst Blames e h

@@ -16,7 +16,7 @@ use Rattle.form_reader.specs.declared.step.Change.{Change}
 use Rattle.form_reader.specs.declared.step.Change.TheVariants.{Goes, Form as ChangeForm, Refused as ChangeRefused}
 use Rattle.lisp_reading.specs.Setting.{Setting}
 use Rattle.lisp_reading.specs.Deciding.{decided_from}
-use Rattle.lisp_reading.specs.Reading.{Outcome, form, empty, refused, is_whitespace, reads}
+use Rattle.lisp_reading.specs.Reading.{ReadingResult, form, empty, refused, is_whitespace, reads}
 use Rattle.form_reader.specs.State.{state_gives}
 use Rattle.form_reader.specs.Step.{rest_of_attempt, start_of}
 
@@ -45,7 +45,7 @@ abbrev pub RanOutOfMemory : FormReader → Type 0
 RanOutOfMemory reader = reader.state ≡ OutOfMemory
 
 -- The outcome of a text that more bytes may change: it is empty, a form to the end of the text, or a refusal there.
-abbrev pub MayGoOn : List ℕ → Outcome → Type 0
+abbrev pub MayGoOn : List ℕ → ReadingResult → Type 0
 MayGoOn text empty = Unit {0}
 MayGoOn text (form x start «end» next) = next ≡ length text
 MayGoOn text (refused number offset) = offset ≡ length text
@@ -57,21 +57,21 @@ DecideNothing setting bytes =
     (c : ℕ) × ((number : ℕ) × (reads setting (bytes ++ c ∷ []) ≡ refused number (length bytes)) × (reads setting bytes ≡ refused number (length bytes) → ⊥))
 
 -- It was fed nothing.
-pub record IsNew (reader : FormReader) : Type 0 where
+pub record IsNewReader (reader : FormReader) : Type 0 where
   pub start : reader.start ≡ 0
   pub at : reader.at ≡ 0
   pub stack : reader.stack ≡ []
   pub state : reader.state ≡ Open AtObject
 
 -- It is between forms: nothing is open, and no attempt at an object has taken a byte.
-pub record IsBetween (reader : FormReader) : Type 0 where
+pub record IsBetweenForms (reader : FormReader) : Type 0 where
   pub at : reader.at ≡ 0
   pub stack : reader.stack ≡ []
   pub state : reader.state ≡ Open AtObject
 
 -- A reader that gave a form is between forms. Of other answers nothing is said.
 abbrev pub LeavesBetween : FormReader → Advance → Type 0
-LeavesBetween new (AdvanceForm datum start «end» next) = IsBetween new
+LeavesBetween new (AdvanceForm datum start «end» next) = IsBetweenForms new
 LeavesBetween new _ = Unit {0}
 
 -- The reader is after these bytes, in this setting: what is read of them, with any text after them, is what it stands for with
@@ -96,7 +96,7 @@ Steps setting reader bytes AdvanceMore =
     IsAfterBytes setting reader bytes × (fed reader ≡ length bytes) × MayGoOn bytes (reads setting bytes) × DecideNothing setting bytes
 Steps setting reader bytes (AdvanceForm datum start «end» next) =
     ((cs : List ℕ) → reads setting (bytes ++ cs) ≡ form (object_of datum) start «end» next)
-    × (is_proper datum ≡ true) × (next ≤ length bytes) × (length bytes ≤ next + 1) × IsNew reader × ((later : Setting) → IsAfterBytes later reader [])
+    × (is_proper datum ≡ true) × (next ≤ length bytes) × (length bytes ≤ next + 1) × IsNewReader reader × ((later : Setting) → IsAfterBytes later reader [])
 Steps setting reader bytes (AdvanceRefused number offset) =
     ((cs : List ℕ) → reads setting (bytes ++ cs) ≡ refused number offset) × HasRefused reader number offset
 
@@ -108,7 +108,7 @@ BeginsLater old new (AdvanceForm datum start «end» next) = (begun old ≤ star
 BeginsLater old new (AdvanceRefused number offset) = (begun old ≤ begun new) × (begun new ≤ fed new)
 
 -- this outcome, of a text that lies so many bytes further on
-abbrev pub further : ℕ → Outcome → Outcome
+abbrev pub further : ℕ → ReadingResult → ReadingResult
 further many (form x start «end» next) = form x (many + start) (many + «end») (many + next)
 further many empty = empty
 further many (refused number offset) = refused number (many + offset)
@@ -127,23 +127,23 @@ IsDecidedFrom setting bytes from = (cs : List ℕ) → decided_from setting (byt
 
 -- It goes on after these bytes, and what it has open began where it says; where that has no byte, it is between forms. What decides the
 -- text begins where the attempt that it is in says.
-pub record HasBegun (setting : Setting) (reader : FormReader) (bytes : List ℕ) : Type 0 where
+pub record HasBegunAfter (setting : Setting) (reader : FormReader) (bytes : List ℕ) : Type 0 where
   pub goes_on : IsOpenReader reader
   pub begins : BeginsAt setting bytes (begun reader)
-  pub between : begun reader ≡ fed reader → IsBetween reader
+  pub between : begun reader ≡ fed reader → IsBetweenForms reader
   pub decides : (state : State) → reader.state ≡ Open state
       → (cs : List ℕ) → decided_from setting (bytes ++ cs) ≡ start_of setting reader.start (state_gives setting reader.stack state reader.at cs)
 
 -- where what is open after a step began, or what it refused, which decides the text; after a form the reader is new, whatever is handed
 -- to it then
 abbrev pub StepsBegun : Setting → FormReader → List ℕ → Advance → Type 0
-StepsBegun setting reader bytes AdvanceMore = HasBegun setting reader bytes
-StepsBegun setting reader bytes (AdvanceForm datum start «end» next) = (later : Setting) → HasBegun later reader []
+StepsBegun setting reader bytes AdvanceMore = HasBegunAfter setting reader bytes
+StepsBegun setting reader bytes (AdvanceForm datum start «end» next) = (later : Setting) → HasBegunAfter later reader []
 StepsBegun setting reader bytes (AdvanceRefused number offset) =
     BeginsAt setting bytes (begun reader) × IsDecidedFrom setting bytes (begun reader)
 
 -- What is answered is the outcome, and the object of a form is sound.
-abbrev pub IsOutcome : ReadOutcome → Outcome → Type 0
+abbrev pub IsOutcome : ReadOutcome → ReadingResult → Type 0
 IsOutcome (ReadForm datum start «end» next) o = (o ≡ form (object_of datum) start «end» next) × (is_proper datum ≡ true) × IsSound (object_of datum)
 IsOutcome ReadEmpty o = o ≡ empty
 IsOutcome (ReadRefused number offset) o = o ≡ refused number offset

@@ -12,18 +12,18 @@ use Rattle.form_reader.specs.declared.step.Change.TheVariants.{Goes, Form, Refus
 use Rattle.lisp_reading.specs.Plans.{Read, fault}
 use Rattle.lisp_reading.specs.Setting.{Setting}
 use Rattle.lisp_reading.specs.Deciding.{deciding, decided_at}
-use Rattle.lisp_reading.specs.Reading.{Outcome, form, refused, outcome, reads_at, is_whitespace}
+use Rattle.lisp_reading.specs.Reading.{ReadingResult, form, refused, outcome, reads_at, is_whitespace}
 use Rattle.form_reader.specs.State.{IsStateAt, state_gives, lookahead, Brings, IsReady}
 use Rattle.form_reader.specs.declared.step.object.Passed.{Passed}
 use Rattle.form_reader.specs.declared.step.object.Passed.TheVariants.{Brings as PassedBrings, Done as PassedDone}
 use Rattle.lisp_reading.specs.declared.found.Found.TheVariants.{Nothing as nothing}
 
 -- What is read of the whole text, where the attempt that began at start comes to this; after discarded text a new one begins.
-abbrev pub outcome_of : Setting → ℕ → Read Found → Outcome
+abbrev pub outcome_of : Setting → ℕ → Read Found → ReadingResult
 outcome_of setting start read = outcome setting.table start (λ next cs. reads_at setting next cs) read
 
 -- the same, where the attempt is in this state, so many bytes after it began, and these bytes follow
-abbrev pub rest_of_attempt : Setting → List Frame → State → ℕ → ℕ → List ℕ → Outcome
+abbrev pub rest_of_attempt : Setting → List Frame → State → ℕ → ℕ → List ℕ → ReadingResult
 rest_of_attempt setting stack state start at cs = outcome_of setting start (state_gives setting stack state at cs)
 
 -- where the attempt begins that decides the text, where the attempt that began at start comes to this
@@ -31,7 +31,7 @@ abbrev pub start_of : Setting → ℕ → Read Found → ℕ
 start_of setting start read = deciding start (λ next cs. decided_at setting next cs) read
 
 -- what is read, and where what decides it begins
-abbrev pub verdict_of : Setting → ℕ → Read Found → Outcome × ℕ
+abbrev pub verdict_of : Setting → ℕ → Read Found → ReadingResult × ℕ
 verdict_of setting start read = (outcome_of setting start read, start_of setting start read)
 
 -- what a byte brings, after the open calls took what was found
@@ -41,7 +41,7 @@ Settles setting stack at cs (IsGiven found) read = (read ≡ Ok (found, at, cs))
 Settles setting stack at cs (IsRefused number offset) read = read ≡ fault number offset
 
 -- What a change is to the verdict: more bytes decide it, or it is a form, or a refusal, of what begins there.
-abbrev pub ChangesTo : Setting → List Frame → List ℕ → Change → Outcome × ℕ → Type 0
+abbrev pub ChangesTo : Setting → List Frame → List ℕ → Change → ReadingResult × ℕ → Type 0
 ChangesTo setting stack cs (Goes start at state) v = v ≡ verdict_of setting start (state_gives setting stack state at cs)
 ChangesTo setting stack cs (Form x start «end» next) v = (v ≡ (form x start «end» next, start)) × (stack ≡ [])
 ChangesTo setting stack cs (Refused start number offset) v = v ≡ (refused number offset, start)

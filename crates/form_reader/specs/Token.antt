@@ -42,10 +42,10 @@ refused_number limit InvalidTrait at = if nat_lt at limit then INVALID_TRAIT els
 refused_number limit TokenTooLong at = if nat_lt at limit then TOKEN_TOO_LONG else FORM_TOO_LONG
 
 -- what a byte is to a token that has begun
-abbrev pub BegunFeeds : Table → Limits → ℕ → ℕ → List ℕ → BegunByte → Read (List Mark) → Type 0
-BegunFeeds table limits at c cs (More scan) read = read ≡ token_read table limits scan (at + 1) cs
-BegunFeeds table limits at c cs (Ended marks) read = read ≡ Ok (marks.items, at, c ∷ cs)
-BegunFeeds table limits at c cs (Refused number) read = read ≡ fault number at
+abbrev pub FeedsBegunToken : Table → Limits → ℕ → ℕ → List ℕ → BegunByte → Read (List Mark) → Type 0
+FeedsBegunToken table limits at c cs (More scan) read = read ≡ token_read table limits scan (at + 1) cs
+FeedsBegunToken table limits at c cs (Ended marks) read = read ≡ Ok (marks.items, at, c ∷ cs)
+FeedsBegunToken table limits at c cs (Refused number) read = read ≡ fault number at
 
 -- a token that has ended has a mark, and its characters are below 128
 abbrev pub IsBegunByte : BegunByte → Type 0

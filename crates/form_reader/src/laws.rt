@@ -3,14 +3,14 @@ ghost use Rattle.std.specs.Prelude.{◌≡◌, ◌≤◌, ◌++◌, ℕ, List, l
 ghost use Rattle.lisp_object.specs.Object.{Object};
 ghost use Rattle.form_reader.specs.declared.reader.FormReader.{FormReader};
 ghost use Rattle.form_reader.specs.declared.reader.Advance.TheVariants.{More};
-ghost use Rattle.form_reader.specs.Reader.{IsAfterBytes, IsBetween, Steps};
+ghost use Rattle.form_reader.specs.Reader.{IsAfterBytes, IsBetweenForms, Steps};
 ghost use Rattle.lisp_reading.specs.Setting.{Setting};
-ghost use Rattle.lisp_reading.specs.Reading.{Outcome, form, empty, outcome, reads_at, reads};
+ghost use Rattle.lisp_reading.specs.Reading.{ReadingResult, form, empty, outcome, reads_at, reads};
 
 /// Where a step answers `More`, no outcome is that of every text that begins with the bytes it was fed: a form, and a
 /// refusal, was answered as soon as the bytes were there that decide it.
 pub fn what_is_decided_is_answered()
-    ensures { (setting : Setting) (reader : FormReader) (bytes : List ℕ) (o : Outcome)
+    ensures { (setting : Setting) (reader : FormReader) (bytes : List ℕ) (o : ReadingResult)
         → Steps setting reader bytes More → ((more : List ℕ) → reads setting (bytes ++ more) ≡ o) → ⊥ }
 {}
 
@@ -18,9 +18,9 @@ pub fn what_is_decided_is_answered()
 /// there.
 pub fn texts_begin_between_forms()
     ensures discarded { (setting : Setting) (reader : FormReader) (bytes : List ℕ)
-        → IsAfterBytes setting reader bytes → IsBetween reader → reads setting bytes ≡ empty }
+        → IsAfterBytes setting reader bytes → IsBetweenForms reader → reads setting bytes ≡ empty }
     ensures begins { (setting : Setting) (reader : FormReader) (bytes more : List ℕ)
-        → IsAfterBytes setting reader bytes → IsBetween reader
+        → IsAfterBytes setting reader bytes → IsBetweenForms reader
         → reads setting (bytes ++ more) ≡ reads_at setting (length bytes) more }
 {}
 

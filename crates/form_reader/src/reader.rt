@@ -71,16 +71,16 @@ impl FormReader {
     ghost use Rattle.form_reader.specs.declared.reader.Advance.TheVariants.{More as AdvanceMore, Refused as AdvanceRefused};
     ghost use Rattle.form_reader.specs.declared.reader.ReadOutcome.TheVariants.{Empty as ReadEmpty, Refused as ReadRefused};
     ghost use Rattle.form_reader.specs.Step.{BeginsFrom, IsReadyChange};
-    ghost use Rattle.form_reader.specs.Reader.{limits_of, fed, begun, HasRefused, RanOutOfMemory, IsNew, IsBetween, LeavesBetween, IsAfterBytes, Steps, CountsFedBytes, BeginsLater, HasBegun, StepsBegun, RefusesFrom, IsSoundStep, Becomes, IsOutcome};
+    ghost use Rattle.form_reader.specs.Reader.{limits_of, fed, begun, HasRefused, RanOutOfMemory, IsNewReader, IsBetweenForms, LeavesBetween, IsAfterBytes, Steps, CountsFedBytes, BeginsLater, HasBegunAfter, StepsBegun, RefusesFrom, IsSoundStep, Becomes, IsOutcome};
 
     /// A reader that was fed nothing, between forms. It keeps `alloc` for what it gathers.
     pub fn new(alloc: Global, limits: Limits) -> FormReader
-        ensures new { IsNew result }
+        ensures new { IsNewReader result }
         ensures limits { limits_of result ≡ limits }
         ensures begun { begun result ≡ 0 }
         ensures after { (setting : Setting) → IsAfterBytes setting result [] }
-        ensures between { IsBetween result }
-        ensures has_begun { (setting : Setting) → HasBegun setting result [] }
+        ensures between { IsBetweenForms result }
+        ensures has_begun { (setting : Setting) → HasBegunAfter setting result [] }
     {
         FormReader {
             limits,
@@ -150,17 +150,17 @@ impl FormReader {
             × (RanOutOfMemory self.old → fed self.new ≡ fed self.old) }
 
         // Between forms whitespace leaves the reader there.
-        ensures between { IsBetween self.old → is_whitespace readtable.now byte ≡ true
-            → 0 < (limits_of self.old).text → (result ≡ Ok AdvanceMore) × IsBetween self.new }
+        ensures between { IsBetweenForms self.old → is_whitespace readtable.now byte ≡ true
+            → 0 < (limits_of self.old).text → (result ≡ Ok AdvanceMore) × IsBetweenForms self.new }
         ensures between_forms { IfOk result (LeavesBetween self.new) }
         ensures nothing_open { result ≡ Ok AdvanceMore
-            → begun self.new ≡ fed self.new → IsBetween self.new }
+            → begun self.new ≡ fed self.new → IsBetweenForms self.new }
 
         // If it knew where the form began that is open, it still does.
         ensures has_begun { (bytes : List ℕ) → IsAfterBytes
             (setting_of (limits_of self.old) readtable.now base packages.now.0 current.now
             (R.functions macros.now))
-            self.old bytes → HasBegun
+            self.old bytes → HasBegunAfter
             (setting_of (limits_of self.old) readtable.now base packages.now.0 current.now
             (R.functions macros.now))
             self.old bytes → IfOk result (StepsBegun
@@ -257,8 +257,8 @@ impl FormReader {
             (setting_of (limits_of self) readtable.now base packages.now.0 current.now
             (R.functions macros.now))
             bytes)) }
-        ensures between { IsBetween self → result ≡ Ok ReadEmpty }
-        ensures has_begun { (bytes : List ℕ) → HasBegun
+        ensures between { IsBetweenForms self → result ≡ Ok ReadEmpty }
+        ensures has_begun { (bytes : List ℕ) → HasBegunAfter
             (setting_of (limits_of self) readtable.now base packages.now.0 current.now
             (R.functions macros.now))
             self bytes → IfOk result (RefusesFrom

@@ -4,7 +4,7 @@ ghost use Rattle.std.specs.Prelude.{◌≡◌, ◌≤◌, ◌<◌, ℕ, List, �
 ghost use Rattle.token_scan.specs.Tokens.{kind, typed_byte};
 ghost use Rattle.token_scan.specs.Spelling.{ends_tokens};
 ghost use Rattle.token_scan.specs.ByteByByte.{Scan, first_scan, has_begun};
-ghost use Rattle.form_reader.specs.Token.{TokenFeeds, is_going, token_read, BegunFeeds, FirstFeeds, IsBegunByte, refused_number};
+ghost use Rattle.form_reader.specs.Token.{TokenFeeds, is_going, token_read, FeedsBegunToken, FirstFeeds, IsBegunByte, refused_number};
 ghost use Rattle.form_reader.specs.declared.gather.LineByte.TheVariants.{Ended as LineEnded, More as LineMore};
 ghost use Rattle.form_reader.specs.declared.token.BegunByte.TheVariants.{More as BegunMore};
 ghost use Rattle.form_reader.specs.declared.token.FirstByte.TheVariants.{More as FirstMore};
@@ -27,7 +27,7 @@ use crate::step::object::stands_alone;
 use lisp_object::refusal::{
     END_OF_FILE, FORM_TOO_LONG, INVALID_CHARACTER, INVALID_TRAIT, TOKEN_TOO_LONG,
 };
-use lisp_reading::{Found, Invoked, Limits, TellError, Told, tell};
+use lisp_reading::{Found, Invoked, Limits, ResolutionError, ResolvedToken, tell};
 use readtable_core::Readtable;
 use std::alloc::{AllocError, Global};
 use std::marker::Model;
@@ -116,7 +116,7 @@ impl BegunScan {
     ) -> Result<BegunByte, AllocError>
         requires { at ≤ limits.now.text }
         ensures feeds { (cs : List ℕ) → IfOk result (λ fed.
-            BegunFeeds readtable.now limits.now at c cs fed (token_read readtable.now limits.now self at (c ∷ cs))) }
+            FeedsBegunToken readtable.now limits.now at c cs fed (token_read readtable.now limits.now self at (c ∷ cs))) }
         ensures ended { IfOk result IsBegunByte }
         ensures going { (scan : Scan) → result ≡ Ok (BegunMore scan) → IsTrue (is_going scan.stage) }
         ensures below { (scan : Scan) → result ≡ Ok (BegunMore scan) → at < limits.now.text }
@@ -254,10 +254,10 @@ pub(crate) fn token_end<R: MacroFunctions>(
         with.base,
         marks,
     ) {
-        Ok(Told::Object(x)) => Ok(Event::Gives(Found::One(true, x))),
-        Ok(Told::Dot) => Ok(Event::Gives(Found::LoneDot)),
-        Err(TellError::OutOfMemory) => Err(AllocError),
-        Err(TellError::Refused(code)) => Ok(Event::Refused(code, at)),
+        Ok(ResolvedToken::Object(x)) => Ok(Event::Gives(Found::One(true, x))),
+        Ok(ResolvedToken::Dot) => Ok(Event::Gives(Found::LoneDot)),
+        Err(ResolutionError::OutOfMemory) => Err(AllocError),
+        Err(ResolutionError::Refused(code)) => Ok(Event::Refused(code, at)),
     }
 }
 

@@ -13,7 +13,7 @@ use Rattle.plist_state.specs.Changes.{property}
 use Rattle.lisp_operators.specs.Kinds.{is_pair}
 use Rattle.lisp_operators.proofs.Shapes.{pair_at}
 use Rattle.value_functions.specs.Sequences.{items_of}
-use Rattle.kept_functions.specs.ReaderFunctions.{way_written, way_by_items, is_lisp_name, reader_in, reader_definition_of, reader_indicator, ReaderDefinition}
+use Rattle.kept_functions.specs.ReaderFunctions.{way_written, way_by_items, is_lisp_name, reader_function_in, reader_definition_of, reader_indicator, ReaderDefinition}
 
 way_of_pair : (x : Object) → true ≡ is_pair x → option_and_then way_by_items (items_of x) ≡ way_written x
 way_of_pair (pair a b) is = refl
@@ -30,12 +30,12 @@ pub way_of_list : (d : Datum) (items : List Datum) (tail : Option Datum) → d �
 way_of_list d items tail is proper = way_of_pair (object_of d) (pair_at is_pair true d items tail (λ _ _. refl) is proper)
 
 pub reader_found : (s : WorldState) (name : Name) (x : Object) → is_lisp_name name ≡ true → Some x ≡ property s (keyword, name) reader_indicator
-    → reader_in s name ≡ reader_definition_of x
+    → reader_function_in s name ≡ reader_definition_of x
 reader_found s name x own is =
     ap (λ b. cond {A = Option ReaderDefinition} b (option_and_then reader_definition_of (property s (keyword, name) reader_indicator)) None) own
     ∙ ap (option_and_then reader_definition_of) (sym is)
 
-pub reader_missing : (s : WorldState) (name : Name) → is_lisp_name name ≡ true → None ≡ property s (keyword, name) reader_indicator → None ≡ reader_in s name
+pub reader_missing : (s : WorldState) (name : Name) → is_lisp_name name ≡ true → None ≡ property s (keyword, name) reader_indicator → None ≡ reader_function_in s name
 reader_missing s name own none =
     sym (ap (λ b. cond {A = Option ReaderDefinition} b (option_and_then reader_definition_of (property s (keyword, name) reader_indicator)) None) own
     ∙ ap (option_and_then reader_definition_of) (sym none))

@@ -55,9 +55,9 @@ abbrev pub takes_so_many : LocalOperator → ℕ → Bool
 takes_so_many operator n = nat_le (fewest operator) n && option_map_or (λ most. nat_le n most) (largest operator) true
 
 -- whether it is the symbol of PAZTURROK with this name
-abbrev pub is_own : Name → Object → Bool
-is_own name (symbol home own) = bytes_eq home pazturrok && bytes_eq own name
-is_own name _ = false
+abbrev pub is_own_symbol : Name → Object → Bool
+is_own_symbol name (symbol home own) = bytes_eq home pazturrok && bytes_eq own name
+is_own_symbol name _ = false
 
 -- rows of the code, where a name is a reference to its text
 abbrev pub local_rows : List (Bor Name × LocalOperator) → List (Name × LocalOperator)

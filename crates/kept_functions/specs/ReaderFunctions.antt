@@ -65,21 +65,21 @@ reader_with (Some way) (Some definition) =
 reader_with _ _ = None
 
 -- (way (variable ..) form ..), by its items
-abbrev pub reader_among : List Object → Option ReaderDefinition
-reader_among (way ∷ definition) = reader_with (way_written way) (definition_among definition)
-reader_among [] = None
+abbrev pub reader_function_of_items : List Object → Option ReaderDefinition
+reader_function_of_items (way ∷ definition) = reader_with (way_written way) (definition_among definition)
+reader_function_of_items [] = None
 
 -- the definition of a macro function that a list is
 abbrev pub reader_definition_of : Object → Option ReaderDefinition
-reader_definition_of x = option_and_then reader_among (items_of x)
+reader_definition_of x = option_and_then reader_function_of_items (items_of x)
 
 -- under which property the world keeps it
 abbrev pub reader_indicator : Symbol
 reader_indicator = (pazturrok, codes "READER-DEFINITION")
 
 -- the macro function of a name in the world
-abbrev pub reader_in : WorldState → Name → Option ReaderDefinition
-reader_in s name = if is_lisp_name name then option_and_then reader_definition_of (property s (keyword, name) reader_indicator) else None
+abbrev pub reader_function_in : WorldState → Name → Option ReaderDefinition
+reader_function_in s name = if is_lisp_name name then option_and_then reader_definition_of (property s (keyword, name) reader_indicator) else None
 
 -- ---- DEFINE-READER, of its arguments as they are written: the name
 
@@ -95,7 +95,7 @@ reader_defined _ s = Err ARGUMENT_KIND
 
 -- the names of the macro functions of the world, in the order of their bytes
 abbrev pub own_readers : WorldState → List Name
-own_readers s = filter (λ n. is_some (reader_in s n)) (own_names s.packages keyword)
+own_readers s = filter (λ n. is_some (reader_function_in s n)) (own_names s.packages keyword)
 
 -- the names that SET-MACRO-CHARACTER and its like take in a state, where these are those of the program
 abbrev pub names_in_force : List Name → WorldState → List Name

@@ -3,7 +3,7 @@ ghost use Rattle.std.specs.Prelude.{◌≡◌, IfSome, option_map, option_and_th
 ghost use Rattle.lisp_object.specs.Datum.{object_of};
 ghost use Rattle.lisp_operators.specs.EvaluationAnswers.{IsProper, AreProper, objects};
 ghost use Rattle.lisp_operators.specs.Kinds.{a_keyword, a_character};
-ghost use Rattle.kept_functions.specs.ReaderFunctions.{is_lisp_name, way_named, way_up_to, way_by_items, way_written, reader_among, reader_definition_of, reader_in};
+ghost use Rattle.kept_functions.specs.ReaderFunctions.{is_lisp_name, way_named, way_up_to, way_by_items, way_written, reader_function_of_items, reader_definition_of, reader_function_in};
 ghost use Rattle.value_functions.specs.Sequences.{items_of};
 ghost use Rattle.kept_functions.specs.KeptFunctions.{stored_reader, IsProperDefinition};
 
@@ -156,7 +156,7 @@ fn way_written(datum: &Datum) -> Option<Gather>
 /// The macro function that a list of these items is: a way, variables, and then forms.
 pub fn reader_definition_in(items: &[Datum]) -> Option<StoredReader<'_>>
     requires { AreProper items.now }
-    ensures value { option_map stored_reader result ≡ reader_among (objects items.now) }
+    ensures value { option_map stored_reader result ≡ reader_function_of_items (objects items.now) }
     ensures proper { IfSome result (λ r. IsProperDefinition r.definition) }
 {
     if items.is_empty() {
@@ -190,7 +190,7 @@ pub fn reader_definition_of(datum: &Datum) -> Option<StoredReader<'_>>
 
 /// The macro function of a name in the world.
 pub fn reader_in<'a>(world: &'a World, name: &[u8]) -> Option<StoredReader<'a>>
-    ensures value { option_map stored_reader result ≡ reader_in world.now.0 name.now }
+    ensures value { option_map stored_reader result ≡ reader_function_in world.now.0 name.now }
     ensures proper { IfSome result (λ r. IsProperDefinition r.definition) }
 {
     if !is_lisp_name(name) {

@@ -6,14 +6,14 @@ use Rattle.form_reader.specs.Reader.{IsOutcome}
 use Rattle.lisp_object.specs.Datum.{object_of}
 use Rattle.lisp_object.specs.Object.{Object}
 use Rattle.lisp_object.specs.declared.refusal.TheConstants.{END_OF_FILE, OUT_OF_PROFILE}
-use Rattle.lisp_reading.specs.DiscardedText.{IsDiscarded}
+use Rattle.lisp_reading.specs.DiscardedText.{IsDiscardedText}
 use Rattle.lisp_reading.specs.Reading.{empty, form, reads, reads_at, refused}
 use Rattle.lisp_reading.specs.Setting.{Setting}
 use Rattle.law_tests.specs.Known.{IsFormThere, IsKnownOutcome}
 
 pub known_of : (setting : Setting) (text : List ℕ)
     → ((x : Object) (starts stops next : ℕ) → reads setting text ≡ form x starts stops next → IsFormThere setting text x starts stops next)
-    → (reads setting text ≡ empty → IsDiscarded setting text)
+    → (reads setting text ≡ empty → IsDiscardedText setting text)
     → ((number offset : ℕ) → reads setting text ≡ refused number offset → (END_OF_FILE ≤ number) × (number ≤ OUT_OF_PROFILE))
     → (outcome : ReadOutcome) → IsOutcome outcome (reads setting text) → IsKnownOutcome setting text outcome
 known_of setting text of_form of_empty of_refusal (ReadForm datum starts stops next) is = of_form (object_of datum) starts stops next is.0

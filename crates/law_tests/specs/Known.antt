@@ -6,7 +6,7 @@ use Rattle.lisp_object.specs.Datum.{object_of}
 use Rattle.lisp_object.specs.Object.{Object, object_depth}
 use Rattle.lisp_object.specs.declared.refusal.TheConstants.{END_OF_FILE, OUT_OF_PROFILE}
 use Rattle.lisp_reading.specs.Deciding.{decided_from}
-use Rattle.lisp_reading.specs.DiscardedText.{IsDiscarded}
+use Rattle.lisp_reading.specs.DiscardedText.{IsDiscardedText}
 use Rattle.lisp_reading.specs.Reading.{form, reads}
 use Rattle.lisp_reading.specs.Setting.{Setting}
 
@@ -28,5 +28,5 @@ module _ (setting : Setting) (text : List ℕ) where
   -- a form is there, or discarded text alone, or a number of reading
   abbrev pub IsKnownOutcome : ReadOutcome → Type 0
   IsKnownOutcome (ReadForm datum starts stops next) = IsFormThere (object_of datum) starts stops next
-  IsKnownOutcome ReadEmpty = IsDiscarded setting text
+  IsKnownOutcome ReadEmpty = IsDiscardedText setting text
   IsKnownOutcome (ReadRefused number offset) = (END_OF_FILE ≤ number) × (number ≤ OUT_OF_PROFILE)

@@ -2,19 +2,19 @@
 use Rattle.std.specs.Prelude.{◌≡◌, ℕ, List, length}
 use Rattle.disk_trait.specs.Disk.{Image, State}
 use Rattle.gate_log.specs.Layout.{Contents, LogRecord}
-use Rattle.gate_log.specs.Version3.{HoldsBatches, IsBeforeMark, IsClosed, batches_front, one_sync, two_syncs}
+use Rattle.gate_log.specs.Version3.{HoldsBatches, IsBeforeMark, BeginsWithNoMark, batches_front, mark_of_one_sync, mark_of_two_syncs}
 
 -- kept with two syncs: a closed gate stands at this offset
 pub record EndsClosed (k : Contents) (at : ℕ) (file : List ℕ) : Type 0 where
   pub held : HoldsBatches k file
-  pub two : held.manner.mark ≡ two_syncs
-  pub closed : IsClosed held.behind
+  pub two : held.manner.mark ≡ mark_of_two_syncs
+  pub closed : BeginsWithNoMark held.behind
   pub at_end : at ≡ length (batches_front k held.manner held.followed held.batches)
 
 -- kept with two syncs: these records stand behind the closed gate at this offset, which is to become their mark
 pub record IsBehindGate (k : Contents) (at : ℕ) (entries : List LogRecord) (file : List ℕ) : Type 0 where
   pub held : HoldsBatches k file
-  pub two : held.manner.mark ≡ two_syncs
+  pub two : held.manner.mark ≡ mark_of_two_syncs
   pub rest : List ℕ
   pub before : IsBeforeMark (batches_front k held.manner held.followed held.batches) entries rest file
   pub at_end : at ≡ length (batches_front k held.manner held.followed held.batches)
@@ -22,7 +22,7 @@ pub record IsBehindGate (k : Contents) (at : ℕ) (entries : List LogRecord) (fi
 -- kept with one sync: so many bytes stand from this offset to the end of the file, where a crash left them of a batch
 pub record HasLeftBehind (k : Contents) (at count : ℕ) (file : List ℕ) : Type 0 where
   pub held : HoldsBatches k file
-  pub one : held.manner.mark ≡ one_sync
+  pub one : held.manner.mark ≡ mark_of_one_sync
   pub at_end : at ≡ length (batches_front k held.manner held.followed held.batches)
   pub left : count ≡ length held.behind
 

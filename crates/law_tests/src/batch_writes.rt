@@ -8,7 +8,7 @@ ghost use Rattle.disk_trait.specs.Calls.{IsWithinFile};
 ghost use Rattle.disk_trait.specs.Disk.{IsHonest, IsMixing};
 ghost use Rattle.disk_trait.specs.Memory.{state_of};
 ghost use Rattle.gate_log.specs.Layout.{Contents, with_records};
-ghost use Rattle.gate_log.specs.Version3.{EndsInZeros, HoldsBatches, MayCome, one_sync};
+ghost use Rattle.gate_log.specs.Version3.{EndsInZeros, HoldsBatches, MayCome, mark_of_one_sync};
 ghost use Rattle.law_tests.specs.Writes.{EndsClosed, HasLeftBehind, IsBehindGate, LeavesHalf};
 
 use crate::batches::{batch_of_two, count_records, is_damaged};
@@ -31,16 +31,16 @@ fn write_batch<D: Disk>(disk: &mut D, at: u64, bytes: &[u8]) -> Result<(), Devic
     requires room { (D.state disk.old).failures < 2 ^ 64 - 1 }
     requires within { IsWithinFile Half.A at (D.state disk.old) }
     ensures left { (k : Contents) (entries : List LogRecord) → IsHonest (D.state disk.old)
-        → IsMixing (D.state disk.old) → MayCome entries → bytes.now ≡ batch_bytes one_sync entries
+        → IsMixing (D.state disk.old) → MayCome entries → bytes.now ≡ batch_bytes mark_of_one_sync entries
         → LeavesHalf (D.state disk.old) (EndsInZeros k at)
         → LeavesHalf (D.state disk.new) (λ file. HoldsBatches k file ⊎ HoldsBatches (with_records k entries) file) }
     ensures nothing_else { (k : Contents) (entries : List LogRecord) → IsHonest (D.state disk.old)
-        → IsMixing (D.state disk.old) → MayCome entries → bytes.now ≡ batch_bytes one_sync entries
+        → IsMixing (D.state disk.old) → MayCome entries → bytes.now ≡ batch_bytes mark_of_one_sync entries
         → LeavesHalf (D.state disk.old) (EndsInZeros k at)
         → LeavesHalf (D.state disk.new) (λ file. (j : Contents) → HoldsBatches j file
         → (j ≡ k) ⊎ (j ≡ with_records k entries)) }
     ensures written { OnOk result ((k : Contents) (entries : List LogRecord) → IsHonest (D.state disk.old)
-        → MayCome entries → bytes.now ≡ batch_bytes one_sync entries
+        → MayCome entries → bytes.now ≡ batch_bytes mark_of_one_sync entries
         → EndsInZeros k at (D.state disk.old).reads.a
         → EndsInZeros (with_records k entries) (at + length bytes.now) (D.state disk.new).reads.a) }
     ensures failures { OnOk result ((D.state disk.new).failures ≡ (D.state disk.old).failures) }

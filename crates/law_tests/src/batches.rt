@@ -2,7 +2,7 @@
 ghost use Rattle.std.specs.Prelude.{◌≡◌, ◌≢◌, ◌⊎◌, ◌<◌, ◌≤◌, ◌++◌, ℕ, List, IfOk, false, get_or, length};
 ghost use Rattle.std.specs.List.{AllByRecursion};
 ghost use Rattle.batch_bytes.specs.Batch.{IsLogRecord, IsPlain, LogRecord, batch_bytes, borrowed_records};
-ghost use Rattle.batch_bytes.specs.Reading.{IsBlank, IsUnfinished};
+ghost use Rattle.batch_bytes.specs.Reading.{IsBlank, IsUnfinishedBatch};
 
 use batch_bytes::{
     BatchThere, batch_of, batch_there, cut_short, full_batches, one_batch, unfinished_none,
@@ -38,7 +38,7 @@ pub fn is_damaged(mark: u8, bytes: &[u8]) -> bool
         → bytes.now ≡ left ++ behind → result ≡ false }
     ensures zeroed { (was : List ℕ) → length bytes.now ≤ length was
         → ((i : ℕ) → i < length bytes.now → (get_or bytes.now i 0 ≡ get_or was i 0) ⊎ (get_or bytes.now i 0 ≡ 0))
-        → IsUnfinished mark was → result ≡ false }
+        → IsUnfinishedBatch mark was → result ≡ false }
     ensures blank { IsBlank bytes.now → result ≡ false }
 {
     cut_short();
@@ -60,7 +60,7 @@ pub fn count_records(mark: u8, bytes: &[u8]) -> usize
     ensures these { (entries : List LogRecord) (behind : List ℕ) → 0 < length entries
         → AllByRecursion IsLogRecord entries → AllByRecursion IsPlain entries
         → bytes.now ≡ batch_bytes mark entries ++ behind → result ≡ length entries }
-    ensures none { IsUnfinished mark bytes.now → result ≡ 0 }
+    ensures none { IsUnfinishedBatch mark bytes.now → result ≡ 0 }
 {
     one_batch();
     unfinished_none();

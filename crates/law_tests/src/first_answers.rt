@@ -14,7 +14,7 @@ use crate::AMPLE;
 use disk_trait::{Disk, MemoryDisk};
 use feeding_laws::feeding_again;
 use message_frames::MessageFrame;
-use message_session::{AnswerRecipient, Ended, serve_messages};
+use message_session::{AnswerRecipient, MessagesEnd, serve_messages};
 use prevalence_store::Store;
 use sessions::OutputFault;
 use std::alloc::{AllocError, Global};
@@ -120,7 +120,7 @@ fn written<D: Disk + Drop, M: MacroFunctions + Drop>(
         start: _,
     } = output;
     match ended {
-        Ended::End => Ok(bytes),
+        MessagesEnd::End => Ok(bytes),
         _ => Err(AllocError),
     }
 }

@@ -1,8 +1,8 @@
 //! What the laws of reading say of what was read.
 ghost use Rattle.std.specs.Prelude.{◌≡◌, ◌≤◌, ◌<◌, ◌^◌, ◌∷◌, ◌++◌, [], ℕ, List, IfOk, IsTrue, Ok, length};
-ghost use Rattle.form_reader.specs.Reader.{IsAfterBytes, IsBetween, IsOutcome, fed, limits_of};
+ghost use Rattle.form_reader.specs.Reader.{IsAfterBytes, IsBetweenForms, IsOutcome, fed, limits_of};
 ghost use Rattle.lisp_reading.specs.SamePackages.{FindsSame};
-ghost use Rattle.lisp_reading.specs.Reading.{Outcome, attempt, empty, outcome, reads, reads_at};
+ghost use Rattle.lisp_reading.specs.Reading.{ReadingResult, attempt, empty, outcome, reads, reads_at};
 ghost use Rattle.lisp_reading.specs.Plans.{run};
 ghost use Rattle.lisp_reading.specs.Setting.{setting_of};
 ghost use Rattle.package_table.specs.Table.{IsPackage, Table};
@@ -94,7 +94,7 @@ fn step_alone<R: MacroFunctions>(
     requires highest_base { base ≤ 36 }
     requires current { IsPackage packages.now.0 current.now }
     requires count { fed reader.old < 2 ^ 63 }
-    ensures undecided { (bytes : List ℕ) (whole : Outcome) → IsAfterBytes
+    ensures undecided { (bytes : List ℕ) (whole : ReadingResult) → IsAfterBytes
         (setting_of (limits_of reader.old) readtable.now base packages.now.0 current.now (R.functions macros.now))
         reader.old bytes → result ≡ Ok Advance.More
         → ((more : List ℕ) → reads
@@ -102,7 +102,7 @@ fn step_alone<R: MacroFunctions>(
         ((bytes ++ byte ∷ []) ++ more) ≡ whole) → ⊥ }
     ensures begins { (bytes more : List ℕ) → IsAfterBytes
         (setting_of (limits_of reader.old) readtable.now base packages.now.0 current.now (R.functions macros.now))
-        reader.old bytes → IsBetween reader.old
+        reader.old bytes → IsBetweenForms reader.old
         → (reads
         (setting_of (limits_of reader.old) readtable.now base packages.now.0 current.now (R.functions macros.now))
         bytes ≡ empty)

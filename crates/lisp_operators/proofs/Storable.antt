@@ -17,7 +17,7 @@ use Rattle.package_table.specs.Growth.{Grows}
 use Rattle.package_table.proofs.Names.{name_total, same_some, none_some}
 use Rattle.package_table.proofs.Frames.{equal_names}
 use Rattle.plist_state.specs.Properties.{Symbol}
-use Rattle.plist_state.specs.Sound.{IsSymbol, IsKnown, IsValue}
+use Rattle.plist_state.specs.Sound.{IsSymbol, IsSymbolStorable, IsValue}
 use Rattle.lisp_operators.specs.Kinds.{a_symbol, a_name, a_text, a_keyword, a_character, each_of, one_or_each}
 use Rattle.lisp_operators.specs.Properties.{t}
 
@@ -58,7 +58,7 @@ pub text_value : (u : packages.Table) (n : Name) → All (λ b. b < 128) n → I
 text_value u n ascii = record { object = ascii; depth = omega arith; symbols = tt }
 
 -- ---- packages that have grown
-known_grown : (u v : packages.Table) → Grows u v → (x : Object) → IsKnown u x → IsKnown v x
+known_grown : (u v : packages.Table) → Grows u v → (x : Object) → IsSymbolStorable u x → IsSymbolStorable v x
 known_grown u v grows (integer n) k = tt
 known_grown u v grows (rational n d) k = tt
 known_grown u v grows (character c) k = tt
@@ -69,7 +69,7 @@ known_grown u v grows (pair a b) k = tt
 known_grown u v grows (vector xs) k = tt
 
 pub value_grown : (u v : packages.Table) → Grows u v → (x : Object) → IsValue u x → IsValue v x
-value_grown u v grows x is = record { object = is.object; depth = is.depth; symbols = atoms_weaker (IsKnown u) (IsKnown v) (known_grown u v grows) x is.symbols }
+value_grown u v grows x is = record { object = is.object; depth = is.depth; symbols = atoms_weaker (IsSymbolStorable u) (IsSymbolStorable v) (known_grown u v grows) x is.symbols }
 
 abbrev pub AreValues : packages.Table → List Object → Type 0
 AreValues u xs = All (IsValue u) xs
@@ -104,7 +104,7 @@ list_sound : (u : packages.Table) (xs : List Object) → AreValues u xs → obje
 list_sound u [] are = sound_nil
 list_sound u (x ∷ xs) are = ((All-head (IsValue u) x xs are).object, list_sound u xs (All-tail (IsValue u) x xs are))
 
-list_known : (u : packages.Table) → packages.AreSoundPackages u → (xs : List Object) → AreValues u xs → AllAtoms (IsKnown u) (list_of xs)
+list_known : (u : packages.Table) → packages.AreSoundPackages u → (xs : List Object) → AreValues u xs → AllAtoms (IsSymbolStorable u) (list_of xs)
 list_known u sound [] are = nil_present u sound
 list_known u sound (x ∷ xs) are = ((All-head (IsValue u) x xs are).symbols, list_known u sound xs (All-tail (IsValue u) x xs are))
 

@@ -113,11 +113,11 @@ abbrev pub IsPackageOr : {A B : Type 0} → (A → B) → Result A EvaluationErr
 IsPackageOr view result o = FoundOr NO_SUCH_PACKAGE view result o
 
 -- the package of a name, where there is one and it is not locked
-abbrev pub IsUnlocked : {A : Type 0} → (A → Name) → Result A EvaluationError → Option Name → Type 0
-IsUnlocked view (Ok p) o = (Some (view p) ≡ o) × (is_locked (view p) ≡ false)
-IsUnlocked view (Err (Refused code)) o =
+abbrev pub IsUnlockedPackageOr : {A : Type 0} → (A → Name) → Result A EvaluationError → Option Name → Type 0
+IsUnlockedPackageOr view (Ok p) o = (Some (view p) ≡ o) × (is_locked (view p) ≡ false)
+IsUnlockedPackageOr view (Err (Refused code)) o =
     ((code ≡ NO_SUCH_PACKAGE) × (None ≡ o)) ⊎ ((p : Name) × (code ≡ PACKAGE_IS_LOCKED) × (Some p ≡ o) × (is_locked p ≡ true))
-IsUnlocked view (Err OutOfMemory) o = Unit {0}
+IsUnlockedPackageOr view (Err OutOfMemory) o = Unit {0}
 
 -- the readtable of a name, where there is one
 abbrev pub IsReadtableOr : {A B : Type 0} → (A → B) → Result A EvaluationError → Option B → Type 0

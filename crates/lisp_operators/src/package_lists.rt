@@ -5,7 +5,7 @@ ghost use Rattle.lisp_object.specs.declared.refusal.TheConstants.{NO_SUCH_PACKAG
 ghost use Rattle.package_table.specs.Table.{IsPackage, package_named, full_name, keyword};
 ghost use Rattle.lisp_operators.specs.Packages.{export, import, use_package, packages_named};
 ghost use Rattle.lisp_operators.specs.Members.{name_in, names_in, packages_in};
-ghost use Rattle.lisp_operators.specs.EvaluationAnswers.{IsUnlocked, FoundOr, TellsPackageChange, AreProper, IsProperValue, AreArgumentsOf, CarriesOut};
+ghost use Rattle.lisp_operators.specs.EvaluationAnswers.{IsUnlockedPackageOr, FoundOr, TellsPackageChange, AreProper, IsProperValue, AreArgumentsOf, CarriesOut};
 
 use crate::EvaluationError::Refused;
 use crate::arguments::{name_or, one_and_rest};
@@ -35,7 +35,7 @@ fn changed(alloc: Global, made: Result<bool, PackageError>) -> Result<Evaluated,
 
 // The package of this name or nickname, where it is not locked.
 fn unlocked(alloc: Global, world: &World, name: &[u8]) -> Result<Vec<u8>, EvaluationError>
-    ensures unlocked { IsUnlocked (λ p. p.items) result
+    ensures unlocked { IsUnlockedPackageOr (λ p. p.items) result
         (package_named world.now.0.packages name.now) }
     ensures there { IfOk result (λ p. IsPackage world.now.0.packages p.items) }
 {

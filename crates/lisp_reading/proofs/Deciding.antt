@@ -5,7 +5,7 @@ use Rattle.lisp_reading.specs.declared.found.Found.{Found}
 use Rattle.lisp_reading.specs.declared.found.Found.TheVariants.{Nothing as nothing, One as one, LoneDot as lone_dot, TheEnd as the_end}
 use Rattle.lisp_reading.specs.Plans.{Read}
 use Rattle.lisp_reading.specs.Setting.{Setting}
-use Rattle.lisp_reading.specs.Reading.{attempt, Outcome, form, outcome, reads_in, reads}
+use Rattle.lisp_reading.specs.Reading.{attempt, ReadingResult, form, outcome, reads_in, reads}
 use Rattle.lisp_reading.specs.Deciding.{deciding, decided_in, decided_at, decided_from}
 use Rattle.lisp_reading.proofs.Offsets.{Parts, parts}
 use Rattle.lisp_reading.proofs.Forms.{first, nothing_takes}
@@ -41,7 +41,7 @@ decided_is setting start whole =
 
 -- ---- of a form it is its start
 
-turn_form : (setting : Setting) (more : ℕ → List ℕ → Outcome) (from : ℕ → List ℕ → ℕ) (begun : ℕ) (r : Read Found) (x : Object) (start «end» next : ℕ)
+turn_form : (setting : Setting) (more : ℕ → List ℕ → ReadingResult) (from : ℕ → List ℕ → ℕ) (begun : ℕ) (r : Read Found) (x : Object) (start «end» next : ℕ)
     → ((at : ℕ) (cs : List ℕ) → more at cs ≡ form x start «end» next → from at cs ≡ start)
     → outcome setting.table begun more r ≡ form x start «end» next → deciding begun from r ≡ start
 turn_form setting more from begun (Ok (nothing token, at, cs)) x start «end» next all e = all (begun + at) cs e

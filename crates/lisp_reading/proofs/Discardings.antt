@@ -16,13 +16,13 @@ use Rattle.token_scan.proofs.Steps.{outside_plain, outside_escape, outside_bar, 
 use Rattle.token_meaning.specs.Results.{scan_refusal_number}
 use Rattle.lisp_reading.specs.declared.found.Found.{Found}
 use Rattle.lisp_reading.specs.declared.found.Found.TheVariants.{Nothing as nothing_found, One as one, LoneDot as lone_dot, TheEnd as the_end}
-use Rattle.lisp_reading.specs.declared.told.Told.{Told}
-use Rattle.lisp_reading.specs.declared.told.Told.TheVariants.{Object as told_object, Dot as dot_alone}
-use Rattle.lisp_reading.specs.DiscardedText.{IsDiscarded, nothing, more}
+use Rattle.lisp_reading.specs.declared.told.ResolvedToken.{ResolvedToken}
+use Rattle.lisp_reading.specs.declared.told.ResolvedToken.TheVariants.{Object as told_object, Dot as dot_alone}
+use Rattle.lisp_reading.specs.DiscardedText.{IsDiscardedText, nothing, more}
 use Rattle.lisp_reading.specs.Naming.{token_meant}
 use Rattle.lisp_reading.specs.Plans.{Read, within, stands_below, limited_token, run}
 use Rattle.lisp_reading.specs.Setting.{Setting}
-use Rattle.lisp_reading.specs.Reading.{Outcome, empty, stands_alone, alone, told_found, token_found, inner, attempt, outcome, reads_in, reads_at, reads}
+use Rattle.lisp_reading.specs.Reading.{ReadingResult, empty, stands_alone, alone, told_found, token_found, inner, attempt, outcome, reads_in, reads_at, reads}
 use Rattle.lisp_reading.proofs.Refusals.{any}
 use Rattle.lisp_reading.proofs.Forms.{first, reads_is, the_end_there}
 use Rattle.lisp_reading.proofs.Keeping.{Given, given_keeps}
@@ -105,7 +105,7 @@ no_call_ends V room (Ok (lone_dot, at, cs)) h e = e
 no_call_ends V room (Err f) h e = e
 
 module _ (setting : Setting) where
-  told_ends : (r : Result Told ℕ) (at : ℕ) (cs : List ℕ) → IsEnd (run setting.table setting.limits (told_found r) at cs) → ⊥
+  told_ends : (r : Result ResolvedToken ℕ) (at : ℕ) (cs : List ℕ) → IsEnd (run setting.table setting.limits (told_found r) at cs) → ⊥
   unfolding run
   told_ends (Ok (told_object x)) at cs e = e
   told_ends (Ok dot_alone) at cs e = e
@@ -156,9 +156,9 @@ module _ (setting : Setting) where
 
   -- ---- empty texts
 
-  turn_empty : (again : ℕ → List ℕ → Outcome) (start : ℕ) (whole : List ℕ) (r : Read Found) → first setting whole ≡ r → Parts 0 whole r
-      → ((at : ℕ) (cs : List ℕ) → length cs < length whole → again at cs ≡ empty → IsDiscarded setting cs)
-      → outcome setting.table start again r ≡ empty → IsDiscarded setting whole
+  turn_empty : (again : ℕ → List ℕ → ReadingResult) (start : ℕ) (whole : List ℕ) (r : Read Found) → first setting whole ≡ r → Parts 0 whole r
+      → ((at : ℕ) (cs : List ℕ) → length cs < length whole → again at cs ≡ empty → IsDiscardedText setting cs)
+      → outcome setting.table start again r ≡ empty → IsDiscardedText setting whole
   turn_empty again start whole (Ok (nothing_found token, at, cs)) found p all e =
       let some : 0 < at = eats setting.table setting.limits (attempt setting setting.limits.nesting) 0 at whole cs (nothing_found token)
       (λ f. let never : Ok (the_end, 0, []) ≡ Ok (nothing_found token, at, []) = sym (the_end_there setting) ∙ f in subst IsEnd never tt) found in
@@ -166,25 +166,25 @@ module _ (setting : Setting) where
       more whole cs token at found (all (start + at) cs (omega (arith, some, p.offset, total)) e)
   turn_empty again start whole (Ok (one token x, at, cs)) found p all e = cc
   turn_empty again start whole (Ok (lone_dot, at, cs)) found p all e = cc
-  turn_empty again start whole (Ok (the_end, at, cs)) found p all e = subst (IsDiscarded setting) (sym (only_end whole (subst IsEnd (sym found) tt))) nothing
+  turn_empty again start whole (Ok (the_end, at, cs)) found p all e = subst (IsDiscardedText setting) (sym (only_end whole (subst IsEnd (sym found) tt))) nothing
   turn_empty again start whole (Err f) found p all e = cc
 
-  empty_discarded : (n start : ℕ) (whole : List ℕ) → length whole < n → reads_in setting n start whole ≡ empty → IsDiscarded setting whole
+  empty_discarded : (n start : ℕ) (whole : List ℕ) → length whole < n → reads_in setting n start whole ≡ empty → IsDiscardedText setting whole
   unfolding reads_in
   empty_discarded zero start whole lt e = absurd (omega (arith, lt))
   empty_discarded (suc n) start whole lt e =
       turn_empty (λ next cs. reads_in setting n next cs) start whole (first setting whole) refl (parts setting.table setting.limits (attempt setting setting.limits.nesting) 0 whole)
       (λ at cs less f. empty_discarded n at cs (omega (arith, less, lt)) f) e
 
-  discarded_empty : (start : ℕ) (text : List ℕ) → IsDiscarded setting text → reads_at setting start text ≡ empty
+  discarded_empty : (start : ℕ) (text : List ℕ) → IsDiscardedText setting text → reads_at setting start text ≡ empty
   discarded_empty start text nothing = reads_is setting start [] ∙ ap (outcome setting.table start (λ next cs. reads_at setting next cs)) (the_end_there setting)
   discarded_empty start text (more whole rest token at found d) =
       reads_is setting start whole ∙ ap (outcome setting.table start (λ next cs. reads_at setting next cs)) found ∙ discarded_empty (start + at) rest d
 
-pub empty_is_discarded : (setting : Setting) (text : List ℕ) → reads setting text ≡ empty → IsDiscarded setting text
+pub empty_is_discarded : (setting : Setting) (text : List ℕ) → reads setting text ≡ empty → IsDiscardedText setting text
 unfolding reads
 empty_is_discarded setting text e = empty_discarded setting (length text + 1) 0 text (omega arith) e
 
-pub discarded_is_empty : (setting : Setting) (text : List ℕ) → IsDiscarded setting text → reads setting text ≡ empty
+pub discarded_is_empty : (setting : Setting) (text : List ℕ) → IsDiscardedText setting text → reads setting text ≡ empty
 unfolding reads
 discarded_is_empty setting text d = discarded_empty setting 0 text d

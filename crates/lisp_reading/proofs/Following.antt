@@ -14,7 +14,7 @@ use Rattle.lisp_reading.specs.declared.limits.Limits.{Limits}
 use Rattle.lisp_reading.specs.declared.found.Found.{Found}
 use Rattle.lisp_reading.specs.declared.found.Found.TheVariants.{Nothing as nothing, One as one, LoneDot as lone_dot, TheEnd as the_end}
 use Rattle.lisp_reading.specs.Setting.{Setting}
-use Rattle.lisp_reading.specs.Reading.{attempt, is_whitespace, Outcome, form, empty, space_at, outcome, reads_in, reads_at, reads}
+use Rattle.lisp_reading.specs.Reading.{attempt, is_whitespace, ReadingResult, form, empty, space_at, outcome, reads_in, reads_at, reads}
 use Rattle.lisp_reading.proofs.Offsets.{Parted, Parts, parts}
 use Rattle.lisp_reading.proofs.Forms.{first, the_end_there, reads_is, stood, drop_front, space_small}
 use Rattle.lisp_reading.proofs.Framing.{Framed, framed}
@@ -112,7 +112,7 @@ no_form setting (suc n) start x from «end» next e =
     cc
 
 module _ (setting : Setting) (x : Object) (from «end» next : ℕ) (more : List ℕ) where
-  turn_follows : (again : ℕ → List ℕ → Outcome) (start : ℕ) (whole : List ℕ) (r : Read Found)
+  turn_follows : (again : ℕ → List ℕ → ReadingResult) (start : ℕ) (whole : List ℕ) (r : Read Found)
       → ((at : ℕ) → again at [] ≡ form x from «end» next → ⊥)
       → ((at : ℕ) (cs : List ℕ) → again at cs ≡ form x from «end» next → «end» < at + length cs → reads_at setting at (cs ++ more) ≡ form x from «end» next)
       → Parts 0 whole r → Follows more (first setting (whole ++ more)) r → «end» < start + length whole

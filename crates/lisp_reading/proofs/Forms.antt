@@ -11,7 +11,7 @@ use Rattle.lisp_reading.specs.Plans.{Read, run}
 use Rattle.lisp_reading.specs.Setting.{Setting}
 use Rattle.lisp_reading.specs.declared.found.Found.{Found}
 use Rattle.lisp_reading.specs.declared.found.Found.TheVariants.{Nothing as nothing, One as one, LoneDot as lone_dot, TheEnd as the_end}
-use Rattle.lisp_reading.specs.Reading.{is_whitespace, token_found, attempt, Outcome, form, space_at, outcome, reads_in, reads_at, reads, IsFramed}
+use Rattle.lisp_reading.specs.Reading.{is_whitespace, token_found, attempt, ReadingResult, form, space_at, outcome, reads_in, reads_at, reads, IsFramed}
 use Rattle.lisp_reading.proofs.Framing.{Framed, framed}
 use Rattle.lisp_reading.proofs.Steps.{eats}
 use Rattle.lisp_reading.proofs.Offsets.{Parted, Parts, parts}
@@ -47,7 +47,7 @@ stood_behind setting begun at whole cs x start «end» next p s = record {
   next_is = s.next_is;
 }
 
-stood_step : (setting : Setting) (more : ℕ → List ℕ → Outcome) (begun : ℕ) (whole : List ℕ) (x : Object) (start «end» next : ℕ) (r : Read Found)
+stood_step : (setting : Setting) (more : ℕ → List ℕ → ReadingResult) (begun : ℕ) (whole : List ℕ) (x : Object) (start «end» next : ℕ) (r : Read Found)
     → ((at : ℕ) (cs : List ℕ) → more at cs ≡ form x start «end» next → Stood setting at cs x start «end» next)
     → first setting whole ≡ r → Parts 0 whole r → outcome setting.table begun more r ≡ form x start «end» next → Stood setting begun whole x start «end» next
 stood_step setting more begun whole x start «end» next (Ok (nothing token, at, cs)) all found p e =
@@ -167,7 +167,7 @@ nothing_takes setting whole cs token at found p =
     let total : length whole ≡ length p.taken + length cs = ap length p.split ∙ length-append p.taken cs in
     omega (arith, some, p.offset, total)
 
-outcome_same : (setting : Setting) (more again : ℕ → List ℕ → Outcome) (start : ℕ) (whole : List ℕ) (r : Read Found) → first setting whole ≡ r → Parts 0 whole r
+outcome_same : (setting : Setting) (more again : ℕ → List ℕ → ReadingResult) (start : ℕ) (whole : List ℕ) (r : Read Found) → first setting whole ≡ r → Parts 0 whole r
     → ((at : ℕ) (cs : List ℕ) → length cs < length whole → more at cs ≡ again at cs) → outcome setting.table start more r ≡ outcome setting.table start again r
 outcome_same setting more again start whole (Ok (nothing token, at, cs)) found p same = same (start + at) cs (nothing_takes setting whole cs token at found p)
 outcome_same setting more again start whole (Ok (one token x, at, cs)) found p same = refl

@@ -19,8 +19,8 @@ use Rattle.std_macros.specs.declared.refusal.StdRefusal.{StdRefusal}
 use Rattle.std_macros.specs.Values.{Value, value_of, Material, nothing as no_material, one as one_object, many, dotted, letters, marked}
 use Rattle.lisp_reading.specs.declared.found.Found.{Found}
 use Rattle.lisp_reading.specs.declared.found.Found.TheVariants.{Nothing as nothing, One as one, LoneDot as lone_dot, TheEnd as the_end}
-use Rattle.lisp_reading.specs.declared.told.Told.{Told}
-use Rattle.lisp_reading.specs.declared.told.Told.TheVariants.{Object as told_object, Dot as dot_alone}
+use Rattle.lisp_reading.specs.declared.told.ResolvedToken.{ResolvedToken}
+use Rattle.lisp_reading.specs.declared.told.ResolvedToken.TheVariants.{Object as told_object, Dot as dot_alone}
 use Rattle.lisp_reading.specs.declared.way.Function.{Function}
 use Rattle.lisp_reading.specs.declared.way.Function.TheVariants.{Standard as AStandard, User}
 use Rattle.lisp_reading.specs.declared.way.Way.{Way}
@@ -319,7 +319,7 @@ module _ (setting : Setting) (V : ℕ → Object → Type 0) (laws : AreKept set
     alone_keeps c MultipleEscape = omega arith
     alone_keeps c Invalid = omega arith
 
-    told_keeps : (marks : List Mark) (r : Result Told ℕ) → token_meant setting marks ≡ r → Keeps (FoundAt V room) false (told_found r)
+    told_keeps : (marks : List Mark) (r : Result ResolvedToken ℕ) → token_meant setting marks ≡ r → Keeps (FoundAt V room) false (told_found r)
     told_keeps marks (Ok (told_object x)) e = laws.tokens room marks x e
     told_keeps marks (Ok dot_alone) e = tt
     told_keeps marks (Err code) e = omega arith

@@ -17,7 +17,7 @@ use Rattle.token_meaning.specs.Results.{scan_refusal_number}
 use Rattle.lisp_reading.specs.declared.found.Found.{Found}
 use Rattle.lisp_reading.specs.declared.found.Found.TheVariants.{Nothing as nothing, One as one, LoneDot as lone_dot, TheEnd as the_end}
 use Rattle.lisp_reading.specs.Plans.{Fault, Read, limited_token, stands_below, within, token_at_front}
-use Rattle.lisp_reading.specs.Reading.{Outcome, form, outcome}
+use Rattle.lisp_reading.specs.Reading.{ReadingResult, form, outcome}
 
 -- ---- results
 
@@ -46,7 +46,7 @@ pub fault_too : {B : Type 0} (b : Bool) (e e2 : Fault) (r : Result B Fault) → 
 fault_too true e e2 r = tt
 fault_too false e e2 r = tt
 
-pub outcome_too : (table : Table) (x : Object) (from «end» next : ℕ) (again again2 : ℕ → List ℕ → Outcome) (start : ℕ) (r r2 : Read Found)
+pub outcome_too : (table : Table) (x : Object) (from «end» next : ℕ) (again again2 : ℕ → List ℕ → ReadingResult) (start : ℕ) (r r2 : Read Found)
     → ((at : ℕ) (cs : List ℕ) → again at cs ≡ form x from «end» next → again2 at cs ≡ form x from «end» next) → GivesToo r r2
     → outcome table start again r ≡ form x from «end» next → outcome table start again2 r2 ≡ form x from «end» next
 outcome_too table x from «end» next again again2 start (Ok (nothing token, at, cs)) r2 all h e = ap (outcome table start again2) h ∙ all (start + at) cs e

@@ -31,8 +31,8 @@ use Rattle.std_macros.specs.Results.{std_refusal_number}
 use Rattle.std_macros.specs.Values.{Value, value_of, Material, nothing as no_material, one as one_object, many, dotted, letters, marked}
 use Rattle.lisp_reading.specs.declared.found.Found.{Found}
 use Rattle.lisp_reading.specs.declared.found.Found.TheVariants.{Nothing as nothing, One as one, LoneDot as lone_dot, TheEnd as the_end}
-use Rattle.lisp_reading.specs.declared.told.Told.{Told}
-use Rattle.lisp_reading.specs.declared.told.Told.TheVariants.{Object as told_object, Dot as dot_alone}
+use Rattle.lisp_reading.specs.declared.told.ResolvedToken.{ResolvedToken}
+use Rattle.lisp_reading.specs.declared.told.ResolvedToken.TheVariants.{Object as told_object, Dot as dot_alone}
 use Rattle.lisp_reading.specs.declared.way.Function.{Function}
 use Rattle.lisp_reading.specs.declared.way.Function.TheVariants.{Standard as AStandard, User}
 use Rattle.lisp_reading.specs.declared.way.Way.{Way}
@@ -43,7 +43,7 @@ use Rattle.lisp_reading.specs.Setting.{Setting, macro_call, way_in, function_of}
 use Rattle.lisp_reading.specs.Gathering.{text_turn, line_turn, block_turn, number_turn}
 use Rattle.lisp_reading.specs.Naming.{symbol_in, symbol_at, named, told_meaning, token_meant}
 use Rattle.lisp_reading.specs.Answering.{may_be_answered}
-use Rattle.lisp_reading.specs.Reading.{Piece, item, dot, closed, is_whitespace, without_space, piece_of, or_closed, next_item_turn, next_item, Items, items_step, items_turn, items_after, undotted_plan, after_tail, after_dot, list_end, one_piece, bytes_back, finished_plan, plan_after_answer, completed_by, completed_call, opened_plan, gathering_plan, gathered_by, call_plan, sub_called, sub_there, dispatch_plan, macro_called, stands_alone, alone, told_found, token_found, attempt_by, inner, attempt, Outcome, form, empty, refused, outcome, reads_in, reads, text_to, line_after, block_after, number_after}
+use Rattle.lisp_reading.specs.Reading.{Piece, item, dot, closed, is_whitespace, without_space, piece_of, or_closed, next_item_turn, next_item, Items, items_step, items_turn, items_after, undotted_plan, after_tail, after_dot, list_end, one_piece, bytes_back, finished_plan, plan_after_answer, completed_by, completed_call, opened_plan, gathering_plan, gathered_by, call_plan, sub_called, sub_there, dispatch_plan, macro_called, stands_alone, alone, told_found, token_found, attempt_by, inner, attempt, ReadingResult, form, empty, refused, outcome, reads_in, reads, text_to, line_after, block_after, number_after}
 use Rattle.lisp_reading.proofs.NumberedPlans.{IsOfReading, Numbered, NumberedResult, run_numbered, gives_numbered, refuses_numbered, takes_numbered, scans_numbered, then_numbered, if_numbered, next_byte_numbered, loop_numbered, text_numbered, line_numbered, block_numbered, number_numbered}
 
 -- ---- what tokens mean
@@ -103,7 +103,7 @@ told_numbered packages current (Ok a_dot) = tt
 told_numbered packages current (Ok (name own)) = named_numbered packages current own
 told_numbered packages current (Err refusal) = meaning_numbered refusal
 
-told_found_numbered : (r : Result Told ℕ) → IfErr r IsOfReading → Numbered (told_found r)
+told_found_numbered : (r : Result ResolvedToken ℕ) → IfErr r IsOfReading → Numbered (told_found r)
 told_found_numbered (Ok (told_object x)) h = gives_numbered (one true x)
 told_found_numbered (Ok dot_alone) h = gives_numbered lone_dot
 told_found_numbered (Err code) h = refuses_numbered _ code 0 h
@@ -307,12 +307,12 @@ attempt_numbered setting room = attempt_by_numbered setting (setting.limits.nest
 
 -- ---- forms
 
-abbrev NumberedOutcome : Outcome → Type 0
+abbrev NumberedOutcome : ReadingResult → Type 0
 NumberedOutcome (form x start «end» next) = Unit {0}
 NumberedOutcome empty = Unit {0}
 NumberedOutcome (refused code offset) = IsOfReading code
 
-outcome_numbered : (table : Table) (start : ℕ) (more : ℕ → List ℕ → Outcome) (r : Read Found) → ((next : ℕ) (cs : List ℕ) → NumberedOutcome (more next cs))
+outcome_numbered : (table : Table) (start : ℕ) (more : ℕ → List ℕ → ReadingResult) (r : Read Found) → ((next : ℕ) (cs : List ℕ) → NumberedOutcome (more next cs))
     → NumberedResult r → NumberedOutcome (outcome table start more r)
 outcome_numbered table start more (Ok (nothing token, at, cs)) all h = all (start + at) cs
 outcome_numbered table start more (Ok (one token x, at, cs)) all h = tt
@@ -328,7 +328,7 @@ reads_in_numbered setting (suc n) start text =
     (λ next cs. reads_in_numbered setting n next cs)
     (run_numbered setting.table setting.limits (attempt setting setting.limits.nesting) 0 text (attempt_numbered setting setting.limits.nesting))
 
-refused_under : (o : Outcome) (code at : ℕ) → o ≡ refused code at → NumberedOutcome o → IsOfReading code
+refused_under : (o : ReadingResult) (code at : ℕ) → o ≡ refused code at → NumberedOutcome o → IsOfReading code
 refused_under (form x start «end» next) code at e h = absurd cc
 refused_under empty code at e h = absurd cc
 refused_under (refused given there) code at e h = let same : given ≡ code = cc in subst IsOfReading same h

@@ -4,7 +4,7 @@ use Rattle.lisp_reading.specs.declared.found.Found.{Found}
 use Rattle.lisp_reading.specs.declared.found.Found.TheVariants.{Nothing as nothing, One as one, LoneDot as lone_dot, TheEnd as the_end}
 use Rattle.lisp_reading.specs.Plans.{Read}
 use Rattle.lisp_reading.specs.Setting.{Setting}
-use Rattle.lisp_reading.specs.Reading.{Outcome, empty, refused, next_item, attempt, outcome, reads_in, reads_at, reads}
+use Rattle.lisp_reading.specs.Reading.{ReadingResult, empty, refused, next_item, attempt, outcome, reads_in, reads_at, reads}
 use Rattle.lisp_reading.proofs.Faults.{Decided, decided}
 use Rattle.lisp_reading.proofs.Following.{Follows, follows}
 use Rattle.lisp_reading.proofs.Forms.{first, reads_is, the_end_there}
@@ -32,10 +32,10 @@ module _ (setting : Setting) (code offset : ℕ) where
   abbrev Stays : ℕ → List ℕ → Type 0
   Stays start whole = (offset ≤ start + length whole) × (offset < start + length whole → (more : List ℕ) → reads_at setting start (whole ++ more) ≡ refused code offset)
 
-  abbrev goes : ℕ → Read Found → Outcome
+  abbrev goes : ℕ → Read Found → ReadingResult
   goes start r = outcome setting.table start (λ next cs. reads_at setting next cs) r
 
-  turn_stays : (again : ℕ → List ℕ → Outcome) (start : ℕ) (whole : List ℕ) (r : Read Found) → ((at : ℕ) → again at [] ≡ refused code offset → ⊥)
+  turn_stays : (again : ℕ → List ℕ → ReadingResult) (start : ℕ) (whole : List ℕ) (r : Read Found) → ((at : ℕ) → again at [] ≡ refused code offset → ⊥)
       → ((at : ℕ) (cs : List ℕ) → again at cs ≡ refused code offset → Stays at cs) → Parts 0 whole r
       → ((more : List ℕ) → Follows more (first setting (whole ++ more)) r) → Decided 0 0 (0 + length whole) (λ more. first setting (whole ++ more)) r
       → outcome setting.table start again r ≡ refused code offset → Stays start whole

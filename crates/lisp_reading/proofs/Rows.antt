@@ -15,7 +15,7 @@ use Rattle.user_macros.specs.Calls.{Material, MacroCall, MacroAnswer, value, no_
 use Rattle.user_macros.specs.Calls as words
 use Rattle.lisp_reading.specs.Plans.{then_plan, loop_in, run}
 use Rattle.lisp_reading.specs.Setting.{Setting}
-use Rattle.lisp_reading.specs.Reading.{Outcome, form, empty, refused, inner, reads_in, reads}
+use Rattle.lisp_reading.specs.Reading.{ReadingResult, form, empty, refused, inner, reads_in, reads}
 
 -- ---- a small setting
 
@@ -87,20 +87,20 @@ small table = record {
 
 -- ---- rows: a text, and its outcome
 
-abbrev outcomes : (List ℕ → Outcome) → List (List ℕ × Outcome) → List Outcome
+abbrev outcomes : (List ℕ → ReadingResult) → List (List ℕ × ReadingResult) → List ReadingResult
 outcomes f [] = []
 outcomes f (r ∷ rs) = f r.0 ∷ outcomes f rs
 
-abbrev expected : List (List ℕ × Outcome) → List Outcome
+abbrev expected : List (List ℕ × ReadingResult) → List ReadingResult
 expected [] = []
 expected (r ∷ rs) = r.1 ∷ expected rs
 
 -- everything that a row computes through
-unfoldable read : List ℕ → Outcome
+unfoldable read : List ℕ → ReadingResult
 unfolding reads reads_in run then_plan inner loop_in outside numerals.numeral_value own_table standard last_of
 read text = reads (small own_table) text
 
-abbrev first_rows : List (List ℕ × Outcome)
+abbrev first_rows : List (List ℕ × ReadingResult)
 first_rows =
     (codes "  ", empty)
     ∷ (codes " 12 (3)", form (integer (pos 12)) 1 3 4)
@@ -137,11 +137,11 @@ first_rows_read = refl
 abbrev blank_entry : CharacterEntry
 blank_entry = record { syntax = Whitespace; function = None; dispatch = [] }
 
-unfoldable read_blank : List ℕ → Outcome
+unfoldable read_blank : List ℕ → ReadingResult
 unfolding reads reads_in run then_plan inner loop_in outside numerals.numeral_value own_table standard last_of
 read_blank text = reads (small (at_char (at_char own_table 93 blank_entry) 41 blank_entry)) text
 
-abbrev blank_rows : List (List ℕ × Outcome)
+abbrev blank_rows : List (List ℕ × ReadingResult)
 blank_rows =
     (codes "[1 2]", refused 1 5)
     ∷ (codes "[1 2 ]", form (vector (list_of (integer (pos 1) ∷ integer (pos 2) ∷ []))) 0 6 6)
@@ -154,7 +154,7 @@ blank_rows_read : outcomes read_blank blank_rows ≡ expected blank_rows
 unfolding read_blank
 blank_rows_read = refl
 
-unfoldable read_mute : List ℕ → Outcome
+unfoldable read_mute : List ℕ → ReadingResult
 unfolding reads reads_in run then_plan inner loop_in outside numerals.numeral_value own_table standard last_of
 read_mute text = reads (small (at_char (at_char own_table 93 blank_entry) 37 (macro_entry (codes "MUTE")))) text
 
@@ -164,11 +164,11 @@ blank_after_mute = refl
 
 -- ---- small limits
 
-unfoldable read_short : List ℕ → Outcome
+unfoldable read_short : List ℕ → ReadingResult
 unfolding reads reads_in run then_plan inner loop_in outside numerals.numeral_value own_table standard last_of
 read_short text = reads (record (small own_table) { limits = record { text = 5; token = 3; nesting = 2 } }) text
 
-abbrev short_rows : List (List ℕ × Outcome)
+abbrev short_rows : List (List ℕ × ReadingResult)
 short_rows =
     (codes "(1 2)", form (list_of (integer (pos 1) ∷ integer (pos 2) ∷ [])) 0 5 5)
     ∷ (codes "(1 23", refused 1 5)
@@ -196,7 +196,7 @@ long_text = refl
 
 -- ---- refusals
 
-abbrev refusal_rows : List (List ℕ × Outcome)
+abbrev refusal_rows : List (List ℕ × ReadingResult)
 refusal_rows =
     (codes "(1 ,2)", refused 25 3)
     ∷ (codes "#.a", refused 25 1)
@@ -220,7 +220,7 @@ refusal_rows_read = refl
 
 -- ---- packages, characters, rationals, vectors
 
-abbrev value_rows : List (List ℕ × Outcome)
+abbrev value_rows : List (List ℕ × ReadingResult)
 value_rows =
     (codes ":k ", form (symbol (codes "KEYWORD") (codes "K")) 0 2 3)
     ∷ (codes "NOPE::", refused 10 6)

@@ -6,8 +6,8 @@ use Rattle.lisp_reading.specs.Setting.{Setting}
 use Rattle.lisp_reading.specs.Reading.{attempt}
 
 -- No text, or what an attempt takes and gives no object for, and discarded text after it.
-pub data IsDiscarded (setting : Setting) : List ℕ → Type 0 where
-  nothing : IsDiscarded setting []
+pub data IsDiscardedText (setting : Setting) : List ℕ → Type 0 where
+  nothing : IsDiscardedText setting []
   more : (text rest : List ℕ) (token : Bool) (at : ℕ)
       → run setting.table setting.limits (attempt setting setting.limits.nesting) 0 text ≡ Ok (nothing_found token, at, rest)
-      → IsDiscarded setting rest → IsDiscarded setting text
+      → IsDiscardedText setting rest → IsDiscardedText setting text

@@ -14,44 +14,44 @@ use Rattle.token_meaning.specs.Meanings.{Meaning, number, dot, name, meaning_of}
 use Rattle.token_meaning.specs.Results.{meaning_refusal_number}
 use Rattle.package_table.specs.declared.resolve.Resolved.{Resolved}
 use Rattle.std.specs.Borrow.{Bor}
-use Rattle.lisp_reading.specs.declared.told.Told.{Told}
-use Rattle.lisp_reading.specs.declared.told.Told.TheVariants.{Object as object, Dot as dot_alone}
-use Rattle.lisp_reading.specs.declared.told.TellError.{TellError}
-use Rattle.lisp_reading.specs.declared.told.TellError.TheVariants.{OutOfMemory, Refused}
+use Rattle.lisp_reading.specs.declared.told.ResolvedToken.{ResolvedToken}
+use Rattle.lisp_reading.specs.declared.told.ResolvedToken.TheVariants.{Object as object, Dot as dot_alone}
+use Rattle.lisp_reading.specs.declared.told.ResolutionError.{ResolutionError}
+use Rattle.lisp_reading.specs.declared.told.ResolutionError.TheVariants.{OutOfMemory, Refused}
 use Rattle.lisp_reading.specs.Setting.{Setting}
 
 -- the symbol of this name at the home that was found, or the number of the refusal
-abbrev pub symbol_at : Name → Result Name PackageError → Result Told ℕ
+abbrev pub symbol_at : Name → Result Name PackageError → Result ResolvedToken ℕ
 symbol_at own (Ok home) = Ok (object (symbol home own))
 symbol_at own (Err e) = Err (package_error_number e)
 
 -- the symbol of this name, at home where it is found or would be made; or the number of the refusal
-abbrev pub symbol_in : Name → Result Resolution PackageError → Result Told ℕ
+abbrev pub symbol_in : Name → Result Resolution PackageError → Result ResolvedToken ℕ
 symbol_in own (Ok r) = Ok (object (symbol (home_of r) own))
 symbol_in own (Err e) = Err (package_error_number e)
 
 -- The symbol of a name (standard 2.3.5): in the current package; of KEYWORD; external in a package; in a package.
-abbrev pub named : Packages → Name → TokenName → Result Told ℕ
+abbrev pub named : Packages → Name → TokenName → Result ResolvedToken ℕ
 named packages current (Unqualified own) = symbol_in own (resolution packages current own)
 named packages current (Keyword own) = Ok (object (symbol keyword own))
 named packages current (External prefix own) = symbol_at own (external_resolution packages prefix own)
 named packages current (Internal prefix own) = symbol_in own (internal_resolution packages prefix own)
 
 -- the object that a token means: a number, or a symbol; a dot alone is none
-abbrev pub told_meaning : Packages → Name → Result Meaning MeaningRefusal → Result Told ℕ
+abbrev pub told_meaning : Packages → Name → Result Meaning MeaningRefusal → Result ResolvedToken ℕ
 told_meaning packages current (Ok (number x)) = Ok (object x)
 told_meaning packages current (Ok dot) = Ok dot_alone
 told_meaning packages current (Ok (name own)) = named packages current own
 told_meaning packages current (Err refusal) = Err (meaning_refusal_number refusal)
 
 -- the meaning of a token with these marks, or the number of its refusal
-abbrev pub token_meant : Setting → List Mark → Result Told ℕ
+abbrev pub token_meant : Setting → List Mark → Result ResolvedToken ℕ
 token_meant setting marks = told_meaning setting.packages setting.current (meaning_of setting.base (folded_marks setting.table.letters marks))
 
 -- ---- what the calls answer
 
 -- what was answered is the meaning, unless memory ran out
-abbrev pub TellsMeaning : Result Told TellError → Result Told ℕ → Type 0
+abbrev pub TellsMeaning : Result ResolvedToken ResolutionError → Result ResolvedToken ℕ → Type 0
 TellsMeaning (Ok answer) meaning = meaning ≡ Ok answer
 TellsMeaning (Err OutOfMemory) meaning = Unit {0}
 TellsMeaning (Err (Refused refusal_number)) meaning = meaning ≡ Err refusal_number

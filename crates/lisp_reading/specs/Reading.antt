@@ -15,8 +15,8 @@ use Rattle.std_macros.specs.Values.{Value, value_of, Material, nothing as no_mat
 use Rattle.std_macros.specs.Results.{std_refusal_number}
 use Rattle.lisp_reading.specs.declared.found.Found.{Found}
 use Rattle.lisp_reading.specs.declared.found.Found.TheVariants.{Nothing as nothing, One as one, LoneDot as lone_dot, TheEnd as the_end}
-use Rattle.lisp_reading.specs.declared.told.Told.{Told}
-use Rattle.lisp_reading.specs.declared.told.Told.TheVariants.{Object as told_object, Dot as dot_alone}
+use Rattle.lisp_reading.specs.declared.told.ResolvedToken.{ResolvedToken}
+use Rattle.lisp_reading.specs.declared.told.ResolvedToken.TheVariants.{Object as told_object, Dot as dot_alone}
 use Rattle.lisp_reading.specs.declared.way.Function.{Function}
 use Rattle.lisp_reading.specs.declared.way.Function.TheVariants.{Standard as AStandard, User}
 use Rattle.lisp_reading.specs.declared.way.Keep.{Keep}
@@ -268,7 +268,7 @@ alone setting depth inner c NonTerminatingMacro = macro_called setting depth inn
 alone setting depth inner c _ = refuses INVALID_CHARACTER 1
 
 -- a token is an object, or a dot, or is refused where it ends
-abbrev pub told_found : Result Told ℕ → Plan Found
+abbrev pub told_found : Result ResolvedToken ℕ → Plan Found
 told_found (Ok (told_object x)) = gives (one true x)
 told_found (Ok dot_alone) = gives lone_dot
 told_found (Err number) = refuses number 0
@@ -296,12 +296,12 @@ attempt setting room = attempt_by setting (setting.limits.nesting - room) (inner
 -- ---- the outermost object
 
 -- what a text begins with: a form, nothing but discarded text, or what is refused
-pub data Outcome : Type 0 where
+pub data ReadingResult : Type 0 where
   -- its start, its end, and where the next form begins
-  form : Object → ℕ → ℕ → ℕ → Outcome
-  empty : Outcome
+  form : Object → ℕ → ℕ → ℕ → ReadingResult
+  empty : ReadingResult
   -- the number of the refusal, and its offset
-  refused : ℕ → ℕ → Outcome
+  refused : ℕ → ℕ → ReadingResult
 
 -- how many bytes are discarded with an object: the one whitespace character that ended its token
 abbrev pub space_at : Table → Bool → List ℕ → ℕ
@@ -310,7 +310,7 @@ space_at table true [] = 0
 space_at table true (c ∷ cs) = if is_whitespace table c then 1 else 0
 
 -- of an attempt that began at start; after discarded text a new one begins
-abbrev pub outcome : Table → ℕ → (ℕ → List ℕ → Outcome) → Read Found → Outcome
+abbrev pub outcome : Table → ℕ → (ℕ → List ℕ → ReadingResult) → Read Found → ReadingResult
 outcome table start more (Ok (nothing token, at, cs)) = more (start + at) cs
 outcome table start more (Ok (one token x, at, cs)) = form x start (start + at) (start + at + space_at table token cs)
 outcome table start more (Ok (lone_dot, at, cs)) = refused DOT_CONTEXT (start + at)
@@ -318,18 +318,18 @@ outcome table start more (Ok (the_end, at, cs)) = empty
 outcome table start more (Err e) = refused e.number (start + e.at)
 
 -- of the text from this offset on; the number bounds the turns
-unfoldable pub reads_in : Setting → ℕ → ℕ → List ℕ → Outcome
+unfoldable pub reads_in : Setting → ℕ → ℕ → List ℕ → ReadingResult
 reads_in setting zero start text = empty
 reads_in setting (suc n) start text =
     outcome setting.table start (λ next cs. reads_in setting n next cs)
     (run setting.table setting.limits (attempt setting setting.limits.nesting) 0 text)
 
 -- Each turn takes a byte or is the last one, so the length of the text is always enough.
-abbrev pub reads_at : Setting → ℕ → List ℕ → Outcome
+abbrev pub reads_at : Setting → ℕ → List ℕ → ReadingResult
 reads_at setting start text = reads_in setting (length text + 1) start text
 
 -- What a text begins with.
-unfoldable pub reads : Setting → List ℕ → Outcome
+unfoldable pub reads : Setting → List ℕ → ReadingResult
 reads setting text = reads_at setting 0 text
 
 -- ---- the text of a form

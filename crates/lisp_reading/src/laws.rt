@@ -14,7 +14,7 @@ ghost use Rattle.lisp_reading.specs.Gathering.{text_turn, line_turn, block_turn,
 ghost use Rattle.lisp_reading.specs.Reading.{is_whitespace, form, empty, refused, next_item_turn, next_item, items_turn, items_after, attempt, outcome, reads_at, reads, IsFramed};
 ghost use Rattle.lisp_reading.specs.Deciding.{deciding, decided_at, decided_from};
 ghost use Rattle.lisp_reading.specs.SamePackages.{FindsSame};
-ghost use Rattle.lisp_reading.specs.DiscardedText.{IsDiscarded};
+ghost use Rattle.lisp_reading.specs.DiscardedText.{IsDiscardedText};
 ghost use Rattle.lisp_reading.specs.Fitting.{IsFitting};
 
 /// A form is read again, alone, from the bytes from its start up to its end. They are one byte or more, and with it at
@@ -41,9 +41,9 @@ pub fn forms_are_within_the_limit()
 /// A text is empty exactly where it is discarded text: whitespace, and calls that give no object, one after the other.
 pub fn empty_texts_are_discarded()
     ensures discarded { (setting : Setting) (text : List ℕ)
-        → reads setting text ≡ empty → IsDiscarded setting text }
+        → reads setting text ≡ empty → IsDiscardedText setting text }
     ensures empty { (setting : Setting) (text : List ℕ)
-        → IsDiscarded setting text → reads setting text ≡ empty }
+        → IsDiscardedText setting text → reads setting text ≡ empty }
 {}
 
 /// A refusal is at the end of the text at most, and one before the end is the same whatever follows the text. So a reader

@@ -59,6 +59,6 @@ pub use laws::{
     spaced_forms_are_framed,
 };
 pub use limits::Limits;
-pub use told::{TellError, Told, tell};
+pub use told::{ResolutionError, ResolvedToken, tell};
 pub use way::{Function, Keep, Way};
 pub use ways::{function_of, is_baseless, standard_way, user_way};

@@ -8,7 +8,7 @@ ghost use Rattle.token_scan.specs.Marks.{are_ascii};
 ghost use Rattle.token_meaning.specs.Folding.{folded_marks};
 ghost use Rattle.token_meaning.specs.Meanings.{meaning_of};
 ghost use Rattle.token_meaning.specs.Results.{is_ascii_name, view_meaning, IsProperNumber, HasAsciiName};
-ghost use Rattle.lisp_reading.specs.declared.told.TellError.TheVariants.{OutOfMemory};
+ghost use Rattle.lisp_reading.specs.declared.told.ResolutionError.TheVariants.{OutOfMemory};
 ghost use Rattle.lisp_reading.specs.Naming.{named, symbol_at, symbol_in, told_meaning, TellsMeaning, view_resolved, view_home};
 
 use crate::held::HeldObject;
@@ -22,7 +22,7 @@ use token_scan::Marks;
 
 /// What a token means.
 #[derive(Drop)]
-pub enum Told {
+pub enum ResolvedToken {
     /// An object.
     Object(HeldObject),
     /// The dot of a list.
@@ -31,18 +31,18 @@ pub enum Told {
 
 /// Why nothing was told: out of memory, or the number of a refusal.
 #[derive(Clone, Copy)]
-pub enum TellError {
+pub enum ResolutionError {
     OutOfMemory,
     Refused(u16),
 }
 
-impl From<AllocError> for TellError {
-    ghost use Rattle.lisp_reading.specs.declared.told.TellError.TheVariants.{OutOfMemory};
+impl From<AllocError> for ResolutionError {
+    ghost use Rattle.lisp_reading.specs.declared.told.ResolutionError.TheVariants.{OutOfMemory};
 
     ghost from_gives = { λ _ e. e ≡ OutOfMemory };
 
-    fn from(_error: AllocError) -> TellError {
-        TellError::OutOfMemory
+    fn from(_error: AllocError) -> ResolutionError {
+        ResolutionError::OutOfMemory
     }
 }
 
@@ -56,7 +56,7 @@ pub fn tell(
     current: &[u8],
     base: u8,
     mut marks: Marks,
-) -> Result<Told, TellError>
+) -> Result<ResolvedToken, ResolutionError>
     requires marks { 0 < length marks.items }
     requires ascii { IsTrue (are_ascii marks.items) }
     requires lowest_base { 2 ≤ base }
@@ -68,8 +68,8 @@ pub fn tell(
     fold_case(case, marks.as_mut_slice());
     match meaning(alloc, marks.as_slice(), base) {
         Ok(meant) => tell_meaning(alloc, packages, current, meant),
-        Err(MeaningError::OutOfMemory) => Err(TellError::OutOfMemory),
-        Err(MeaningError::Refused(refusal)) => Err(TellError::Refused(refusal.number())),
+        Err(MeaningError::OutOfMemory) => Err(ResolutionError::OutOfMemory),
+        Err(MeaningError::Refused(refusal)) => Err(ResolutionError::Refused(refusal.number())),
     }
 }
 
@@ -79,7 +79,7 @@ fn tell_meaning(
     packages: &Packages,
     current: &[u8],
     meant: TokenMeaning,
-) -> Result<Told, TellError>
+) -> Result<ResolvedToken, ResolutionError>
     requires proper { IsProperNumber meant }
     requires ascii { HasAsciiName meant }
     requires current { IsPackage packages.now.0 current.now }
@@ -89,9 +89,9 @@ fn tell_meaning(
         TokenMeaning::Number(datum) => {
             // The number is looked at: it is sound.
             let _proper = datum.is_proper();
-            Ok(Told::Object(HeldObject::new(datum)))
+            Ok(ResolvedToken::Object(HeldObject::new(datum)))
         }
-        TokenMeaning::Dot => Ok(Told::Dot),
+        TokenMeaning::Dot => Ok(ResolvedToken::Dot),
         TokenMeaning::Name(own) => named(alloc, packages, current, own),
     }
 }
@@ -104,7 +104,7 @@ fn named(
     packages: &Packages,
     current: &[u8],
     own: TokenName,
-) -> Result<Told, TellError>
+) -> Result<ResolvedToken, ResolutionError>
     requires ascii { is_ascii_name own ≡ true }
     requires current { IsPackage packages.now.0 current.now }
     ensures { TellsMeaning result (named packages.now.0 current.now own) }
@@ -115,7 +115,9 @@ fn named(
             let resolved = packages.resolve(current, name.as_slice());
             symbol_in(alloc, resolved, name)
         }
-        TokenName::Keyword(name) => Ok(Told::Object(HeldObject::symbol(alloc, KEYWORD, name)?)),
+        TokenName::Keyword(name) => Ok(ResolvedToken::Object(HeldObject::symbol(
+            alloc, KEYWORD, name,
+        )?)),
         TokenName::External { package, name } => {
             let home = packages.resolve_external(package.as_slice(), name.as_slice());
             symbol_at(alloc, home, name)
@@ -133,15 +135,19 @@ fn symbol_in(
     alloc: Global,
     resolved: Result<Resolved<'_>, PackageError>,
     name: Bytes,
-) -> Result<Told, TellError>
+) -> Result<ResolvedToken, ResolutionError>
     requires home { IfOk resolved (λ r. list_all is_ascii (home_of (resolution_of r)) ≡ true) }
     requires name { list_all is_ascii name ≡ true }
     ensures { TellsMeaning result (symbol_in name (view_resolved resolved.entry)) }
 {
     match resolved {
-        Ok(Resolved::Found(home)) => Ok(Told::Object(HeldObject::symbol(alloc, home, name)?)),
-        Ok(Resolved::New(home)) => Ok(Told::Object(HeldObject::symbol(alloc, home, name)?)),
-        Err(error) => Err(TellError::Refused(error.number())),
+        Ok(Resolved::Found(home)) => Ok(ResolvedToken::Object(HeldObject::symbol(
+            alloc, home, name,
+        )?)),
+        Ok(Resolved::New(home)) => Ok(ResolvedToken::Object(HeldObject::symbol(
+            alloc, home, name,
+        )?)),
+        Err(error) => Err(ResolutionError::Refused(error.number())),
     }
 }
 
@@ -151,13 +157,13 @@ fn symbol_at(
     alloc: Global,
     found: Result<&[u8], PackageError>,
     name: Bytes,
-) -> Result<Told, TellError>
+) -> Result<ResolvedToken, ResolutionError>
     requires home { IfOk found (λ h. list_all is_ascii h.now ≡ true) }
     requires name { list_all is_ascii name ≡ true }
     ensures { TellsMeaning result (symbol_at name (view_home found.entry)) }
 {
     match found {
-        Ok(home) => Ok(Told::Object(HeldObject::symbol(alloc, home, name)?)),
-        Err(error) => Err(TellError::Refused(error.number())),
+        Ok(home) => Ok(ResolvedToken::Object(HeldObject::symbol(alloc, home, name)?)),
+        Err(error) => Err(ResolutionError::Refused(error.number())),
     }
 }

@@ -3,7 +3,7 @@ use Rattle.std.specs.Prelude.{◌≡◌, ◌⊎◌, ℕ, ◌<◌, ◌≤◌, Lis
 use Rattle.disk_trait.specs.Disk.{Image, file_of, other_of}
 use Rattle.disk_trait.specs.declared.half.Half.{Half}
 use Rattle.disk_trait.specs.declared.half.Half.TheVariants.{A, B}
-use Rattle.gate_log.specs.Layout.{IsOpen, generation_of}
+use Rattle.gate_log.specs.Layout.{HasOpenGate, generation_of}
 use Rattle.log_look.specs.LookResults.{image_of}
 use Rattle.log_look.specs.NeitherOpen.{AreShut}
 use Rattle.log_look.specs.declared.error.LookError.{LookError}
@@ -15,7 +15,7 @@ pub record AreAtRest (files : ℕ → Image) (from to : ℕ) (image : Image) : T
 
 -- the file is open, has a whole header, and a generation from 1 on
 pub record HasHeader (file : List ℕ) : Type 0 where
-  pub is_open : IsOpen file
+  pub is_open : HasOpenGate file
   pub whole : 16 ≤ length file
   pub from_one : 0 < generation_of file
 
@@ -44,7 +44,7 @@ pub record HasHalf (half : Half) (image seen : Image) : Type 0 where
 pub record HasNoHeader (image seen : Image) : Type 0 where
   pub no_a : HasHeader image.a → ⊥
   pub no_b : HasHeader image.b → ⊥
-  pub settled : (length image.b ≡ 0) ⊎ IsOpen image.a ⊎ IsOpen image.b
+  pub settled : (length image.b ≡ 0) ⊎ HasOpenGate image.a ⊎ HasOpenGate image.b
   pub is : seen ≡ record { a = take 16 image.a; b = take 16 image.b }
 
 -- what a look gives of these files
@@ -52,8 +52,8 @@ abbrev pub IsSightOf : Image → Image → Type 0
 IsSightOf image seen = ((half : Half) × HasHalf half image seen) ⊎ HasNoHeader image seen
 
 -- why these files are not seen
-abbrev pub IsUnseen : LookError → Image → Type 0
-IsUnseen looking.OutOfMemory image = Unit {0}
-IsUnseen looking.DeviceFault image = Unit {0}
-IsUnseen looking.Changing image = ⊥
-IsUnseen looking.Shut image = AreShut image
+abbrev pub AreFilesUnseen : LookError → Image → Type 0
+AreFilesUnseen looking.OutOfMemory image = Unit {0}
+AreFilesUnseen looking.DeviceFault image = Unit {0}
+AreFilesUnseen looking.Changing image = ⊥
+AreFilesUnseen looking.Shut image = AreShut image

@@ -2,7 +2,7 @@
 use Rattle.std.specs.Prelude.{◌≡◌, ℕ, ◌≤◌, List, [], Option}
 use Rattle.disk_trait.specs.Disk.{Image, file_of}
 use Rattle.disk_trait.specs.declared.half.Half.{Half}
-use Rattle.gate_log.specs.Layout.{Contents, IsOpen, LogRecord, generation_of, with_records}
+use Rattle.gate_log.specs.Layout.{Contents, HasOpenGate, LogRecord, generation_of, with_records}
 use Rattle.gate_log.specs.Log.{FilesMean, Holds, generation_in}
 
 -- the later contents are the earlier ones with records more, or none more
@@ -12,12 +12,12 @@ pub record Gains (k j : Contents) : Type 0 where
 
 -- the file is open, and says this generation
 pub record IsOpenWith (generation : ℕ) (file : List ℕ) : Type 0 where
-  pub is_open : IsOpen file
+  pub is_open : HasOpenGate file
   pub is : generation_of file ≡ generation
 
 -- What an honest log does to the two files between two moments: records come to the half in use, or the other one is closed, filled
 -- and opened with the next generation. What the other half holds does not matter, so it may be damaged.
-pub record IsKept (files : ℕ → Image) (from to : ℕ) : Type 0 where
+pub record AreFilesAppended (files : ℕ → Image) (from to : ℕ) : Type 0 where
   -- at each moment the files mean contents, or no half is open
   pub means : (t : ℕ) → from ≤ t → t ≤ to → (k : Option Contents) × FilesMean k (files t)
   -- the generation in use never falls
@@ -29,4 +29,4 @@ pub record IsKept (files : ℕ → Image) (from to : ℕ) : Type 0 where
   pub gains : (half : Half) (t u : ℕ) (k j : Contents) → from ≤ t → t ≤ u → u ≤ to → Holds half k (files t) → Holds half j (files u)
       → k.generation ≡ j.generation → Gains k j
   -- an empty half was not open before
-  pub unused : (half : Half) (t u : ℕ) → from ≤ t → t ≤ u → u ≤ to → file_of half (files u) ≡ [] → IsOpen (file_of half (files t)) → ⊥
+  pub unused : (half : Half) (t u : ℕ) → from ≤ t → t ≤ u → u ≤ to → file_of half (files u) ≡ [] → HasOpenGate (file_of half (files t)) → ⊥

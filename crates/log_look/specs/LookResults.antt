@@ -3,7 +3,7 @@ use Rattle.std.specs.Prelude.{◌≡◌, ◌⊎◌, ℕ, ◌<◌, ◌≤◌, Lis
 use Rattle.disk_trait.specs.Disk.{Image}
 use Rattle.disk_trait.specs.declared.half.Half.{Half}
 use Rattle.disk_trait.specs.declared.half.Half.TheVariants.{A, B}
-use Rattle.gate_log.specs.Layout.{Contents, IsOpen, generation_of}
+use Rattle.gate_log.specs.Layout.{Contents, HasOpenGate, generation_of}
 use Rattle.gate_log.specs.Log.{FilesMean}
 use Rattle.log_look.specs.Live.{IsRead}
 
@@ -27,8 +27,8 @@ pub record IsReadToEnd (file : ℕ → List ℕ) (bytes : List ℕ) (from to : �
 
 -- the generation that the first bytes of a half say; 0 where it is not open, has no whole header, or says so
 pub record SaysGeneration (generation : ℕ) (head : List ℕ) : Type 0 where
-  pub some : 0 < generation → IsOpen head × (16 ≤ length head) × (generation_of head ≡ generation)
-  pub none : generation ≡ 0 → IsOpen head → (length head < 16) ⊎ (generation_of head ≡ 0)
+  pub some : 0 < generation → HasOpenGate head × (16 ≤ length head) × (generation_of head ≡ generation)
+  pub none : generation ≡ 0 → HasOpenGate head → (length head < 16) ⊎ (generation_of head ≡ 0)
 
 -- the half of the greater of two generations, with it; A where they are the same; none where both are 0
 abbrev pub IsNewer : Half → ℕ → ℕ → ℕ → Type 0
@@ -45,7 +45,7 @@ pub record WasOpen (file : ℕ → List ℕ) (generation from to : ℕ) : Type 0
   pub moment : ℕ
   pub not_before : from ≤ moment
   pub not_after : moment ≤ to
-  pub is_open : IsOpen (file moment)
+  pub is_open : HasOpenGate (file moment)
   pub is : generation_of (file moment) ≡ generation
 
 -- these bytes of one half, and those of the other one

@@ -1,7 +1,7 @@
 -- What one try of a look came to.
 use Rattle.std.specs.Prelude.{◌≡◌, ◌⊎◌, ℕ, List, length}
 use Rattle.disk_trait.specs.Disk.{Image}
-use Rattle.gate_log.specs.Layout.{IsOpen}
+use Rattle.gate_log.specs.Layout.{HasOpenGate}
 use Rattle.log_look.specs.FilesAtRest.{IsSightOf}
 use Rattle.log_look.specs.LookResults.{WasMeant}
 use Rattle.log_look.specs.SeenState.{state_of_sight}
@@ -12,10 +12,10 @@ use Rattle.log_look.specs.declared.tries.Tried.{Tried}
 use Rattle.log_look.specs.declared.tries.Tried.TheVariants.{Seen, Shut, Changed}
 
 -- what was seen was meant at one moment
-abbrev pub HasSeen : Tried → (ℕ → Image) → ℕ → ℕ → Type 0
-HasSeen (Seen sight) files from to = WasMeant (state_of_sight sight).reads files from to
-HasSeen Shut files from to = Unit {0}
-HasSeen Changed files from to = Unit {0}
+abbrev pub HasSeenOneMoment : Tried → (ℕ → Image) → ℕ → ℕ → Type 0
+HasSeenOneMoment (Seen sight) files from to = WasMeant (state_of_sight sight).reads files from to
+HasSeenOneMoment Shut files from to = Unit {0}
+HasSeenOneMoment Changed files from to = Unit {0}
 
 -- what a try comes to where nobody writes
 abbrev pub HasSeenAtRest : Tried → Image → Type 0
@@ -31,7 +31,7 @@ HasNoFailure Changed = Unit {0}
 
 -- these first bytes of two halves that say no generation were seen, where they settle what is there; else neither half is open
 abbrev pub IsNeither : Tried → List ℕ → List ℕ → Type 0
-IsNeither (Seen sight) a b = ((state_of_sight sight).reads ≡ record { a = a; b = b }) × ((length b ≡ 0) ⊎ IsOpen a ⊎ IsOpen b)
+IsNeither (Seen sight) a b = ((state_of_sight sight).reads ≡ record { a = a; b = b }) × ((length b ≡ 0) ⊎ HasOpenGate a ⊎ HasOpenGate b)
 IsNeither Shut a b = AreShut (record { a = a; b = b })
 IsNeither Changed a b = ⊥
 

@@ -9,12 +9,12 @@ use Rattle.disk_trait.specs.declared.host.IfMissing.TheVariants.{Make, Refuse}
 use Rattle.sessions.specs.declared.ending.Ended.{Ended}
 use Rattle.machine_tests.specs.Machine.{FindsAnswered, IsHonestMachine, IsThereByThen, account_of_session, calls_of_session}
 use Rattle.session_ledger.specs.OutgoingLines.{disk_at}
-use Rattle.session_words.specs.declared.wanted.Wanted.{Wanted}
-use Rattle.store_commands.specs.Commands.{DoesAfter, IsUntouched, OpensFolder, TellsUnopened}
+use Rattle.session_words.specs.declared.wanted.SessionOptions.{SessionOptions}
+use Rattle.store_commands.specs.Commands.{DoesAfter, AreStreamsUntouched, OpensFolder, TellsUnopened}
 use Rattle.store_commands.specs.Folders.{OpensStore}
 use Rattle.store_commands.specs.Session.{IsSession}
 use Rattle.store_commands.specs.declared.status.Status.{Status}
-use Rattle.store_commands.specs.declared.told.Told.{Told}
+use Rattle.store_commands.specs.declared.told.Remark.{Remark}
 use Rattle.store_laws.specs.Batches.{MeansCalls}
 use Rattle.user_macros.specs.Functions.{Functions}
 
@@ -25,15 +25,15 @@ honest_as_opened state tells opens folder false disk machine opened = machine fo
 honest_as_opened state tells opens folder true disk machine (first, opened, looks) = subst IsTrue (sym looks.counts.honest) (machine folder Refuse first opened)
 
 -- what follows of a disk that was opened
-module _ {D I O : Type 0} (input left : I) (held written : O) (opens : Text → Bool → Result D HostError → Type 0) (P Q : D → Type 0) (folder : Text) (existing : Bool) (status : Status) (told : Told) where
+module _ {D I O : Type 0} (input left : I) (held written : O) (opens : Text → Bool → Result D HostError → Type 0) (P Q : D → Type 0) (folder : Text) (existing : Bool) (status : Status) (told : Remark) where
   pub opened_so : ((disk : D) → opens folder existing (Ok disk) → P disk → Q disk)
       → OpensFolder input left held written opens P folder existing status told → OpensFolder input left held written opens Q folder existing status told
   opened_so follows (inl early) = inl early
   opened_so follows (inr (inl failed)) = inr (inl failed)
   opened_so follows (inr (inr (disk, opened, known))) = inr (inr (disk, opened, follows disk opened known))
 
-module _ (functions : Functions) (wanted : Wanted) {D R I O : Type 0} (state : D → State) (macros : R) (whole : Bool) (remaining : I → Option (List ℕ)) (contents : O → Option (List ℕ))
-    (input left : I) (held written : O) (status : Status) (told : Told) (disk : D) where
+module _ (functions : Functions) (wanted : SessionOptions) {D R I O : Type 0} (state : D → State) (macros : R) (whole : Bool) (remaining : I → Option (List ℕ)) (contents : O → Option (List ℕ))
+    (input left : I) (held written : O) (status : Status) (told : Remark) (disk : D) where
   abbrev Session : D → Ended → Type 0
   Session back ended = IsSession functions wanted state disk macros (remaining input) (remaining left) (contents held) (contents written) ended back
 
@@ -48,7 +48,7 @@ module _ (functions : Functions) (wanted : Wanted) {D R I O : Type 0} (state : D
       → ((back : D) (ended : Ended) (session : Session back ended) → FindsAnswered functions R state disk session.is_opened.world)
       → DoesAfter functions state macros whole remaining contents input left held written (Run wanted) status told disk
       → IsThereByThen functions wanted state macros (remaining input) (remaining left) (contents held) (contents written) disk
-      ⊎ ((back : D) × TellsUnopened functions state disk back whole status × IsUntouched input left held written)
+      ⊎ ((back : D) × TellsUnopened functions state disk back whole status × AreStreamsUntouched input left held written)
   there_after honest law finds (back, inl (ended, after, tells, session)) = inl (record {
     back = back;
     ended = ended;

@@ -9,7 +9,7 @@ use Rattle.prevalence_store.specs.Theorem.{Call, MeansAsBefore}
 use Rattle.sessions.specs.Account.{Account, first_account}
 use Rattle.sessions.specs.declared.ending.Ended.{Ended}
 use Rattle.session_ledger.specs.OutgoingLines.{calls_in, disk_at}
-use Rattle.session_words.specs.declared.wanted.Wanted.{Wanted}
+use Rattle.session_words.specs.declared.wanted.SessionOptions.{SessionOptions}
 use Rattle.store_commands.specs.Session.{IsSession}
 use Rattle.store_laws.specs.Batches.{IsAfterCalls, MeansCalls}
 use Rattle.user_macros.specs.Functions.{Functions}
@@ -20,7 +20,7 @@ IsHonestMachine {D} state opens = (folder : Text) (if_missing : IfMissing) (disk
 
 -- ---- of a session of the program
 
-module _ (functions : Functions) (wanted : Wanted) {D R : Type 0} (state : D → State) {disk : D} {macros : R} {had has held written : Option (List ℕ)} {ended : Ended} {back : D}
+module _ (functions : Functions) (wanted : SessionOptions) {D R : Type 0} (state : D → State) {disk : D} {macros : R} {had has held written : Option (List ℕ)} {ended : Ended} {back : D}
     (session : IsSession functions wanted state disk macros had has held written ended back) where
   -- the account with which it began
   abbrev pub account_of_session : Account D
@@ -38,13 +38,13 @@ module _ (functions : Functions) (wanted : Wanted) {D R : Type 0} (state : D →
 -- since lines went out for the k-th time, the store has the world after all forms of at least k times, and of no time a part.
 abbrev pub FindsAnswered : Functions → {D : Type 0} (R : Type 0) → (D → State) → D → WorldState → Type 0
 FindsAnswered functions {D} R state disk world =
-    (wanted : Wanted) (start back : D) (macros : R) (had has held written : Option (List ℕ)) (ended : Ended) → IsHonest (state start)
+    (wanted : SessionOptions) (start back : D) (macros : R) (had has held written : Option (List ℕ)) (ended : Ended) → IsHonest (state start)
     → (earlier : IsSession functions wanted state start macros had has held written ended back)
     → (k : ℕ) → IsLeftSince functions wanted state earlier k (state disk).reads
     → IsAfterCalls functions earlier.is_opened.world (calls_of_session functions wanted state earlier) k world
 
 -- A session of the program went over the store that a disk holds.
-pub record IsThereByThen (functions : Functions) (wanted : Wanted) {D R : Type 0} (state : D → State) (macros : R) (had has held written : Option (List ℕ)) (disk : D) : Type 0 where
+pub record IsThereByThen (functions : Functions) (wanted : SessionOptions) {D R : Type 0} (state : D → State) (macros : R) (had has held written : Option (List ℕ)) (disk : D) : Type 0 where
   pub back : D
   pub ended : Ended
   pub session : IsSession functions wanted state disk macros had has held written ended back

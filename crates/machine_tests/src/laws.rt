@@ -6,7 +6,7 @@ ghost use Rattle.plist_state.specs.State.{WorldState};
 ghost use Rattle.prevalence_store.specs.Theorem.{Keeps};
 ghost use Rattle.prevalence_store.specs.calls.Open.{IsNoWord, IsUnopened, limit_of};
 ghost use Rattle.sessions.specs.declared.ending.Ended.{Ended};
-ghost use Rattle.session_words.specs.declared.wanted.Wanted.{Wanted};
+ghost use Rattle.session_words.specs.declared.wanted.SessionOptions.{SessionOptions};
 ghost use Rattle.store_commands.specs.Session.{IsSession};
 ghost use Rattle.store_laws.specs.Batches.{IsAfterCalls};
 ghost use Rattle.user_macros.specs.Functions.{Functions};
@@ -21,7 +21,7 @@ use store_commands::what_a_session_wrote_is_there;
 /// - `refused`: if each function is registered, its store is refused for memory, a device fault, or no room for a first half alone.
 /// - `unbegun`: where the first one was stopped while it opened the store, its session begins with the world that was there before.
 pub fn what_was_answered_is_found<D: Disk, E: Disk, R, S>()
-    ensures found { (functions : Functions) (wanted other : Wanted) (start back : D) (macros : R)
+    ensures found { (functions : Functions) (wanted other : SessionOptions) (start back : D) (macros : R)
         → (had has held written : Option (List ℕ)) (ended : Ended)
         → IsHonest (D.state start)
         → (earlier : IsSession functions wanted D.state start macros had has held written ended back)
@@ -31,7 +31,7 @@ pub fn what_was_answered_is_found<D: Disk, E: Disk, R, S>()
         → (again : IsSession functions other E.state crashed others gave leaves holds wrote ending next)
         → IsAfterCalls functions earlier.is_opened.world
         (calls_of_session functions wanted D.state earlier) k again.is_opened.world }
-    ensures refused { (functions : Functions) (wanted : Wanted) (start back : D) (macros : R)
+    ensures refused { (functions : Functions) (wanted : SessionOptions) (start back : D) (macros : R)
         → (had has held written : Option (List ℕ)) (ended : Ended)
         → IsHonest (D.state start)
         → (earlier : IsSession functions wanted D.state start macros had has held written ended back)
@@ -40,7 +40,7 @@ pub fn what_was_answered_is_found<D: Disk, E: Disk, R, S>()
         → IsHonest (E.state crashed) → (E.state crashed).reads ≡ image
         → (refused : IsUnopened functions E.state crashed true limit number unopened)
         → IsNoWord (limit_of limit) image refused.fault }
-    ensures unbegun { (functions : Functions) (wanted other : Wanted) (start back : D) (macros : R)
+    ensures unbegun { (functions : Functions) (wanted other : SessionOptions) (start back : D) (macros : R)
         → (had has held written : Option (List ℕ)) (ended : Ended) (before : WorldState)
         → IsHonest (D.state start) → Keeps functions (D.state start) before
         → (earlier : IsSession functions wanted D.state start macros had has held written ended back)

@@ -1,12 +1,12 @@
 //! The program on a machine whose disks are honest, and what is there at each moment of it.
 ghost use Rattle.std.specs.Prelude.{◌≡◌, ◌⊎◌, Bool, map};
 ghost use Rattle.clap.specs.Words.{Text};
-ghost use Rattle.command_words.specs.CommandLine.{IsTaken};
+ghost use Rattle.command_words.specs.CommandLine.{IsTakenByLine};
 ghost use Rattle.command_words.specs.declared.words.Task.{Task};
-ghost use Rattle.session_words.specs.declared.wanted.Wanted.{Wanted};
-ghost use Rattle.store_commands.specs.Commands.{IsUntouched, OpensFolder, TellsUnopened};
+ghost use Rattle.session_words.specs.declared.wanted.SessionOptions.{SessionOptions};
+ghost use Rattle.store_commands.specs.Commands.{AreStreamsUntouched, OpensFolder, TellsUnopened};
 ghost use Rattle.store_commands.specs.Folders.{OpensStore};
-ghost use Rattle.store_commands.specs.declared.told.Told.{Told};
+ghost use Rattle.store_commands.specs.declared.told.Remark.{Remark};
 ghost use Rattle.machine_tests.specs.Machine.{IsHonestMachine, IsThereByThen};
 ghost use Rattle.user_macros.specs.Functions.{are_registered};
 
@@ -45,16 +45,16 @@ where
     F: Write,
     requires answers { M.answers macros }
     requires honest { IsHonestMachine R.Disk.state (R.opens rt.now) }
-    ensures { (folder : Text) (existing : Bool) (wanted : Wanted)
-        → IsTaken (map S.text words.now) folder existing (Task.Run wanted)
-        → (told : Told) × OpensFolder input.old input.new output.old output.new
+    ensures { (folder : Text) (existing : Bool) (wanted : SessionOptions)
+        → IsTakenByLine (map S.text words.now) folder existing (Task.Run wanted)
+        → (told : Remark) × OpensFolder input.old input.new output.old output.new
         (OpensStore R.Disk.state R.Disk.tells (R.opens rt.now))
         (λ disk. IsThereByThen M.Meaning.functions wanted R.Disk.state macros
         (I.remaining input.old) (I.remaining input.new)
         (O.contents output.old.output) (O.contents output.new.output) disk
         ⊎ ((back : R.Disk) × TellsUnopened M.Meaning.functions R.Disk.state disk back
         (are_registered M.Meaning.functions (M.functions macros)) result
-        × IsUntouched input.old input.new output.old output.new))
+        × AreStreamsUntouched input.old input.new output.old output.new))
         folder existing result told }
 {
     what_a_session_wrote_is_there::<R::Disk, M>();

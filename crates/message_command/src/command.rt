@@ -6,13 +6,13 @@ ghost use Rattle.store_commands.specs.Commands.{OpensFolder};
 ghost use Rattle.store_commands.specs.Folders.{OpensStore};
 ghost use Rattle.message_command.specs.Session.{ServesAfter, ServesOn, session_status};
 ghost use Rattle.store_commands.specs.Status.{EndsAfter, TakesWords};
-ghost use Rattle.store_commands.specs.declared.told.Told.{Told};
+ghost use Rattle.store_commands.specs.declared.told.Remark.{Remark};
 ghost use Rattle.user_macros.specs.Functions.{are_registered};
 
 use command_words::{Messages, messages_in};
 use disk_trait::{Disk, HostError};
 use lisp_object::refusal::INPUT;
-use message_session::{AnswerRecipient, Ended, serve_messages};
+use message_session::{AnswerRecipient, MessagesEnd, serve_messages};
 use messages::NO_POSITION;
 use plist_state::Seed;
 use std::convert::AsStr;
@@ -20,7 +20,8 @@ use std::fmt::Write as WriteText;
 use std::io::{Read, Write};
 use std::random::RandomSource;
 use store_commands::{
-    Folders, Opening, Status, TellsCause, Told, answer_words, end_with, end_with_told, open_folder,
+    Folders, Opening, Remark, Status, TellsCause, answer_words, end_with, end_with_told,
+    open_folder,
 };
 use user_macros::MacroFunctions;
 
@@ -47,7 +48,7 @@ where
     ensures opened { (folder : Text) (existing : Bool) (every : ℕ)
         → message_faults (map S.text words.now) ≡ []
         → messages_in (map S.text words.now) ≡ Some (folder, existing, every)
-        → (told : Told) × OpensFolder input.old input.new output.old output.new
+        → (told : Remark) × OpensFolder input.old input.new output.old output.new
         (OpensStore R.Disk.state R.Disk.tells (R.opens rt.now))
         (ServesAfter M.Meaning.functions R.Disk.state macros (are_registered M.Meaning.functions (M.functions macros))
         I.remaining O.contents input.old input.new output.old output.new None result)
@@ -79,7 +80,7 @@ where
     F: Write,
     requires answers { M.answers macros }
     ensures taken { TakesWords result }
-    ensures opened { (told : Told) × OpensFolder input.old input.new output.old output.new
+    ensures opened { (told : Remark) × OpensFolder input.old input.new output.old output.new
         (OpensStore R.Disk.state R.Disk.tells (R.opens rt.now))
         (ServesAfter M.Meaning.functions R.Disk.state macros (are_registered M.Meaning.functions (M.functions macros))
         I.remaining O.contents input.old input.new output.old output.new None result)
@@ -92,7 +93,7 @@ where
         Ok(disk) => disk,
         Err(error) => {
             let status = Status::of_host(&error);
-            return end_with_told(faults, status, &Told::Cause(error));
+            return end_with_told(faults, status, &Remark::Cause(error));
         }
     };
     let alloc = rt.alloc();
@@ -116,7 +117,7 @@ pub fn serve_on<D, M, I, O>(
     snapshot_every: u64,
     input: &mut I,
     output: &mut O,
-) -> (Ended, D)
+) -> (MessagesEnd, D)
 where
     D: Disk,
     M: MacroFunctions + Drop,
@@ -145,27 +146,27 @@ where
             let (disk, _macros) = store.close();
             (ended.after_cut(cut), disk)
         }
-        Err(unopened) => (Ended::Fault(unopened.number), unopened.disk),
+        Err(unopened) => (MessagesEnd::Fault(unopened.number), unopened.disk),
     }
 }
 
 // The status after a session that ended so; what ended it is told.
-fn end_after<D: TellsCause, F: Write>(faults: &mut F, ended: Ended, disk: &D) -> Status
+fn end_after<D: TellsCause, F: Write>(faults: &mut F, ended: MessagesEnd, disk: &D) -> Status
     ensures { result ≡ session_status ended }
 {
     match ended {
-        Ended::End => end_with(faults, Status::Done),
-        Ended::NoFrame(place) => {
+        MessagesEnd::End => end_with(faults, Status::Done),
+        MessagesEnd::NoFrame(place) => {
             let _ = writeln!(faults, "no frame at byte {place}");
             Status::FormRefused
         }
-        Ended::Fault(NO_POSITION) => {
+        MessagesEnd::Fault(NO_POSITION) => {
             let _ = writeln!(faults, "! {NO_POSITION} NO-POSITION");
             Status::Fault(NO_POSITION)
         }
-        Ended::Fault(number) => match disk.cause() {
+        MessagesEnd::Fault(number) => match disk.cause() {
             Some(error) => {
-                let told = Told::Cause(HostError::System(error));
+                let told = Remark::Cause(HostError::System(error));
                 end_with_told(faults, Status::Fault(number), &told)
             }
             None => end_with(faults, Status::Fault(number)),

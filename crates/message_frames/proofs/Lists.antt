@@ -6,7 +6,7 @@ use Rattle.std.specs.Fmt.{decimal}
 use Rattle.std.proofs.lemmas.List.{append_cancel_left, append-nil, drop_at, take_at}
 use Rattle.message_frames.specs.declared.frame.Kind.{Kind}
 use Rattle.message_frames.specs.declared.frame.Kind.TheVariants.{Do, By, Ask}
-use Rattle.message_frames.specs.Frames.{IsBegunFrame, IsFrame, IsKind, IsMalformed, Sent, answer_bytes, frame_bytes, sized_text}
+use Rattle.message_frames.specs.Frames.{IsBegunFrame, IsFrame, IsKind, IsMalformedFrame, Sent, answer_bytes, frame_bytes, sized_text}
 use Rattle.message_frames.specs.Lists.{AnswersAreReadBack, SplitsOneWay}
 use Rattle.message_frames.specs.Numbers.{number_word}
 use Rattle.std.proofs.lemmas.Fmt.{decimal_nonempty}
@@ -92,7 +92,7 @@ frames_end limit small f g a b wanted other e = frames_end_by limit small f.0 g.
 
 -- ---- the bytes of frames are these frames alone
 
-no_other : (limit : ℕ) → limit < 2 ^ 64 → (rest more : List ℕ) (frame : Sent) → IsFrame limit frame → IsBegunFrame limit rest ⊎ IsMalformed limit rest
+no_other : (limit : ℕ) → limit < 2 ^ 64 → (rest more : List ℕ) (frame : Sent) → IsFrame limit frame → IsBegunFrame limit rest ⊎ IsMalformedFrame limit rest
     → rest ≡ frame_bytes frame ++ more → ⊥
 no_other limit small rest more frame wanted (inl part) e =
     let longer : frame_bytes part.x ++ [] ≡ frame_bytes frame ++ (more ++ part.more) =
@@ -103,7 +103,7 @@ no_other limit small rest more frame wanted (inr none) e = none frame [] more wa
 
 one_way : (limit : ℕ) → limit < 2 ^ 64 → (frames others : List Sent) (rest after : List ℕ)
     → AllByRecursion (IsFrame limit) frames → AllByRecursion (IsFrame limit) others
-    → IsBegunFrame limit rest ⊎ IsMalformed limit rest → IsBegunFrame limit after ⊎ IsMalformed limit after
+    → IsBegunFrame limit rest ⊎ IsMalformedFrame limit rest → IsBegunFrame limit after ⊎ IsMalformedFrame limit after
     → flat_map frame_bytes frames ++ rest ≡ flat_map frame_bytes others ++ after → (frames ≡ others) × (rest ≡ after)
 one_way limit small [] [] rest after each every end stop e = (refl, e)
 one_way limit small [] (g ∷ others) rest after each every end stop e =

@@ -55,8 +55,8 @@ abbrev pub IsBegunFrame : ℕ → List ℕ → Type 0
 IsBegunFrame limit = IsPart frame_bytes (IsFrame limit)
 
 -- these bytes are the beginning of no frame
-abbrev pub IsMalformed : ℕ → List ℕ → Type 0
-IsMalformed limit = BeginsNone frame_bytes (IsFrame limit)
+abbrev pub IsMalformedFrame : ℕ → List ℕ → Type 0
+IsMalformedFrame limit = BeginsNone frame_bytes (IsFrame limit)
 
 -- a frame in memory
 abbrev pub sent_frame : MessageFrame → Sent

@@ -1,12 +1,12 @@
 -- Lists of frames and of answers, as bytes.
 use Rattle.std.specs.Prelude.{ℕ, ◌≡◌, ◌<◌, ◌^◌, ◌⊎◌, List, ◌++◌, length}
 use Rattle.std.specs.List.{flat_map, AllByRecursion}
-use Rattle.message_frames.specs.Frames.{Sent, AreFrames, IsFrame, IsBegunFrame, IsMalformed, answer_bytes}
+use Rattle.message_frames.specs.Frames.{Sent, AreFrames, IsFrame, IsBegunFrame, IsMalformedFrame, answer_bytes}
 
 -- these frames stand whole in the bytes, and no other after them
 pub record SplitsFrames (limit : ℕ) (bytes : List ℕ) (frames : List Sent) (rest : List ℕ) : Type 0 where
   pub parts : AreFrames limit frames rest bytes
-  pub whole : IsBegunFrame limit rest ⊎ IsMalformed limit rest
+  pub whole : IsBegunFrame limit rest ⊎ IsMalformedFrame limit rest
 
 -- bytes are frames in at most one way
 abbrev pub SplitsOneWay : Type 0

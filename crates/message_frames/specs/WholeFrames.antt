@@ -5,7 +5,7 @@ use Rattle.message_frames.specs.declared.held.Next.TheVariants as next
 use Rattle.message_frames.specs.declared.held.Whole.{Whole}
 use Rattle.message_frames.specs.declared.words.NotWhole.{NotWhole}
 use Rattle.message_frames.specs.declared.words.NotWhole.TheVariants as not_whole
-use Rattle.message_frames.specs.Frames.{AreFrames, IsBegunFrame, IsMalformed, sent_frame}
+use Rattle.message_frames.specs.Frames.{AreFrames, IsBegunFrame, IsMalformedFrame, sent_frame}
 
 -- what is told where no whole frame is there
 abbrev pub next_after : NotWhole → Next
@@ -15,7 +15,7 @@ next_after not_whole.Malformed = next.Malformed
 -- what comes after so many of at most so many frames
 abbrev pub FrameFollows : ℕ → ℕ → ℕ → List ℕ → Next → Type 0
 FrameFollows limit most count rest next.Begun = IsBegunFrame limit rest
-FrameFollows limit most count rest next.Malformed = IsMalformed limit rest
+FrameFollows limit most count rest next.Malformed = IsMalformedFrame limit rest
 FrameFollows limit most count rest next.Unread = count ≡ most
 
 -- the bytes are these frames, at most so many, and what comes after them

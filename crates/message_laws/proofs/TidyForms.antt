@@ -6,7 +6,7 @@ use Rattle.lisp_operators.specs.Evaluation.{Evaluation}
 use Rattle.lisp_operators.proofs.Keeping.{keeps_also, keeps_then}
 use Rattle.lisp_operators.proofs.LookUpLaws.{look_up_keeps}
 use Rattle.lisp_operators.proofs.PlaceLaws.{change_keeps}
-use Rattle.lisp_reading.specs.Reading.{Outcome as Reading, form, empty, refused}
+use Rattle.lisp_reading.specs.Reading.{ReadingResult as Reading, form, empty, refused}
 use Rattle.package_table.specs.declared.error.PackageError.{PackageError}
 use Rattle.package_table.specs.Symbols.{symbols}
 use Rattle.package_table.specs.Table.{Name, Table}

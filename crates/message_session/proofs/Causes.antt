@@ -11,10 +11,10 @@ use Rattle.message_frames.specs.Frames.{AreFrames, Sent, frame_bytes}
 use Rattle.message_laws.specs.NearRounds.{IsTidy, Near}
 use Rattle.message_laws.proofs.Together.{near_itself}
 use Rattle.message_session.specs.Answers.{answered_bytes, each_frame}
-use Rattle.message_session.specs.Sessions.{AreCarriedOut, AreFramesAnswered, HasCarriedOut, HasCause, HoldsWorldAlone, EndsWithoutMemory, IsUnrenewed, IsUntaken, EndsUnwritten, text_limit}
-use Rattle.message_session.specs.Steps.{AreUntaken, Breaks, BreaksIn, IsFaultAfter, RefusesFirst, ServesFrames}
-use Rattle.message_session.specs.declared.ended.Ended.{Ended}
-use Rattle.message_session.specs.declared.ended.Ended.TheVariants.{End, NoFrame, Fault}
+use Rattle.message_session.specs.Sessions.{AreCarriedOut, AreFramesAnswered, HasCarriedOut, HasCause, HoldsWorldAlone, EndsWithoutMemory, EndsAtRefusedSnapshot, EndsAtRefusedFrames, EndsUnwritten, text_limit}
+use Rattle.message_session.specs.Steps.{AreFramesUntaken, Breaks, BreaksIn, IsFaultAfter, RefusesFirst, ServesFrames}
+use Rattle.message_session.specs.declared.ended.MessagesEnd.{MessagesEnd}
+use Rattle.message_session.specs.declared.ended.MessagesEnd.TheVariants.{End, NoFrame, Fault}
 use Rattle.message_session.proofs.Frames.{frames_both, frames_first, no_frames}
 use Rattle.message_session.proofs.Rounds.{bytes_of_both, first_after, more_after, more_near}
 use Rattle.message_session.proofs.Streams.{none_written, writes_both}
@@ -74,8 +74,8 @@ module _ (functions : Functions) (last : ℕ) (w : WorldState) (tidy : IsTidy w.
           → EndsWithoutMemory functions last w state new held written (answered_bytes functions last w) (frames ++ answered) next number
       memory_both number c = record { memory = c.memory; carried_out = carried_both c.carried_out; output = write_both answered written c.output }
 
-      untaken_both : (number : ℕ) → IsUntaken functions mid_last first.after.left state new between written (answered_bytes functions mid_last first.after.left) answered next number
-          → IsUntaken functions last w state new held written (answered_bytes functions last w) (frames ++ answered) next number
+      untaken_both : (number : ℕ) → EndsAtRefusedFrames functions mid_last first.after.left state new between written (answered_bytes functions mid_last first.after.left) answered next number
+          → EndsAtRefusedFrames functions last w state new held written (answered_bytes functions last w) (frames ++ answered) next number
       untaken_both number c = record {
         before = c.before;
         before_last = c.before_last;
@@ -87,8 +87,8 @@ module _ (functions : Functions) (last : ℕ) (w : WorldState) (tidy : IsTidy w.
         output = write_both answered written c.output;
       }
 
-      unrenewed_both : (number : ℕ) → IsUnrenewed functions mid_last first.after.left state new between written (answered_bytes functions mid_last first.after.left) answered next number
-          → IsUnrenewed functions last w state new held written (answered_bytes functions last w) (frames ++ answered) next number
+      unrenewed_both : (number : ℕ) → EndsAtRefusedSnapshot functions mid_last first.after.left state new between written (answered_bytes functions mid_last first.after.left) answered next number
+          → EndsAtRefusedSnapshot functions last w state new held written (answered_bytes functions last w) (frames ++ answered) next number
       unrenewed_both number c = record {
         before = c.before;
         before_last = c.before_last;
@@ -105,13 +105,13 @@ module _ (functions : Functions) (last : ℕ) (w : WorldState) (tidy : IsTidy w.
       cause_both number (inr (inr (inl c))) = inr (inr (inl (untaken_both number c)))
       cause_both number (inr (inr (inr c))) = inr (inr (inr (unrenewed_both number c)))
 
-      fault_both : (ended : Ended) → IsFaultAfter functions mid_last first.after.left state new between written answered next ended
+      fault_both : (ended : MessagesEnd) → IsFaultAfter functions mid_last first.after.left state new between written answered next ended
           → IsFaultAfter functions last w state new held written (frames ++ answered) next ended
       fault_both End fault = absurd fault
       fault_both (NoFrame place) fault = absurd fault
       fault_both (Fault number) fault = cause_both number fault
 
-    pub breaks_both : (more : List Sent) (ended : Ended) → Breaks functions mid_last first.after.left state new between written more ended → Breaks functions last w state new held written (frames ++ more) ended
+    pub breaks_both : (more : List Sent) (ended : MessagesEnd) → Breaks functions mid_last first.after.left state new between written more ended → Breaks functions last w state new held written (frames ++ more) ended
     breaks_both more ended b = record {
       answered = frames ++ b.answered;
       next = b.next;
@@ -123,7 +123,7 @@ module _ (functions : Functions) (last : ℕ) (w : WorldState) (tidy : IsTidy w.
   -- ---- among more
 
   module _ (new : StoreView D R) (held written : Option (List ℕ)) where
-    pub breaks_more : (frames more : List Sent) (ended : Ended) → Breaks functions last w state new held written frames ended → Breaks functions last w state new held written (frames ++ more) ended
+    pub breaks_more : (frames more : List Sent) (ended : MessagesEnd) → Breaks functions last w state new held written frames ended → Breaks functions last w state new held written (frames ++ more) ended
     breaks_more frames more ended b = record {
       answered = b.answered;
       next = b.next;
@@ -133,7 +133,7 @@ module _ (functions : Functions) (last : ℕ) (w : WorldState) (tidy : IsTidy w.
     }
 
     -- in what was read
-    pub breaks_of : (frames : List Sent) (rest read : List ℕ) (ended : Ended) → AreFrames text_limit frames rest read → Breaks functions last w state new held written frames ended
+    pub breaks_of : (frames : List Sent) (rest read : List ℕ) (ended : MessagesEnd) → AreFrames text_limit frames rest read → Breaks functions last w state new held written frames ended
         → BreaksIn functions last w state new held written read ended
     breaks_of frames rest read ended parts b = record {
       answered = b.answered;
@@ -144,7 +144,7 @@ module _ (functions : Functions) (last : ℕ) (w : WorldState) (tidy : IsTidy w.
     }
 
   pub breaks_in_both : (mid : StoreView D R) (held between written : Option (List ℕ)) (read : List ℕ) (frames : List Sent) (rest : List ℕ) (mid_last : ℕ)
-      (first : ServesFrames functions last w state mid held between mid_last read frames rest) (new : StoreView D R) (ended : Ended)
+      (first : ServesFrames functions last w state mid held between mid_last read frames rest) (new : StoreView D R) (ended : MessagesEnd)
       → BreaksIn functions mid_last first.answered.after.left state new between written rest ended → BreaksIn functions last w state new held written read ended
   breaks_in_both mid held between written read frames rest mid_last first new ended b = record {
     answered = frames ++ b.answered;
@@ -176,7 +176,7 @@ module _ (functions : Functions) (last : ℕ) (w : WorldState) (tidy : IsTidy w.
 
   -- the store did not take the first of them
   module _ (old new : StoreView D R) (known : old.world ≡ Some w) (held written : Option (List ℕ)) (quiet : written ≡ held) (frames : List Sent) (number : ℕ) where
-    pub breaks_untaken : (number ≡ LOG_FULL → HoldsWorldAlone old w frames) → new ≡ old → AreUntaken functions last w state old frames number → Breaks functions last w state new held written frames (Fault number)
+    pub breaks_untaken : (number ≡ LOG_FULL → HoldsWorldAlone old w frames) → new ≡ old → AreFramesUntaken functions last w state old frames number → Breaks functions last w state new held written frames (Fault number)
     breaks_untaken full same (inl memory) =
         subst (λ n. Breaks functions last w state new held written frames (Fault n)) (sym memory)
         (breaks_first new held written frames (ap (λ (s : StoreView D R). s.world) same ∙ known) quiet)
@@ -232,7 +232,7 @@ module _ (functions : Functions) (last : ℕ) (w : WorldState) (tidy : IsTidy w.
 
   -- no snapshot was taken, which was due
   pub breaks_unrenewed : (mid new : StoreView D R) (held written : Option (List ℕ)) (frames undone : List Sent) (now_last : ℕ)
-      (first : AreFramesAnswered functions last w state mid held written (answered_bytes functions last w) frames now_last) (ended : Ended)
+      (first : AreFramesAnswered functions last w state mid held written (answered_bytes functions last w) frames now_last) (ended : MessagesEnd)
       → (number : ℕ) × (ended ≡ Fault number) × (number ≡ SNAPSHOT_TOO_LARGE → ⊥) × Snapshots functions state mid new first.after.left (Refused number)
       → Breaks functions last w state new held written (frames ++ undone) ended
   breaks_unrenewed mid new held written frames undone now_last first ended refused =
@@ -278,6 +278,6 @@ module _ (functions : Functions) (last : ℕ) (w : WorldState) (tidy : IsTidy w.
 
 -- frames that had no room were refused by the store
 pub no_room : (functions : Functions) (last : ℕ) (w : WorldState) {D R : Type 0} (state : D → State) (old : StoreView D R) (frames : List Sent) (number : ℕ) → number ≡ LOG_FULL
-    → AreUntaken functions last w state old frames number → RefusesFirst functions last w state old frames number
+    → AreFramesUntaken functions last w state old frames number → RefusesFirst functions last w state old frames number
 no_room functions last w state old frames number full (inl memory) = absurd (omega (arith, full, memory))
 no_room functions last w state old frames number full (inr refuses) = refuses

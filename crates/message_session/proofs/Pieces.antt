@@ -5,14 +5,14 @@ use Rattle.std.specs.Io.KnownBytes.{Consumes}
 use Rattle.std.specs.List.{flat_map}
 use Rattle.disk_trait.specs.Disk.{State}
 use Rattle.lisp_object.specs.declared.refusal.TheConstants.{INPUT, NO_MEMORY}
-use Rattle.message_frames.specs.Frames.{AreFrames, IsBegunFrame, IsMalformed, Sent, frame_bytes}
+use Rattle.message_frames.specs.Frames.{AreFrames, IsBegunFrame, IsMalformedFrame, Sent, frame_bytes}
 use Rattle.message_frames.specs.declared.frame.Kind.TheVariants.{Ask}
 use Rattle.message_laws.specs.NearRounds.{IsTidy}
 use Rattle.message_session.specs.Answers.{answered_bytes}
 use Rattle.message_session.specs.Sessions.{AreCarriedOut, EndsBy, text_limit}
 use Rattle.message_session.specs.Steps.{AnswersAllHeld, AnswersFramesOfInput, BreaksIn, PassesFrames, ServesFrames, TakesPiece}
-use Rattle.message_session.specs.declared.ended.Ended.{Ended}
-use Rattle.message_session.specs.declared.ended.Ended.TheVariants.{End, NoFrame, Fault}
+use Rattle.message_session.specs.declared.ended.MessagesEnd.{MessagesEnd}
+use Rattle.message_session.specs.declared.ended.MessagesEnd.TheVariants.{End, NoFrame, Fault}
 use Rattle.message_session.specs.declared.serve.Session.{Session}
 use Rattle.message_session.proofs.Causes.{breaks_in_both}
 use Rattle.message_session.proofs.Held.{has_bytes}
@@ -43,7 +43,7 @@ as_begun functions old new world state store held written true is answers = answ
 as_begun functions old new world state store held written false is answers = absurd (cc is)
 
 pub as_malformed : (functions : Functions) (old new : Session) (world : WorldState) {D R : Type 0} (state : D → State) (store : StoreView D R) (held written : Option (List ℕ)) (may : Bool) → may ≡ false
-    → AnswersAllHeld functions old new world state store held written (Ok may) → (frames : List Sent) × PassesFrames functions old new world state store held written frames × IsMalformed text_limit new.held
+    → AnswersAllHeld functions old new world state store held written (Ok may) → (frames : List Sent) × PassesFrames functions old new world state store held written frames × IsMalformedFrame text_limit new.held
 as_malformed functions old new world state store held written false is answers = answers
 as_malformed functions old new world state store held written true is answers = absurd (cc is)
 
@@ -56,7 +56,7 @@ module _ (functions : Functions) (last : ℕ) (w : WorldState) {D R : Type 0} (s
     pub serves : ServesFrames functions last w state store held written now_last read frames rest
     pub came_is : came ≡ length read
 
-  ends_at : (new : StoreView D R) (held written : Option (List ℕ)) (read : List ℕ) (left : Option (List ℕ)) (ended : Ended)
+  ends_at : (new : StoreView D R) (held written : Option (List ℕ)) (read : List ℕ) (left : Option (List ℕ)) (ended : MessagesEnd)
       → BreaksIn functions last w state new held written read ended → EndsBy functions last w state new held written (answered_bytes functions last w) read left ended
   ends_at new held written read left End b = absurd b.fault
   ends_at new held written read left (NoFrame place) b = absurd b.fault
@@ -118,7 +118,7 @@ module _ (functions : Functions) (last : ℕ) (w : WorldState) {D R : Type 0} (s
 
       -- ---- the end
 
-      pub ends_broken : (new : StoreView D R) (ended : Ended) → BreaksIn functions mid_last far.serves.answered.after.left state new between written rest ended
+      pub ends_broken : (new : StoreView D R) (ended : MessagesEnd) → BreaksIn functions mid_last far.serves.answered.after.left state new between written rest ended
           → AnswersFramesOfInput functions last w state new has left held written ended
       ends_broken new ended breaks = (
         far.read,
@@ -172,7 +172,7 @@ module _ (functions : Functions) (last : ℕ) (w : WorldState) {D R : Type 0} (s
       ends_by_piece less now_held number (inr memory) begun =
           subst (λ n. AnswersFramesOfInput functions last w state mid has less held between (Fault n)) (sym memory.0) (ends_unheld less memory.1 memory.2)
 
-      pub ends_malformed : IsMalformed text_limit rest → (place : ℕ) → place ≡ came - length rest → AnswersFramesOfInput functions last w state mid has left held between (NoFrame place)
+      pub ends_malformed : IsMalformedFrame text_limit rest → (place : ℕ) → place ≡ came - length rest → AnswersFramesOfInput functions last w state mid has left held between (NoFrame place)
       ends_malformed malformed place is = (
         far.read,
         far.reads,

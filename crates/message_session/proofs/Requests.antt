@@ -18,7 +18,7 @@ use Rattle.message_laws.proofs.Together.{StandsAt, stands_first}
 use Rattle.message_laws.proofs.Tidy.{sound_tidy}
 use Rattle.message_session.specs.Answers.{AskAlike, answered_bytes, answers_to, each_frame, parts_of_asked}
 use Rattle.message_session.specs.Sessions.{HasCarriedOut}
-use Rattle.message_session.specs.Steps.{AreUntaken}
+use Rattle.message_session.specs.Steps.{AreFramesUntaken}
 use Rattle.message_session.specs.declared.answer.TheConstants.{MOST_CLIENTS}
 use Rattle.message_session.proofs.Rounds.{same_rounds}
 use Rattle.plist_state.specs.Sound.{IsSoundWorldState}
@@ -93,7 +93,7 @@ as_many_first front rest all frames parts alike = sym (as_many front (take (leng
 
 -- the first of the frames were refused
 pub refused_first : (functions : Functions) {D R : Type 0} (state : D → State) (old new : StoreView D R) (w : WorldState) (last : ℕ) (frames : List Sent) (all : List AnyRequest) (number : ℕ)
-    → AskAlike all frames → 0 < length all → (first : AnswersFirstAsked functions state old new w MOST_CLIENTS last all (Err number)) → new ≡ old → AreUntaken functions last w state old frames number
+    → AskAlike all frames → 0 < length all → (first : AnswersFirstAsked functions state old new w MOST_CLIENTS last all (Err number)) → new ≡ old → AreFramesUntaken functions last w state old frames number
 refused_first functions state old new w last frames all number alike any first same = inr (record {
   front = take (length first.front) frames;
   undone = drop (length first.front) frames;

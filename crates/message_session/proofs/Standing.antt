@@ -18,7 +18,7 @@ use Rattle.message_session.specs.Steps.{RenewsWhereDue, StopsAfter}
 use Rattle.message_session.specs.declared.answer.TheConstants.{MOST_CLIENTS}
 use Rattle.message_session.specs.declared.answer.Stop.{Stop}
 use Rattle.message_session.specs.declared.answer.Stop.TheVariants as stop
-use Rattle.message_session.specs.declared.ended.Ended.{Ended}
+use Rattle.message_session.specs.declared.ended.MessagesEnd.{MessagesEnd}
 use Rattle.message_session.proofs.Next.{kept_before, next_begun, next_none, next_taken}
 use Rattle.message_session.proofs.Requests.{front_alike}
 use Rattle.message_session.proofs.Rounds.{same_rounds}
@@ -68,7 +68,7 @@ snapshot_survives functions state old new w (Refused number) (inr (inl fault)) =
 snapshot_survives functions state old new w (Refused number) (inr (inr memory)) = memory.survives
 
 -- one that was due
-pub due_survives : (functions : Functions) {D R : Type 0} (state : D → State) (old new : StoreView D R) (w : WorldState) (result : Result Unit Ended) → RenewsWhereDue functions state old new w result
+pub due_survives : (functions : Functions) {D R : Type 0} (state : D → State) (old new : StoreView D R) (w : WorldState) (result : Result Unit MessagesEnd) → RenewsWhereDue functions state old new w result
     → SurvivesAs functions state old new w [] 0
 due_survives functions state old new w (Ok done) renews = renews.1
 due_survives functions state old new w (Err ended) refused = snapshot_survives functions state old new w (Refused refused.0) refused.3

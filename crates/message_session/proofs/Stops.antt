@@ -10,12 +10,12 @@ use Rattle.message_laws.specs.NearRounds.{IsTidy}
 use Rattle.message_laws.proofs.Together.{near_itself}
 use Rattle.message_session.specs.Answers.{AskAlike}
 use Rattle.message_session.specs.Sessions.{HoldsWorldAlone}
-use Rattle.message_session.specs.Steps.{AnswersFront, AreUntaken, Breaks, RefusesFirst, StopsAfter, TakesFrames, TakesWithRoom, ended_by}
+use Rattle.message_session.specs.Steps.{AnswersFront, AreFramesUntaken, Breaks, RefusesFirst, StopsAfter, TakesFrames, TakesWithRoom, ended_by}
 use Rattle.message_session.specs.declared.answer.TheConstants.{MOST_CLIENTS}
 use Rattle.message_session.specs.declared.answer.Stop.{Stop}
 use Rattle.message_session.specs.declared.answer.Stop.TheVariants as stop
-use Rattle.message_session.specs.declared.ended.Ended.{Ended}
-use Rattle.message_session.specs.declared.ended.Ended.TheVariants.{Fault}
+use Rattle.message_session.specs.declared.ended.MessagesEnd.{MessagesEnd}
+use Rattle.message_session.specs.declared.ended.MessagesEnd.TheVariants.{Fault}
 use Rattle.message_session.proofs.Causes.{breaks_untaken, no_room}
 use Rattle.message_session.proofs.Requests.{front_alike, refused_first}
 use Rattle.message_session.proofs.Streams.{none_written}
@@ -50,13 +50,13 @@ module _ (functions : Functions) (last : ℕ) (w : WorldState) (tidy : IsTidy w.
     pub untaken : 0 < length all → (number ≢ DEVICE → new ≡ old) → (why : Stop) → StopsAfter number why → TakesFrames functions last w state new held held last old frames (Err why)
     untaken any unchanged (stop.Untaken n) stops =
         let same = unchanged stops.1 in
-        (refl, refl, same, subst (AreUntaken functions last w state old frames) (sym stops.0) (refused_first functions state old new w last frames all number alike any first same))
+        (refl, refl, same, subst (AreFramesUntaken functions last w state old frames) (sym stops.0) (refused_first functions state old new w last frames all number alike any first same))
     untaken any unchanged (stop.Ended ended) stops = subst (Breaks functions last w state new held held frames) (sym stops.0) (down stops.1)
 
   module _ (held written : Option (List ℕ)) (now_last : ℕ) (frames : List Sent) where
     -- nothing came of frames that were not taken
     pub untaken_left : (why : Stop) (number : ℕ) → why ≡ stop.Untaken number → TakesFrames functions last w state new held written now_last old frames (Err why)
-        → (written ≡ held) × (now_last ≡ last) × (new ≡ old) × AreUntaken functions last w state old frames number
+        → (written ≡ held) × (now_last ≡ last) × (new ≡ old) × AreFramesUntaken functions last w state old frames number
     untaken_left why number is takes = subst (λ s. TakesFrames functions last w state new held written now_last old frames (Err s)) is takes
 
     -- they had no room
@@ -107,7 +107,7 @@ taken_again functions last w state new held between written mid_last now_last fr
     (subst (λ n. TakesWithRoom functions n w state new between written now_last frames result) same takes)
 
 pub tried_again : (functions : Functions) (last : ℕ) (w : WorldState) {D R : Type 0} (state : D → State) (new : StoreView D R) (held between written : Option (List ℕ)) (mid_last now_last : ℕ)
-    (frames : List Sent) (result : Result ℕ Ended) → between ≡ held → mid_last ≡ last → AnswersFront functions mid_last w state new between written now_last frames result
+    (frames : List Sent) (result : Result ℕ MessagesEnd) → between ≡ held → mid_last ≡ last → AnswersFront functions mid_last w state new between written now_last frames result
     → AnswersFront functions last w state new held written now_last frames result
 tried_again functions last w state new held between written mid_last now_last frames result quiet same answers =
     subst (λ h. AnswersFront functions last w state new h written now_last frames result) quiet

@@ -2,9 +2,9 @@
 use Rattle.std.proofs.Common.{◌⊎◌, inl, inr, ℕ, List, ◌++◌, Option, ap, ◌∙◌, sym, append_assoc}
 use Rattle.disk_trait.specs.Disk.{State}
 use Rattle.message_frames.specs.Frames.{Sent}
-use Rattle.message_session.specs.Sessions.{AreServed, EndsBy, HasCause, EndsUnread}
-use Rattle.message_session.specs.declared.ended.Ended.{Ended}
-use Rattle.message_session.specs.declared.ended.Ended.TheVariants.{End, NoFrame, Fault}
+use Rattle.message_session.specs.Sessions.{BeginsWithAnsweredFrames, EndsBy, HasCause, EndsUnread}
+use Rattle.message_session.specs.declared.ended.MessagesEnd.{MessagesEnd}
+use Rattle.message_session.specs.declared.ended.MessagesEnd.TheVariants.{End, NoFrame, Fault}
 use Rattle.message_session.proofs.Streams.{writes_both}
 use Rattle.plist_state.specs.State.{WorldState}
 use Rattle.prevalence_store.specs.calls.Store.{StoreView}
@@ -67,12 +67,12 @@ module _ (functions : Functions) (last : ℕ) (w : WorldState) {D R : Type 0} (s
   either_told answered next number rest (inl c) = inl (unread_told answered next number rest c)
   either_told answered next number rest (inr c) = inr (cause_told answered next number c)
 
-  served_told : (read : List ℕ) (frames : List Sent) (rest : List ℕ) (now_last : ℕ) → AreServed functions last w state store between written bytes read frames rest now_last
-      → AreServed functions last w state store held written with_told read frames rest now_last
+  served_told : (read : List ℕ) (frames : List Sent) (rest : List ℕ) (now_last : ℕ) → BeginsWithAnsweredFrames functions last w state store between written bytes read frames rest now_last
+      → BeginsWithAnsweredFrames functions last w state store held written with_told read frames rest now_last
   served_told read frames rest now_last served =
       record { parts = served.parts; answered = record { after = served.answered.after; output = after_told frames written served.answered.output } }
 
-  pub ends_told : (read : List ℕ) (left : Option (List ℕ)) (ended : Ended) → EndsBy functions last w state store between written bytes read left ended
+  pub ends_told : (read : List ℕ) (left : Option (List ℕ)) (ended : MessagesEnd) → EndsBy functions last w state store between written bytes read left ended
       → EndsBy functions last w state store held written (λ frames. told ++ bytes frames) read left ended
   ends_told read left End ends = (ends.0, ends.1, ends.2, served_told read ends.0 ends.1 ends.2 ends.3, ends.4, ends.5)
   ends_told read left (NoFrame place) ends = (ends.0, ends.1, ends.2, served_told read ends.0 ends.1 ends.2 ends.3, ends.4, ends.5)

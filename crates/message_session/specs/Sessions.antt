@@ -3,11 +3,11 @@ use Rattle.std.specs.Prelude.{ℕ, ◌+◌, ◌≡◌, ◌≢◌, ◌⊎◌, ◌
 use Rattle.std.specs.Io.KnownBytes.{Consumes, IsAtEnd}
 use Rattle.std.specs.List.{flat_map}
 use Rattle.disk_trait.specs.Disk.{State}
-use Rattle.message_frames.specs.Frames.{AreFrames, IsBegunFrame, IsMalformed, Sent, frame_bytes, position_bytes}
+use Rattle.message_frames.specs.Frames.{AreFrames, IsBegunFrame, IsMalformedFrame, Sent, frame_bytes, position_bytes}
 use Rattle.message_laws.specs.NearRounds.{Near}
 use Rattle.message_session.specs.Answers.{AskAlike, each_frame, session_bytes}
-use Rattle.message_session.specs.declared.ended.Ended.{Ended}
-use Rattle.message_session.specs.declared.ended.Ended.TheVariants.{End, NoFrame, Fault}
+use Rattle.message_session.specs.declared.ended.MessagesEnd.{MessagesEnd}
+use Rattle.message_session.specs.declared.ended.MessagesEnd.TheVariants.{End, NoFrame, Fault}
 use Rattle.lisp_object.specs.declared.refusal.TheConstants.{INPUT, LOG_FULL, NO_MEMORY, OUTPUT, REOPEN, SNAPSHOT_TOO_LARGE}
 use Rattle.plist_state.specs.State.{WorldState}
 use Rattle.prevalence_store.specs.calls.Execute.{SurvivesAs}
@@ -81,7 +81,7 @@ module _ (functions : Functions) (last : ℕ) (world : WorldState) where
 
       -- The store, as those that were answered left it, refused the next ones: with 64 one alone, in a half that holds nothing but the
       -- text of the world. Its own clause says why, and what it has now.
-      pub record IsUntaken : Type 0 where
+      pub record EndsAtRefusedFrames : Type 0 where
         pub before : StoreView D R
         pub before_last : ℕ
         pub after : HasCarriedOut answered before_last before
@@ -100,7 +100,7 @@ module _ (functions : Functions) (last : ℕ) (world : WorldState) where
 
       -- It refused a snapshot, that was due, or for the next ones, which had no room. One that is too large ends it for one frame alone:
       -- it is passed over if it is due.
-      pub record IsUnrenewed : Type 0 where
+      pub record EndsAtRefusedSnapshot : Type 0 where
         pub before : StoreView D R
         pub before_last : ℕ
         pub after : HasCarriedOut answered before_last before
@@ -110,16 +110,16 @@ module _ (functions : Functions) (last : ℕ) (world : WorldState) where
 
       -- a cause that is not of the input
       abbrev pub HasCause : Type 0
-      HasCause = EndsUnwritten ⊎ (EndsWithoutMemory ⊎ (IsUntaken ⊎ IsUnrenewed))
+      HasCause = EndsUnwritten ⊎ (EndsWithoutMemory ⊎ (EndsAtRefusedFrames ⊎ EndsAtRefusedSnapshot))
 
     module _ (read : List ℕ) where
       -- what was read begins with these frames, which were answered, and these bytes come after them
-      pub record AreServed (frames : List Sent) (rest : List ℕ) (now_last : ℕ) : Type 0 where
+      pub record BeginsWithAnsweredFrames (frames : List Sent) (rest : List ℕ) (now_last : ℕ) : Type 0 where
         pub parts : AreFrames text_limit frames rest read
         pub answered : AreFramesAnswered frames now_last
 
       -- It ended by a fault, and this is why. What was read begins with the frames that were answered and the next ones.
-      pub record IsBroken (number : ℕ) : Type 0 where
+      pub record EndsByFault (number : ℕ) : Type 0 where
         pub answered : List Sent
         pub next : List Sent
         pub rest : List ℕ
@@ -128,11 +128,11 @@ module _ (functions : Functions) (last : ℕ) (world : WorldState) where
 
       -- How it ends. At the end of the input, with less than a frame after those that were answered. At bytes that are no frame, however
       -- they go on, with so many bytes before them. Or at a fault.
-      abbrev pub EndsBy : Option (List ℕ) → Ended → Type 0
-      EndsBy left End = (frames : List Sent) × (rest : List ℕ) × (now_last : ℕ) × AreServed frames rest now_last × IsBegunFrame text_limit rest × IsAtEnd left
-      EndsBy left (NoFrame place) = (frames : List Sent) × (rest : List ℕ) × (now_last : ℕ) × AreServed frames rest now_last × IsMalformed text_limit rest
+      abbrev pub EndsBy : Option (List ℕ) → MessagesEnd → Type 0
+      EndsBy left End = (frames : List Sent) × (rest : List ℕ) × (now_last : ℕ) × BeginsWithAnsweredFrames frames rest now_last × IsBegunFrame text_limit rest × IsAtEnd left
+      EndsBy left (NoFrame place) = (frames : List Sent) × (rest : List ℕ) × (now_last : ℕ) × BeginsWithAnsweredFrames frames rest now_last × IsMalformedFrame text_limit rest
           × (place ≡ length (flat_map frame_bytes frames))
-      EndsBy left (Fault number) = IsBroken number
+      EndsBy left (Fault number) = EndsByFault number
 
 -- ---- a session
 
@@ -169,7 +169,7 @@ module _ (functions : Functions) {D R : Type 0} (state : D → State) where
 
   module _ (old new : StoreView D R) (world : WorldState) (has left held written : Option (List ℕ)) where
     -- Messages could not be begun, or there was no memory to tell the position: nothing was read or written.
-    pub record IsUnbegun (ended : Ended) : Type 0 where
+    pub record DoesNotBegin (ended : MessagesEnd) : Type 0 where
       pub number : ℕ
       pub fault : ended ≡ Fault number
       pub store : CannotBegin old new world number ⊎ IsNotTold old new world number
@@ -177,7 +177,7 @@ module _ (functions : Functions) {D R : Type 0} (state : D → State) where
       pub unwritten : written ≡ held
 
     -- A write failed, or took nothing, before the position was told whole. Nothing was read.
-    pub record IsUntold (ended : Ended) : Type 0 where
+    pub record EndsBeforePosition (ended : MessagesEnd) : Type 0 where
       pub position : ℕ
       pub first : WorldState
       pub begins : MessagesBegin old new world position first
@@ -186,7 +186,7 @@ module _ (functions : Functions) {D R : Type 0} (state : D → State) where
       pub part : WritesPart held written (position_bytes position)
 
     -- The position was told, and frames were read and answered, until it ended so.
-    pub record IsServed (ended : Ended) : Type 0 where
+    pub record EndsAfterFrames (ended : MessagesEnd) : Type 0 where
       pub position : ℕ
       pub first : WorldState
       pub mid : StoreView D R
@@ -196,15 +196,15 @@ module _ (functions : Functions) {D R : Type 0} (state : D → State) where
       pub ends : EndsBy functions position first state new held written (session_bytes functions position first) read left ended
 
     -- What `serve_messages` does.
-    abbrev pub ServesMessages : Ended → Type 0
-    ServesMessages ended = IsUnbegun ended ⊎ (IsUntold ended ⊎ IsServed ended)
+    abbrev pub ServesMessages : MessagesEnd → Type 0
+    ServesMessages ended = DoesNotBegin ended ⊎ (EndsBeforePosition ended ⊎ EndsAfterFrames ended)
 
 -- A session over a store that has met a device fault does nothing.
-abbrev pub SessionAsksToReopen : {D R I O : Type 0} → (old new : StoreView D R) → (input left : I) → (held written : O) → Ended → Type 0
+abbrev pub SessionAsksToReopen : {D R I O : Type 0} → (old new : StoreView D R) → (input left : I) → (held written : O) → MessagesEnd → Type 0
 SessionAsksToReopen old new input left held written ended = (ended ≡ Fault REOPEN) × (new ≡ old) × (left ≡ input) × (written ≡ held)
 
 -- How a session ended, where zeros were cut behind the half in use after it: with the number of what failed there, else as it ended. A store
 -- that met a device fault before cuts nothing.
-abbrev pub message_end_after_cut : Result Unit ℕ → Ended → Ended
+abbrev pub message_end_after_cut : Result Unit ℕ → MessagesEnd → MessagesEnd
 message_end_after_cut (Ok done) ended = ended
 message_end_after_cut (Err number) ended = if number == REOPEN then ended else Fault number

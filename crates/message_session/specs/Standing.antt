@@ -7,7 +7,7 @@ use Rattle.message_session.specs.Account.{MessageAccount, AreNext, FramesAreUnde
 use Rattle.message_session.specs.Sessions.{text_limit}
 use Rattle.message_session.specs.declared.answer.Stop.{Stop}
 use Rattle.message_session.specs.declared.answer.Stop.TheVariants as stop
-use Rattle.message_session.specs.declared.ended.Ended.{Ended}
+use Rattle.message_session.specs.declared.ended.MessagesEnd.{MessagesEnd}
 use Rattle.plist_state.specs.State.{WorldState}
 use Rattle.prevalence_store.specs.Theorem.{Survives}
 use Rattle.prevalence_store.specs.calls.Store.{StoreView}
@@ -61,7 +61,7 @@ module _ (functions : Functions) {D R : Type 0} (state : D → State) where
   AcknowledgesNoFrame told store = (account : MessageAccount D) → told ≡ Some account → FramesAreUnderWay functions state account store
 
   -- after a step: it rests, or the session has ended
-  abbrev pub RestsOrEnds : {A : Type 0} → Option (MessageAccount D) → StoreView D R → ℕ → Result A Ended → Type 0
+  abbrev pub RestsOrEnds : {A : Type 0} → Option (MessageAccount D) → StoreView D R → ℕ → Result A MessagesEnd → Type 0
   RestsOrEnds told store last (Ok done) = RestsAt told store last
   RestsOrEnds told store last (Err ended) = AcknowledgesNoFrame told store
 

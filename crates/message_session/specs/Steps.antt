@@ -3,15 +3,15 @@ use Rattle.std.specs.Prelude.{ℕ, ◌≡◌, ◌≢◌, ◌⊎◌, ◌<◌, Boo
 use Rattle.std.specs.Io.KnownBytes.{Consumes, IsAtEnd}
 use Rattle.disk_trait.specs.Disk.{State}
 use Rattle.lisp_object.specs.declared.refusal.TheConstants.{DEVICE, INPUT, LOG_FULL, NO_MEMORY, SNAPSHOT_TOO_LARGE}
-use Rattle.message_frames.specs.Frames.{AreFrames, IsBegunFrame, IsMalformed, Sent}
+use Rattle.message_frames.specs.Frames.{AreFrames, IsBegunFrame, IsMalformedFrame, Sent}
 use Rattle.message_frames.specs.declared.held.Next.{Next}
 use Rattle.message_frames.specs.declared.held.Next.TheVariants as next
 use Rattle.message_session.specs.Answers.{AskAlike, answered_bytes}
-use Rattle.message_session.specs.Sessions.{AreFramesAnswered, AreServed, CannotBegin, EndsBy, HasCause, MessagesBegin, text_limit}
+use Rattle.message_session.specs.Sessions.{AreFramesAnswered, BeginsWithAnsweredFrames, CannotBegin, EndsBy, HasCause, MessagesBegin, text_limit}
 use Rattle.message_session.specs.declared.answer.Stop.{Stop}
 use Rattle.message_session.specs.declared.answer.Stop.TheVariants as stop
-use Rattle.message_session.specs.declared.ended.Ended.{Ended}
-use Rattle.message_session.specs.declared.ended.Ended.TheVariants.{End, NoFrame, Fault}
+use Rattle.message_session.specs.declared.ended.MessagesEnd.{MessagesEnd}
+use Rattle.message_session.specs.declared.ended.MessagesEnd.TheVariants.{End, NoFrame, Fault}
 use Rattle.message_session.specs.declared.serve.Session.{Session}
 use Rattle.plist_state.specs.State.{WorldState}
 use Rattle.prevalence_store.specs.calls.Execute.{SurvivesAs}
@@ -24,7 +24,7 @@ use Rattle.message_session.specs.declared.answer.TheConstants.{MOST_CLIENTS}
 use Rattle.user_macros.specs.Functions.{Functions}
 
 -- as the end of a session
-abbrev pub ended_by : Stop → Ended
+abbrev pub ended_by : Stop → MessagesEnd
 ended_by (stop.Untaken number) = Fault number
 ended_by (stop.Ended ended) = ended
 
@@ -37,7 +37,7 @@ StopsAfter number (stop.Ended ended) = (ended ≡ Fault number) × (number ≢ L
 -- what comes after frames that were answered, of which there are some if nobody looked
 abbrev pub ComesAfter : List Sent → List ℕ → Next → Type 0
 ComesAfter frames rest next.Begun = IsBegunFrame text_limit rest
-ComesAfter frames rest next.Malformed = IsMalformed text_limit rest
+ComesAfter frames rest next.Malformed = IsMalformedFrame text_limit rest
 ComesAfter frames rest next.Unread = frames ≢ []
 
 module _ (functions : Functions) {D R : Type 0} (state : D → State) (old new : StoreView D R) (world : WorldState) where
@@ -47,7 +47,7 @@ module _ (functions : Functions) {D R : Type 0} (state : D → State) (old new :
   RenewsForRoom (Err number) = Snapshots functions state old new world (Refused number)
 
   -- One that is due was taken, or was too large. None may be due.
-  abbrev pub RenewsWhereDue : Result Unit Ended → Type 0
+  abbrev pub RenewsWhereDue : Result Unit MessagesEnd → Type 0
   RenewsWhereDue (Ok done) = (new.world ≡ Some world) × SurvivesAs functions state old new world [] 0
   RenewsWhereDue (Err ended) = (number : ℕ) × (ended ≡ Fault number) × (number ≢ SNAPSHOT_TOO_LARGE) × Snapshots functions state old new world (Refused number)
 
@@ -63,18 +63,18 @@ module _ (functions : Functions) (last : ℕ) (world : WorldState) {D R : Type 0
     pub refused : AnswersAllAsked functions state old old world MOST_CLIENTS last asked (Err number)
 
   -- nothing was done with these frames: there was no memory for them, or the store refused the first of them
-  abbrev pub AreUntaken : StoreView D R → List Sent → ℕ → Type 0
-  AreUntaken old frames number = (number ≡ NO_MEMORY) ⊎ RefusesFirst old frames number
+  abbrev pub AreFramesUntaken : StoreView D R → List Sent → ℕ → Type 0
+  AreFramesUntaken old frames number = (number ≡ NO_MEMORY) ⊎ RefusesFirst old frames number
 
   module _ (store : StoreView D R) (held written : Option (List ℕ)) where
     -- a fault came, after these frames were answered; these come next
-    abbrev pub IsFaultAfter : (answered next : List Sent) → Ended → Type 0
+    abbrev pub IsFaultAfter : (answered next : List Sent) → MessagesEnd → Type 0
     IsFaultAfter answered next End = ⊥
     IsFaultAfter answered next (NoFrame place) = ⊥
     IsFaultAfter answered next (Fault number) = HasCause functions last world state store held written (answered_bytes functions last world) answered next number
 
     -- a fault came among these frames, some of which were answered before it
-    pub record Breaks (frames : List Sent) (ended : Ended) : Type 0 where
+    pub record Breaks (frames : List Sent) (ended : MessagesEnd) : Type 0 where
       pub answered : List Sent
       pub next : List Sent
       pub undone : List Sent
@@ -82,7 +82,7 @@ module _ (functions : Functions) (last : ℕ) (world : WorldState) {D R : Type 0
       pub fault : IsFaultAfter answered next ended
 
     -- a fault came among the frames of these bytes
-    pub record BreaksIn (read : List ℕ) (ended : Ended) : Type 0 where
+    pub record BreaksIn (read : List ℕ) (ended : MessagesEnd) : Type 0 where
       pub answered : List Sent
       pub next : List Sent
       pub rest : List ℕ
@@ -90,19 +90,19 @@ module _ (functions : Functions) (last : ℕ) (world : WorldState) {D R : Type 0
       pub fault : IsFaultAfter answered next ended
 
     module _ (now_last : ℕ) where
-      abbrev pub AnswersFrames : List Sent → Result Unit Ended → Type 0
+      abbrev pub AnswersFrames : List Sent → Result Unit MessagesEnd → Type 0
       AnswersFrames frames (Ok done) = AreFramesAnswered functions last world state store held written (answered_bytes functions last world) frames now_last
       AnswersFrames frames (Err ended) = Breaks frames ended
 
       -- the first so many of these frames were answered, or a fault ended the session among them
-      abbrev pub AnswersFront : List Sent → Result ℕ Ended → Type 0
+      abbrev pub AnswersFront : List Sent → Result ℕ MessagesEnd → Type 0
       AnswersFront frames (Ok count) = AreFramesAnswered functions last world state store held written (answered_bytes functions last world) (take count frames) now_last
       AnswersFront frames (Err ended) = Breaks frames ended
 
       -- The first so many of these frames were answered; or nothing was done with them, and all is as it was; or a fault ended the session.
       abbrev pub TakesFrames : StoreView D R → List Sent → Result ℕ Stop → Type 0
       TakesFrames old frames (Ok count) = AreFramesAnswered functions last world state store held written (answered_bytes functions last world) (take count frames) now_last
-      TakesFrames old frames (Err (stop.Untaken number)) = (written ≡ held) × (now_last ≡ last) × (store ≡ old) × AreUntaken old frames number
+      TakesFrames old frames (Err (stop.Untaken number)) = (written ≡ held) × (now_last ≡ last) × (store ≡ old) × AreFramesUntaken old frames number
       TakesFrames old frames (Err (stop.Ended ended)) = Breaks frames ended
 
       -- The same after a snapshot for room: where nothing came of one frame alone, that is a fault which ends the session.
@@ -113,7 +113,7 @@ module _ (functions : Functions) (last : ℕ) (world : WorldState) {D R : Type 0
 
       -- these frames were answered, and these bytes come after them
       abbrev pub ServesFrames : List ℕ → List Sent → List ℕ → Type 0
-      ServesFrames read frames rest = AreServed functions last world state store held written (answered_bytes functions last world) read frames rest now_last
+      ServesFrames read frames rest = BeginsWithAnsweredFrames functions last world state store held written (answered_bytes functions last world) read frames rest now_last
 
 -- of the bytes that are held
 module _ (functions : Functions) (old new : Session) (world : WorldState) {D R : Type 0} (state : D → State) (store : StoreView D R) (held written : Option (List ℕ)) where
@@ -121,14 +121,14 @@ module _ (functions : Functions) (old new : Session) (world : WorldState) {D R :
   PassesFrames frames = ServesFrames functions old.course.last world state store held written new.course.last old.held frames new.held
 
   -- some frames were answered
-  abbrev pub AnswersSomeHeld : Result Next Ended → Type 0
+  abbrev pub AnswersSomeHeld : Result Next MessagesEnd → Type 0
   AnswersSomeHeld (Ok next) = (frames : List Sent) × PassesFrames frames × ComesAfter frames new.held next
   AnswersSomeHeld (Err ended) = BreaksIn functions old.course.last world state store held written old.held ended
 
   -- all frames were answered that stand whole; true if more bytes may make a frame of what is left
-  abbrev pub AnswersAllHeld : Result Bool Ended → Type 0
+  abbrev pub AnswersAllHeld : Result Bool MessagesEnd → Type 0
   AnswersAllHeld (Ok true) = (frames : List Sent) × PassesFrames frames × IsBegunFrame text_limit new.held
-  AnswersAllHeld (Ok false) = (frames : List Sent) × PassesFrames frames × IsMalformed text_limit new.held
+  AnswersAllHeld (Ok false) = (frames : List Sent) × PassesFrames frames × IsMalformedFrame text_limit new.held
   AnswersAllHeld (Err ended) = BreaksIn functions old.course.last world state store held written old.held ended
 
 -- a piece came, and is held after what was, none at the end; or a read failed, which took nothing; or there was no memory to hold the piece
@@ -140,11 +140,11 @@ TakesPiece has left old new (Err number) = ((number ≡ INPUT) × Consumes has l
 
 module _ (functions : Functions) {D R : Type 0} (state : D → State) (old new : StoreView D R) (world : WorldState) where
   -- messages were begun; or the session ends, with the number of what could not be done
-  abbrev pub MayBegin : Result ℕ Ended → Type 0
+  abbrev pub MayBegin : Result ℕ MessagesEnd → Type 0
   MayBegin (Ok position) = (first : WorldState) × MessagesBegin functions state old new world position first
   MayBegin (Err ended) = (number : ℕ) × (ended ≡ Fault number) × CannotBegin functions state old new world number
 
 -- the frames of an input were answered
-abbrev pub AnswersFramesOfInput : Functions → ℕ → WorldState → {D R : Type 0} → (D → State) → StoreView D R → (has left held written : Option (List ℕ)) → Ended → Type 0
+abbrev pub AnswersFramesOfInput : Functions → ℕ → WorldState → {D R : Type 0} → (D → State) → StoreView D R → (has left held written : Option (List ℕ)) → MessagesEnd → Type 0
 AnswersFramesOfInput functions last world state store has left held written ended =
     (read : List ℕ) × Consumes has left read × EndsBy functions last world state store held written (answered_bytes functions last world) read left ended

@@ -9,13 +9,13 @@ ghost use Rattle.plist_state.specs.Sound.{IsSoundWorldState};
 ghost use Rattle.plist_state.specs.State.{WorldState};
 ghost use Rattle.messages.specs.Rounds.{told_in};
 
-use crate::ended::Ended;
+use crate::ended::MessagesEnd;
 use crate::recipient::AnswerRecipient;
 use client_table::{AnyRequest, Named, answer_first_asked};
 use disk_trait::Disk;
 use lisp_object::refusal::{LOG_FULL, NO_MEMORY, OUTPUT, SNAPSHOT_TOO_LARGE};
 use message_frames::{Kind, MessageFrame, push_answer};
-use messages::{Answer, Replies, Request};
+use messages::{Replies, Request, RequestAnswer};
 use prevalence_store::{Outcome, Store};
 use std::alloc::{AllocError, Global};
 use user_macros::MacroFunctions;
@@ -46,7 +46,7 @@ impl MessageCourse {
     fn renew_if_due<D: Disk, R: MacroFunctions>(
         &mut self,
         store: &mut Store<D, R>,
-    ) -> Result<(), Ended>
+    ) -> Result<(), MessagesEnd>
         ensures renews { (w : WorldState) → store.old.world ≡ Some w
             → RenewsWhereDue R.Meaning.functions D.state store.old store.new w result }
         ensures last { self.new.last ≡ self.old.last }
@@ -71,14 +71,14 @@ pub(crate) fn its_world_is_sound<D: Disk, R: MacroFunctions>(store: &Store<D, R>
 }
 
 // Takes a snapshot. One that is too large for the half is passed over.
-fn renew<D: Disk, R: MacroFunctions>(store: &mut Store<D, R>) -> Result<(), Ended>
+fn renew<D: Disk, R: MacroFunctions>(store: &mut Store<D, R>) -> Result<(), MessagesEnd>
     ensures renews { (w : WorldState) → store.old.world ≡ Some w
         → RenewsWhereDue R.Meaning.functions D.state store.old store.new w result }
     ensures macros { store.new.macros ≡ store.old.macros }
 {
     match store.snapshot() {
         Outcome::Refused(SNAPSHOT_TOO_LARGE) => Ok(()),
-        Outcome::Refused(number) => Err(Ended::Fault(number)),
+        Outcome::Refused(number) => Err(MessagesEnd::Fault(number)),
         _ => Ok(()),
     }
 }
@@ -101,15 +101,15 @@ enum Stop {
     // There was no room or no memory for them, or no snapshot for room, with this number. Fewer of them may be tried.
     Untaken(u16),
     // The session has ended.
-    Ended(Ended),
+    MessagesEnd(MessagesEnd),
 }
 
 impl Stop {
-    fn ended(self) -> Ended
+    fn ended(self) -> MessagesEnd
         ensures { result ≡ ended_by self }
     {
         match self {
-            Stop::Untaken(number) => Ended::Fault(number),
+            Stop::Untaken(number) => MessagesEnd::Fault(number),
             Stop::Ended(ended) => ended,
         }
     }
@@ -122,7 +122,7 @@ pub(crate) fn answer_frames<D: Disk, R: MacroFunctions, O: AnswerRecipient<D, R>
     course: &mut MessageCourse,
     frames: &[MessageFrame<'_>],
     output: &mut O,
-) -> Result<(), Ended>
+) -> Result<(), MessagesEnd>
     requires rests { RestsAt R.Meaning.functions D.state (O.account output.old) store.old course.old.last }
     requires next { ComeNext (O.account output.old) (map sent_frame frames.now) }
     ensures answers { (w : WorldState) → store.old.world ≡ Some w
@@ -154,7 +154,7 @@ fn answer_front<D: Disk, R: MacroFunctions, O: AnswerRecipient<D, R>>(
     course: &mut MessageCourse,
     frames: &[MessageFrame<'_>],
     output: &mut O,
-) -> Result<usize, Ended>
+) -> Result<usize, MessagesEnd>
     requires rests { RestsAt R.Meaning.functions D.state (O.account output.old) store.old course.old.last }
     requires next { ComeNext (O.account output.old) (map sent_frame frames.now) }
     requires any { 0 < length frames.now }
@@ -189,7 +189,7 @@ fn answer_in_turn<D: Disk, R: MacroFunctions, O: AnswerRecipient<D, R>>(
     course: &mut MessageCourse,
     frames: &[MessageFrame<'_>],
     output: &mut O,
-) -> Result<usize, Ended>
+) -> Result<usize, MessagesEnd>
     requires rests { RestsAt R.Meaning.functions D.state (O.account output.old) store.old course.old.last }
     requires next { ComeNext (O.account output.old) (map sent_frame frames.now) }
     requires any { 0 < length frames.now }
@@ -259,7 +259,7 @@ fn take_with_room<D: Disk, R: MacroFunctions, O: AnswerRecipient<D, R>>(
     match renew_for_room(store) {
         Ok(()) => {}
         Err(SNAPSHOT_TOO_LARGE) => return Err(Stop::Untaken(SNAPSHOT_TOO_LARGE)),
-        Err(number) => return Err(Stop::Ended(Ended::Fault(number))),
+        Err(number) => return Err(Stop::Ended(MessagesEnd::Fault(number))),
     }
     // the half that is begun holds the text of the world alone
     course.wrote = 0;
@@ -307,13 +307,13 @@ fn take_frames<D: Disk, R: MacroFunctions, O: AnswerRecipient<D, R>>(
     let answered = &frames[..count];
     // they are carried out, so that nothing tries them again
     let Ok(bytes) = bytes_of(alloc, answered, replies.answers.as_slice()) else {
-        return Err(Stop::Ended(Ended::Fault(NO_MEMORY)));
+        return Err(Stop::Ended(MessagesEnd::Fault(NO_MEMORY)));
     };
     store.keeps_its_world();
     // what is answered is stored: the answers come after the records
     match output.write_answers(store, bytes.as_slice(), answered) {
         Ok(()) => {}
-        Err(_) => return Err(Stop::Ended(Ended::Fault(OUTPUT))),
+        Err(_) => return Err(Stop::Ended(MessagesEnd::Fault(OUTPUT))),
     }
     match course.renew_if_due(store) {
         Ok(()) => Ok(count),
@@ -328,7 +328,7 @@ fn stop_after(number: u16) -> Stop
     match number {
         LOG_FULL => Stop::Untaken(number),
         NO_MEMORY => Stop::Untaken(number),
-        _ => Stop::Ended(Ended::Fault(number)),
+        _ => Stop::Ended(MessagesEnd::Fault(number)),
     }
 }
 
@@ -377,7 +377,7 @@ fn asked_by(frame: MessageFrame<'_>) -> AnyRequest<'_>
 fn bytes_of(
     alloc: Global,
     frames: &[MessageFrame<'_>],
-    answers: &[Answer],
+    answers: &[RequestAnswer],
 ) -> Result<Vec<u8>, AllocError>
     ensures { IfOk result (λ bytes. bytes.items
         ≡ flat_map answer_bytes (answers_to (map sent_frame frames.now) (map told_in answers.now))) }

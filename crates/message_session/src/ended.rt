@@ -6,7 +6,7 @@ use lisp_object::refusal::REOPEN;
 
 /// How a session of messages ended.
 #[derive(Clone, Copy, Debug, PartialEq, Eq)]
-pub enum Ended {
+pub enum MessagesEnd {
     /// At the end of the input. A frame that it cut is not carried out.
     End,
     /// At bytes that are no frame, after so many bytes of the input. Nothing of them is carried out.
@@ -15,10 +15,10 @@ pub enum Ended {
     Fault(u16),
 }
 
-impl Ended {
+impl MessagesEnd {
     /// How a session ended after which zeros were cut behind the half in use (`cut_zeros` of prevalence_store): with the number of what
     /// failed there, else as it ended. A store that met a device fault before cuts nothing.
-    pub fn after_cut(self, cut: Result<(), u16>) -> Ended
+    pub fn after_cut(self, cut: Result<(), u16>) -> MessagesEnd
         ensures { result ≡ message_end_after_cut cut self }
     {
         match cut {
@@ -27,7 +27,7 @@ impl Ended {
                 if number == REOPEN {
                     self
                 } else {
-                    Ended::Fault(number)
+                    MessagesEnd::Fault(number)
                 }
             }
         }

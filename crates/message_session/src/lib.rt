@@ -2,7 +2,7 @@
 //!
 //! `serve_messages` (module `serve`) serves the frames of an input over a store, to an output. It promises what is written: the position,
 //! and the answer to each frame (specs/Answers.antt), as far as the session came, and why a fault ended it (specs/Sessions.antt). How a session
-//! ended is `Ended`.
+//! ended is `MessagesEnd`.
 //!
 //! - `serve`: messages are begun, and the input is read to its end. What came is held (`Held` of message_frames) until it is whole frames
 //! - `answer`: frames are handed to the store together, which answers the first of them (`answer_first_asked` of client_table), and
@@ -22,6 +22,6 @@ mod recipient;
 mod serve;
 
 pub use answer::MOST_CLIENTS;
-pub use ended::Ended;
+pub use ended::MessagesEnd;
 pub use recipient::AnswerRecipient;
 pub use serve::serve_messages;

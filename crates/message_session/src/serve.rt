@@ -9,7 +9,7 @@ ghost use Rattle.message_session.specs.Steps.{AnswersAllHeld, AnswersFramesOfInp
 ghost use Rattle.plist_state.specs.State.{WorldState};
 
 use crate::answer::{MessageCourse, answer_frames, its_world_is_sound, renew_for_room};
-use crate::ended::Ended;
+use crate::ended::MessagesEnd;
 use crate::recipient::AnswerRecipient;
 use disk_trait::Disk;
 use lisp_object::refusal::{INPUT, LOG_FULL, NO_MEMORY, OUTPUT};
@@ -55,7 +55,7 @@ pub fn serve_messages<D: Disk, R: MacroFunctions, I: Read, O: AnswerRecipient<D,
     input: &mut I,
     output: &mut O,
     snapshot_every: u64,
-) -> Ended
+) -> MessagesEnd
     requires begins { (kept : MessageAccount D) → O.account output.old ≡ Some kept → ⊥ }
     requires of_input { (all : List ℕ) → O.input output.old ≡ Some all → I.remaining input.old ≡ Some all }
     ensures reopen { store.old.world ≡ None
@@ -74,12 +74,12 @@ pub fn serve_messages<D: Disk, R: MacroFunctions, I: Read, O: AnswerRecipient<D,
     its_world_is_sound(store);
     let mut told = Vec::new(alloc);
     let Ok(()) = push_position(&mut told, last) else {
-        return Ended::Fault(NO_MEMORY);
+        return MessagesEnd::Fault(NO_MEMORY);
     };
     store.keeps_its_world();
     match output.write_position(store, told.as_slice(), last) {
         Ok(()) => {}
-        Err(_) => return Ended::Fault(OUTPUT),
+        Err(_) => return MessagesEnd::Fault(OUTPUT),
     }
     let course = MessageCourse {
         last,
@@ -90,8 +90,9 @@ pub fn serve_messages<D: Disk, R: MacroFunctions, I: Read, O: AnswerRecipient<D,
 }
 
 // Begins with messages. A half that is full is made anew first.
-fn begin<D: Disk, R: MacroFunctions>(store: &mut Store<D, R>) -> Result<u64, Ended>
-    ensures reopen { store.old.world ≡ None → (result ≡ Err (Ended.Fault REOPEN)) × (store.new ≡ store.old) }
+fn begin<D: Disk, R: MacroFunctions>(store: &mut Store<D, R>) -> Result<u64, MessagesEnd>
+    ensures reopen { store.old.world ≡ None
+        → (result ≡ Err (MessagesEnd.Fault REOPEN)) × (store.new ≡ store.old) }
     ensures begun { (w : WorldState) → store.old.world ≡ Some w
         → MayBegin R.Meaning.functions D.state store.old store.new w result }
     ensures told { IfOk result (λ position. (w : WorldState) → store.new.world ≡ Some w
@@ -101,12 +102,12 @@ fn begin<D: Disk, R: MacroFunctions>(store: &mut Store<D, R>) -> Result<u64, End
     match begin_messages(store) {
         Ok(position) => Ok(position),
         Err(LOG_FULL) => begin_anew(store),
-        Err(number) => Err(Ended::Fault(number)),
+        Err(number) => Err(MessagesEnd::Fault(number)),
     }
 }
 
 // Begins with messages in a half that is made anew, as there was no room.
-fn begin_anew<D: Disk, R: MacroFunctions>(store: &mut Store<D, R>) -> Result<u64, Ended>
+fn begin_anew<D: Disk, R: MacroFunctions>(store: &mut Store<D, R>) -> Result<u64, MessagesEnd>
     ensures begun { (w : WorldState) → store.old.world ≡ Some w
         → HasNoRoomToBegin R.Meaning.functions D.state store.old w
         → MayBegin R.Meaning.functions D.state store.old store.new w result }
@@ -116,11 +117,11 @@ fn begin_anew<D: Disk, R: MacroFunctions>(store: &mut Store<D, R>) -> Result<u64
 {
     match renew_for_room(store) {
         Ok(()) => {}
-        Err(number) => return Err(Ended::Fault(number)),
+        Err(number) => return Err(MessagesEnd::Fault(number)),
     }
     match begin_messages(store) {
         Ok(position) => Ok(position),
-        Err(number) => Err(Ended::Fault(number)),
+        Err(number) => Err(MessagesEnd::Fault(number)),
     }
 }
 
@@ -131,7 +132,7 @@ fn serve_frames<D: Disk, R: MacroFunctions, I: Read, O: AnswerRecipient<D, R>>(
     input: &mut I,
     output: &mut O,
     course: MessageCourse,
-) -> Ended
+) -> MessagesEnd
     requires rests { RestsAt R.Meaning.functions D.state (O.account output.old) store.old course.last }
     requires read { IsReadIn (O.account output.old) (I.remaining input.old) [] }
     ensures serves { (w : WorldState) → store.old.world ≡ Some w
@@ -143,7 +144,7 @@ fn serve_frames<D: Disk, R: MacroFunctions, I: Read, O: AnswerRecipient<D, R>>(
 {
     its_world_is_sound(store);
     let Ok(mut piece) = vec![in alloc; 0u8; PIECE] else {
-        return Ended::Fault(NO_MEMORY);
+        return MessagesEnd::Fault(NO_MEMORY);
     };
     let mut session = Session {
         alloc,
@@ -155,20 +156,20 @@ fn serve_frames<D: Disk, R: MacroFunctions, I: Read, O: AnswerRecipient<D, R>>(
     'pieces: while reads < MOST_READS {
         reads += 1;
         let count = match read_piece(input, &mut session.held, piece.as_mut_slice()) {
-            Ok(0) => return Ended::End,
+            Ok(0) => return MessagesEnd::End,
             Ok(count) => count,
-            Err(number) => return Ended::Fault(number),
+            Err(number) => return MessagesEnd::Fault(number),
         };
         came += count as u64;
         match session.answer_whole(store, output) {
             Ok(true) => {}
             Ok(false) => {
-                return Ended::NoFrame(came.saturating_sub(session.held.bytes().len() as u64));
+                return MessagesEnd::NoFrame(came.saturating_sub(session.held.bytes().len() as u64));
             }
             Err(ended) => return ended,
         }
     }
-    Ended::Fault(INPUT)
+    MessagesEnd::Fault(INPUT)
 }
 
 // Reads a piece of the input, and holds it. Gives how many bytes came: none at the end of the input.
@@ -200,7 +201,7 @@ impl Session {
         &mut self,
         store: &mut Store<D, R>,
         output: &mut O,
-    ) -> Result<bool, Ended>
+    ) -> Result<bool, MessagesEnd>
         requires rests { RestsAt R.Meaning.functions D.state
             (O.account output.old) store.old self.old.course.last }
         requires next { ComesNext (O.account output.old) self.old.held }
@@ -230,7 +231,7 @@ impl Session {
         &mut self,
         store: &mut Store<D, R>,
         output: &mut O,
-    ) -> Result<Next, Ended>
+    ) -> Result<Next, MessagesEnd>
         requires rests { RestsAt R.Meaning.functions D.state
             (O.account output.old) store.old self.old.course.last }
         requires next { ComesNext (O.account output.old) self.old.held }
@@ -249,7 +250,7 @@ impl Session {
         its_world_is_sound(store);
         let most = self.course.most();
         let Ok(whole) = self.held.frames(self.alloc, TEXT_LIMIT, most) else {
-            return Err(Ended::Fault(NO_MEMORY));
+            return Err(MessagesEnd::Fault(NO_MEMORY));
         };
         let (bytes, next) = (whole.bytes, whole.next);
         let frames = whole.frames.as_slice();

@@ -17,7 +17,7 @@ use Rattle.session_words.specs.declared.mode.Mode.TheVariants.{Current}
 use Rattle.prevalence_store.specs.declared.failure.Unadded.{Unadded}
 use Rattle.prevalence_store.specs.declared.failure.Unadded.TheVariants.{OutOfMemory, Refused}
 use Rattle.messages.specs.declared.own.Own.TheVariants.{Clearing, Position}
-use Rattle.messages.specs.declared.request.Answer.{Answer}
+use Rattle.messages.specs.declared.request.RequestAnswer.{RequestAnswer}
 use Rattle.messages.specs.declared.request.Replies.{Replies}
 use Rattle.messages.specs.declared.request.Request.{Request}
 use Rattle.messages.specs.declared.request.TheConstants.{ANSWER_BYTES}
@@ -276,7 +276,7 @@ abbrev text_of : Option (List ℕ × Bool) → List ℕ
 text_of None = []
 text_of (Some answer) = answer.0
 
-module _ (items : List Answer) (told : List (List ℕ × Bool)) (answer : List ℕ × Bool) (is : map told_in items ≡ told ++ answer ∷ []) where
+module _ (items : List RequestAnswer) (told : List (List ℕ × Bool)) (answer : List ℕ × Bool) (is : map told_in items ≡ told ++ answer ∷ []) where
   last_told : option_map told_in (slice_get items (length items - 1)) ≡ Some answer
   last_told =
       let more = length-append told (answer ∷ []) in
@@ -285,8 +285,8 @@ module _ (items : List Answer) (told : List (List ℕ × Bool)) (answer : List �
       sym (slice_get-map told_in items (length items - 1)) ∙ (λ i. slice_get (is i) (place i))
       ∙ slice_get-get_or (told ++ answer ∷ []) (length told) answer (omega (arith, more)) ∙ ap Some (get_or-append_seam told answer [] answer)
 
-  pub last_there : (last : Answer) → Some last ≡ slice_get items (length items - 1) → length last.text.items ≡ length answer.0
+  pub last_there : (last : RequestAnswer) → Some last ≡ slice_get items (length items - 1) → length last.text.items ≡ length answer.0
   last_there last found = ap length_of (ap (option_map told_in) found ∙ last_told)
 
-  pub last_text : (last : Answer) → Some last ≡ slice_get items (length items - 1) → last.text.items ≡ answer.0
+  pub last_text : (last : RequestAnswer) → Some last ≡ slice_get items (length items - 1) → last.text.items ≡ answer.0
   last_text last found = ap text_of (ap (option_map told_in) found ∙ last_told)

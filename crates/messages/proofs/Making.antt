@@ -35,7 +35,7 @@ use Rattle.prevalence_store.specs.meaning.Acceptance.{Acceptance, accepts, after
 use Rattle.prevalence_store.specs.calls.ExecuteAll.{logged_entries, world_left_after, told_by, told_of}
 use Rattle.messages.specs.Answers.{Round, answer_in, answer_to_question, after_question, by_number, without_its_position, given_in, one_request, with_answer, with_asked, with_form_given, with_given, with_message, with_old, with_own, wrote_by}
 use Rattle.messages.specs.Position.{own_form, own_left, own_text, position_property, with_position, without_position}
-use Rattle.messages.specs.Rounds.{MayBeLogged, IsNeeded, IsOwnForm, round_in, told_in}
+use Rattle.messages.specs.Rounds.{MayBeLogged, IsPositionNeeded, IsOwnForm, round_in, told_in}
 use Rattle.prevalence_store.specs.steps.Batch.{IsNotAdded, entries_in}
 use Rattle.prevalence_store.specs.steps.Group.{IsTurn}
 use Rattle.prevalence_store.proofs.steps.Grouping.{fit_both, one_replayed}
@@ -72,7 +72,7 @@ position_value : (names : List Name) (s : WorldState) (n : ℕ) → value names 
 unfolding value_over
 position_value names s n = refl
 
-own_value : (names : List Name) (s : WorldState) (own : Own) → IsNeeded own s → (x : Object) × (value names s (own_form own) ≡ writes x (own_left own s))
+own_value : (names : List Name) (s : WorldState) (own : Own) → IsPositionNeeded own s → (x : Object) × (value names s (own_form own) ≡ writes x (own_left own s))
 own_value names s Clearing some = let found = cleared_some s (position_property s) some in (found.0, clearing_value names s ∙ found.1)
 own_value names s (Position n) some = (integer (pos n), position_value names s n)
 
@@ -92,7 +92,7 @@ another_form : (own : Own) → is_forgetting (own_form own) ≡ false
 another_form Clearing = refl
 another_form (Position n) = refl
 
-own_accepted : (names : List Name) (s : WorldState) (own : Own) → are_there s.packages (own_form own) ≡ true → IsNeeded own s → (x : Object) × (transaction_value names s (own_form own) ≡ writes x (own_left own s))
+own_accepted : (names : List Name) (s : WorldState) (own : Own) → are_there s.packages (own_form own) ≡ true → IsPositionNeeded own s → (x : Object) × (transaction_value names s (own_form own) ≡ writes x (own_left own s))
 own_accepted names s own there needed =
     let valued = own_value names s own needed in
     let known = known_symbols s.packages (symbols (own_form own)) there in
@@ -102,7 +102,7 @@ no_error : (x : Object) (s : WorldState) (number : ℕ) → writes x s ≡ Err n
 no_error x s number is = absurd (cc)
 
 -- a form of the store's own whose symbols are there does what it is for
-pub own_effect : (names : List Name) (s : WorldState) (own : Own) (d : Done Object) → are_there s.packages (own_form own) ≡ true → IsNeeded own s → transaction_value names s (own_form own) ≡ Ok d
+pub own_effect : (names : List Name) (s : WorldState) (own : Own) (d : Done Object) → are_there s.packages (own_form own) ≡ true → IsPositionNeeded own s → transaction_value names s (own_form own) ≡ Ok d
     → (d.state ≡ own_left own s) × (d.wrote ≡ true)
 own_effect names s own d there needed is =
     let here = own_accepted names s own there needed in
@@ -139,7 +139,7 @@ module _ (functions : Functions) where
 
   -- ---- a form of the store's own that was added
 
-  pub own_added : (own : Own) (world new : WorldState) (read : ReadForm) (text : List ℕ) (e : Evaluated) → IsNeeded own world → IsOwnForm functions own world read text
+  pub own_added : (own : Own) (world new : WorldState) (read : ReadForm) (text : List ℕ) (e : Evaluated) → IsPositionNeeded own world → IsOwnForm functions own world read text
       → transaction_value functions.names world (object_of read.datum) ≡ Ok (done e new)
       → (new ≡ own_left own world) × (e.wrote ≡ true)
       × (after functions world (accepted_record Rescue (own_text own) ∷ []) ≡ Some (own_left own world)) × AllByRecursion IsLogRecord (accepted_record Rescue (own_text own) ∷ [])
@@ -156,13 +156,13 @@ module _ (functions : Functions) where
       )
 
   -- it is not refused
-  pub own_not_refused : (own : Own) (world : WorldState) (read : ReadForm) (text : List ℕ) (number : ℕ) → IsNeeded own world → IsOwnForm functions own world read text
+  pub own_not_refused : (own : Own) (world : WorldState) (read : ReadForm) (text : List ℕ) (number : ℕ) → IsPositionNeeded own world → IsOwnForm functions own world read text
       → IsNotAdded (transaction_value functions.names world (object_of read.datum)) (unadded.Refused number) → ⊥
   own_not_refused own world read text number needed is given =
       let here = own_accepted functions.names world own is.all_there needed in
       no_error here.0 (own_left own world) number (sym here.1 ∙ ap (transaction_value functions.names world) (sym is.object) ∙ given)
 
-  pub own_round : (own : Own) (held : Held) (batch : Batch) (world new : WorldState) (read : ReadForm) (text : List ℕ) (e : Evaluated) → IsNeeded own world → IsOwnForm functions own world read text
+  pub own_round : (own : Own) (held : Held) (batch : Batch) (world new : WorldState) (read : ReadForm) (text : List ℕ) (e : Evaluated) → IsPositionNeeded own world → IsOwnForm functions own world read text
       → transaction_value functions.names world (object_of read.datum) ≡ Ok (done e new) → entries_in batch ≡ entries_in held.batch ++ records_of e.wrote Rescue text
       → round_in (record held { batch = batch }) new ≡ with_own own (round_in held world)
   own_round own held batch world new read text e needed is accepted taken =

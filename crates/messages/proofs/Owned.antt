@@ -28,7 +28,7 @@ use Rattle.prevalence_store.specs.meaning.Acceptance.{read_in, transaction_value
 use Rattle.messages.specs.Answers.{Round, each_request}
 use Rattle.messages.specs.Calls.{IsNotCleared, IsNotClosed, IsNotOld, IsOwnRead, IsOwnRefused, RefusesOwn, RefusesRequest}
 use Rattle.messages.specs.Position.{own_form, own_text, position_property}
-use Rattle.messages.specs.Rounds.{IfRefused, IsNeeded, IsOwnForm, own_datum}
+use Rattle.messages.specs.Rounds.{IfRefused, IsPositionNeeded, IsOwnForm, own_datum}
 use Rattle.prevalence_store.specs.steps.Batch.{IsNotAdded}
 use Rattle.prevalence_store.specs.steps.Failure.{failure_number, is_device_failure}
 use Rattle.prevalence_store.specs.steps.Setting.{IsWholeForm}
@@ -104,7 +104,7 @@ module _ (functions : Functions) where
   pub form_taken : (world : WorldState) (own : Own) (result : Result Unit Unadded) → result ≡ Ok tt → IfErr result (λ cause. IfRefused cause (IsOwnRefused functions world own))
   form_taken world own result is = subst (λ r. IfErr r (λ cause. IfRefused cause (IsOwnRefused functions world own))) (sym is) tt
 
-  module _ (world : WorldState) (own : Own) (read : ReadForm) (text : List ℕ) (needed : IsNeeded own world) (whole : IsOwnForm functions own world read text) where
+  module _ (world : WorldState) (own : Own) (read : ReadForm) (text : List ℕ) (needed : IsPositionNeeded own world) (whole : IsOwnForm functions own world read text) where
     left_by : (cause : Unadded) → IsNotAdded (transaction_value functions.names world (object_of read.datum)) cause → IfRefused cause (IsOwnRefused functions world own)
     left_by OutOfMemory given = tt
     left_by (Refused number) given = absurd (own_not_refused functions own world read text number needed whole given)

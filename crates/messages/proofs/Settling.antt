@@ -14,7 +14,7 @@ use Rattle.prevalence_store.specs.declared.batch.Batch.{Batch}
 use Rattle.prevalence_store.specs.declared.failure.Unlogged.{Unlogged}
 use Rattle.prevalence_store.specs.declared.failure.Unlogged.TheVariants.{DeviceFault, Full, OutOfMemory}
 use Rattle.messages.specs.declared.first_requests.FirstRequests.{FirstRequests}
-use Rattle.messages.specs.declared.request.Answer.{Answer}
+use Rattle.messages.specs.declared.request.RequestAnswer.{RequestAnswer}
 use Rattle.messages.specs.declared.request.Replies.{Replies}
 use Rattle.messages.specs.declared.request.Request.{Request}
 use Rattle.messages.specs.declared.round.Round.{Round as Held}
@@ -23,7 +23,7 @@ use Rattle.prevalence_store.specs.meaning.Acceptance.{after}
 use Rattle.messages.specs.Answers.{Round, round_after_requests, first_round}
 use Rattle.messages.specs.Calls.{AnswersRequests, AreNotAnswered, FailOnDevice, entries_by, left_after}
 use Rattle.messages.specs.Rounds.{MayBeLogged as IsMadeBy, round_in, told_in}
-use Rattle.messages.specs.Turn.{AreReplied, MakesReplies, front_requests, round_of}
+use Rattle.messages.specs.Turn.{AreRequestsAnswered, MakesReplies, front_requests, round_of}
 use Rattle.prevalence_store.specs.steps.Batch.{FailsBatch, IsEmpty, StoresBatch, entries_in, entries_of}
 use Rattle.prevalence_store.specs.steps.Failure.{failure_number, is_device_failure}
 use Rattle.prevalence_store.specs.steps.Together.{IsMade, IsNotMade}
@@ -54,10 +54,10 @@ module _ (functions : Functions) (turn : FirstRequests) (w : WorldState) where
 
   module _ (held : Held) (v : WorldState) (turned : round_in held v ≡ round) (made : IsMadeBy functions w (round_in held v)) (replies : Replies) (answers : replies.answers ≡ held.answers) (last : replies.last ≡ held.last) (batch : Batch) where
     -- a message wrote
-    pub replied_written : held.wrote ≡ true → batch ≡ held.batch → AreReplied functions w round v (entries_in batch) replies
+    pub replied_written : held.wrote ≡ true → batch ≡ held.batch → AreRequestsAnswered functions w round v (entries_in batch) replies
     replied_written wrote same =
-        subst (λ (r : Round). AreReplied functions w r v (entries_in batch) replies) turned (record {
-          told = ap (λ (a : Vec Answer). map told_in a.items) answers;
+        subst (λ (r : Round). AreRequestsAnswered functions w r v (entries_in batch) replies) turned (record {
+          told = ap (λ (a : Vec RequestAnswer). map told_in a.items) answers;
           last = last;
           made = made;
           left_is = sym (ap (λ b. left_after b w v) wrote);
@@ -65,10 +65,10 @@ module _ (functions : Functions) (turn : FirstRequests) (w : WorldState) where
         })
 
     -- none did
-    pub replied_silent : (left : WorldState) → held.wrote ≡ false → left ≡ w → IsEmpty batch → AreReplied functions w round left (entries_in batch) replies
+    pub replied_silent : (left : WorldState) → held.wrote ≡ false → left ≡ w → IsEmpty batch → AreRequestsAnswered functions w round left (entries_in batch) replies
     replied_silent left wrote back none =
-        subst (λ (r : Round). AreReplied functions w r left (entries_in batch) replies) turned (record {
-          told = ap (λ (a : Vec Answer). map told_in a.items) answers;
+        subst (λ (r : Round). AreRequestsAnswered functions w r left (entries_in batch) replies) turned (record {
+          told = ap (λ (a : Vec RequestAnswer). map told_in a.items) answers;
           last = last;
           made = made;
           left_is = back ∙ sym (ap (λ b. left_after b w v) wrote);

@@ -18,12 +18,12 @@ use Rattle.messages.specs.declared.request.Request.{Request}
 use Rattle.messages.specs.declared.request.TheConstants.{NO_POSITION}
 use Rattle.session_words.specs.declared.mode.Mode.TheVariants.{Rescue}
 use Rattle.prevalence_store.specs.declared.outcome.Outcome.TheVariants.{Refused}
-use Rattle.prevalence_store.specs.calls.Execute.{DeviceFails, Executes, IsAccepted, SurvivesAs}
+use Rattle.prevalence_store.specs.calls.Execute.{DeviceFails, Executes, IsTextAccepted, SurvivesAs}
 use Rattle.prevalence_store.specs.calls.ExecuteAll.{AllOrNone, LogsAll}
 use Rattle.prevalence_store.specs.calls.Store.{StoreView}
 use Rattle.prevalence_store.specs.meaning.Acceptance.{accepts, after, read_in}
 use Rattle.messages.specs.Answers.{Round, round_after_requests, first_round, each_request}
-use Rattle.messages.specs.Position.{is_hidden, own_form, own_text, position, position_property}
+use Rattle.messages.specs.Position.{is_position_hidden, own_form, own_text, position, position_property}
 use Rattle.messages.specs.Rounds.{told_in}
 use Rattle.prevalence_store.specs.steps.Failure.{failure_number, is_device_failure}
 use Rattle.user_macros.specs.Functions.{Functions}
@@ -112,15 +112,15 @@ module _ (functions : Functions) {D R : Type 0} (state : D → State) (old new :
 
   -- the form that sets the position to 0 was accepted, and logged if it wrote
   abbrev pub SetsFirst : Type 0
-  SetsFirst = (value : Object) × IsAccepted functions state old new world Rescue (own_text (Position 0)) value
+  SetsFirst = (value : Object) × IsTextAccepted functions state old new world Rescue (own_text (Position 0)) value
 
   -- What `begin_messages` answers: the position, which is there or was set to 0. Another symbol's property is never set.
   abbrev pub BeginsMessages : Result ℕ ℕ → Type 0
   BeginsMessages (Ok number) =
-      ((position world ≡ Some number) × (new ≡ old)) ⊎ ((number ≡ 0) × (position_property world ≡ None) × (is_hidden world ≡ false) × SetsFirst)
+      ((position world ≡ Some number) × (new ≡ old)) ⊎ ((number ≡ 0) × (position_property world ≡ None) × (is_position_hidden world ≡ false) × SetsFirst)
   BeginsMessages (Err number) =
       ((number ≡ NO_POSITION) × (position world ≡ None) × IsSome (position_property world) × (new ≡ old))
-      ⊎ (((number ≡ NO_POSITION) × (position_property world ≡ None) × (is_hidden world ≡ true) × (new ≡ old))
+      ⊎ (((number ≡ NO_POSITION) × (position_property world ≡ None) × (is_position_hidden world ≡ true) × (new ≡ old))
       ⊎ (((number ≡ NO_MEMORY) × (new ≡ old))
-      ⊎ ((position_property world ≡ None) × (is_hidden world ≡ false)
+      ⊎ ((position_property world ≡ None) × (is_position_hidden world ≡ false)
       × Executes functions state old new world Rescue (own_text (Position 0)) (Refused number))))

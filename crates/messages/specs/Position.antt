@@ -35,8 +35,8 @@ is_of_another (Ok (new_in home)) = false
 is_of_another (Err error) = false
 
 -- whether the name of the position's symbol stands for another one
-abbrev pub is_hidden : WorldState → Bool
-is_hidden world = is_of_another (resolution world.packages common_lisp_user (codes "position"))
+abbrev pub is_position_hidden : WorldState → Bool
+is_position_hidden world = is_of_another (resolution world.packages common_lisp_user (codes "position"))
 
 -- the world after the position was taken out
 abbrev pub without_position : WorldState → WorldState

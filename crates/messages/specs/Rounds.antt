@@ -16,7 +16,7 @@ use Rattle.messages.specs.declared.own.Own.TheVariants.{Clearing, Position}
 use Rattle.prevalence_store.specs.declared.failure.Unadded.{Unadded}
 use Rattle.prevalence_store.specs.declared.failure.Unadded.TheVariants.{OutOfMemory, Refused}
 use Rattle.session_words.specs.declared.mode.Mode.TheVariants.{Rescue}
-use Rattle.messages.specs.declared.request.Answer.{Answer}
+use Rattle.messages.specs.declared.request.RequestAnswer.{RequestAnswer}
 use Rattle.messages.specs.declared.round.Round.{Round as Held}
 use Rattle.prevalence_store.specs.meaning.Acceptance.{after, read_in}
 use Rattle.messages.specs.Answers.{Round}
@@ -25,7 +25,7 @@ use Rattle.prevalence_store.specs.steps.Batch.{entries_in}
 use Rattle.user_macros.specs.Functions.{Functions}
 
 -- the text of an answer, and whether its message wrote
-abbrev pub told_in : Answer → List ℕ × Bool
+abbrev pub told_in : RequestAnswer → List ℕ × Bool
 told_in answer = (answer.text.items, answer.wrote)
 
 -- in this world
@@ -55,9 +55,9 @@ IfRefused OutOfMemory holds = Unit {0}
 -- ---- a form of the store's own
 
 -- the position is taken out only where it is
-abbrev pub IsNeeded : Own → WorldState → Type 0
-IsNeeded Clearing world = IsSome (position_property world)
-IsNeeded (Position n) world = Unit {0}
+abbrev pub IsPositionNeeded : Own → WorldState → Type 0
+IsPositionNeeded Clearing world = IsSome (position_property world)
+IsPositionNeeded (Position n) world = Unit {0}
 
 -- what is read of it, as a datum
 abbrev pub call_datum : List ℕ → List Datum → Datum

@@ -12,7 +12,7 @@ use Rattle.messages.specs.Rounds.{MayBeLogged, told_in}
 use Rattle.user_macros.specs.Functions.{Functions}
 
 -- Requests have these answers, and these are the records that they need. Where no message wrote there is none, and the world is as it was.
-pub record AreReplied (functions : Functions) (world : WorldState) (round : Round) (left : WorldState) (records : List LogRecord) (replies : Replies) : Type 0 where
+pub record AreRequestsAnswered (functions : Functions) (world : WorldState) (round : Round) (left : WorldState) (records : List LogRecord) (replies : Replies) : Type 0 where
   pub told : map told_in replies.answers.items ≡ round.told
   pub last : replies.last ≡ round.last
   pub made : MayBeLogged functions world round
@@ -30,5 +30,5 @@ module _ (functions : Functions) (turn : FirstRequests) (world : WorldState) whe
 
   -- what is made of them: replies, or the number with which a form of the store's own is refused
   abbrev pub MakesReplies : (left : WorldState) → List LogRecord → Result Replies ℕ → Type 0
-  MakesReplies left records (Ok replies) = AreReplied functions world round_of left records replies
+  MakesReplies left records (Ok replies) = AreRequestsAnswered functions world round_of left records replies
   MakesReplies left records (Err number) = RefusesOwn functions (first_round turn.last world) front_requests number × (left ≡ world) × (records ≡ [])

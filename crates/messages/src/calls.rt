@@ -6,7 +6,7 @@ ghost use Rattle.plist_state.specs.State.{WorldState};
 ghost use Rattle.messages.specs.Answers.{first_round};
 ghost use Rattle.messages.specs.Calls.{AnswersRequests, BeginsMessages};
 ghost use Rattle.messages.specs.Fronts.{AnswersFirst, first_of};
-ghost use Rattle.messages.specs.Position.{is_hidden, position as position_of, position_property};
+ghost use Rattle.messages.specs.Position.{is_position_hidden, position as position_of, position_property};
 
 use crate::first_requests::FirstRequests;
 use crate::own::Own;
@@ -62,7 +62,7 @@ pub fn begin_messages<D: Disk, R: MacroFunctions>(store: &mut Store<D, R>) -> Re
 // Makes 0 the position, which is not there, and whose name stands for no other symbol.
 fn set_first_position<D: Disk, R: MacroFunctions>(store: &mut Store<D, R>) -> Result<u64, u16>
     ensures begins { (world : WorldState) → store.old.world ≡ Some world
-        → position_property world ≡ None → is_hidden world ≡ false
+        → position_property world ≡ None → is_position_hidden world ≡ false
         → BeginsMessages R.Meaning.functions D.state store.old store.new world result }
     ensures honest { (D.state store.new.disk).honest ≡ (D.state store.old.disk).honest }
     ensures macros { store.new.macros ≡ store.old.macros }

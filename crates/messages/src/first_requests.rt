@@ -2,7 +2,7 @@
 ghost use Rattle.std.specs.Prelude.{◌≡◌, IfOk};
 ghost use Rattle.plist_state.specs.State.{Worlds};
 ghost use Rattle.messages.specs.Turn.{MakesReplies};
-ghost use Rattle.prevalence_store.specs.steps.Batch.{IsEmpty, IsMarked, entries_in};
+ghost use Rattle.prevalence_store.specs.steps.Batch.{IsEmpty, IsWorldMarked, entries_in};
 
 use crate::place::PositionPlace;
 use crate::request::{Replies, Request};
@@ -32,8 +32,8 @@ impl FirstRequests<'_, '_> {
         requires none { IsEmpty batch.old }
         ensures made { IfOk result (MakesReplies R.Meaning.functions self.now
             world.old.0 world.new.0 (entries_in batch.new)) }
-        ensures marks { (worlds : Worlds) → IsMarked worlds world.old.1
-            → IsMarked worlds world.new.1 }
+        ensures marks { (worlds : Worlds) → IsWorldMarked worlds world.old.1
+            → IsWorldMarked worlds world.new.1 }
     {
         let place = PositionPlace::new(batch.alloc)?;
         let mark = world.mark_count();

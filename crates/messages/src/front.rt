@@ -5,7 +5,7 @@ ghost use Rattle.messages.specs.Answers.{round_after_requests, with_its_position
 ghost use Rattle.messages.specs.Calls.{IsNotClosed, RefusesOwn};
 ghost use Rattle.messages.specs.Fronts.{first_of, is_none_left, room_left};
 ghost use Rattle.messages.specs.Rounds.{IfRefused, StaysMade, round_in, told_in};
-ghost use Rattle.prevalence_store.specs.steps.Batch.{IsMarked};
+ghost use Rattle.prevalence_store.specs.steps.Batch.{IsWorldMarked};
 
 use crate::own::Own;
 use crate::request::Request;
@@ -33,8 +33,8 @@ impl Round {
             (StaysMade R.Meaning.functions (round_in self.old world.old.0) (round_in self.new world.new.0)) }
         ensures refused { IfErr result (λ cause. IfRefused cause
             (RefusesOwn R.Meaning.functions (round_in self.old world.old.0) (first_of R.Meaning.functions most (round_in self.old world.old.0) requests.now))) }
-        ensures marks { (worlds : Worlds) → IsMarked worlds world.old.1
-            → IsMarked worlds world.new.1 }
+        ensures marks { (worlds : Worlds) → IsWorldMarked worlds world.old.1
+            → IsWorldMarked worlds world.new.1 }
     {
         match self.answer_each(world, macros, requests, most) {
             Ok(()) => self.close(world, macros),
@@ -58,8 +58,8 @@ impl Round {
             (StaysMade R.Meaning.functions (round_in self.old world.old.0) (round_in self.new world.new.0)) }
         ensures refused { IfErr result (λ cause. IfRefused cause
             (RefusesOwn R.Meaning.functions (round_in self.old world.old.0) (first_of R.Meaning.functions most (round_in self.old world.old.0) requests.now))) }
-        ensures marks { (worlds : Worlds) → IsMarked worlds world.old.1
-            → IsMarked worlds world.new.1 }
+        ensures marks { (worlds : Worlds) → IsWorldMarked worlds world.old.1
+            → IsWorldMarked worlds world.new.1 }
     {
         let mut room = most;
         for request in requests {
@@ -100,8 +100,8 @@ impl Round {
             (StaysMade R.Meaning.functions (round_in self.old world.old.0) (round_in self.new world.new.0)) }
         ensures refused { IfErr result (λ cause. IfRefused cause
             (IsNotClosed R.Meaning.functions (round_in self.old world.old.0))) }
-        ensures marks { (worlds : Worlds) → IsMarked worlds world.old.1
-            → IsMarked worlds world.new.1 }
+        ensures marks { (worlds : Worlds) → IsWorldMarked worlds world.old.1
+            → IsWorldMarked worlds world.new.1 }
     {
         if self.wrote {
             self.carry_out_own(world, macros, Own::Position(self.last))

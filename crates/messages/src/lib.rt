@@ -45,7 +45,7 @@ pub use calls::{answer_first_requests, answer_requests, begin_messages, position
 pub use laws::refusals_have_causes;
 pub use place::number_of;
 pub use request::{
-    ANSWER_BYTES, Answer, NO_POSITION, OLD_NUMBER, QUESTION_WRITES, Replies, Request,
+    ANSWER_BYTES, NO_POSITION, OLD_NUMBER, QUESTION_WRITES, Replies, Request, RequestAnswer,
 };
 pub use round::Round;
 pub use texts::{text_of_number, text_of_refusal};

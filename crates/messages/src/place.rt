@@ -2,7 +2,7 @@
 ghost use Rattle.std.specs.Prelude.{◌≡◌, IfOk, IfSome, is_some, true};
 ghost use Rattle.std.specs.Option.{option_map};
 ghost use Rattle.lisp_object.specs.Datum.{is_proper, object_of};
-ghost use Rattle.messages.specs.Position.{is_hidden, number_of_object, position, position_property};
+ghost use Rattle.messages.specs.Position.{is_position_hidden, number_of_object, position, position_property};
 
 use lisp_object::Datum;
 use package_table::Resolved;
@@ -55,7 +55,7 @@ impl PositionPlace {
 
     /// Whether the name of the symbol stands for another one in COMMON-LISP-USER.
     pub(crate) fn is_hidden(&self, world: &World) -> bool
-        ensures { result ≡ is_hidden world.now.0 }
+        ensures { result ≡ is_position_hidden world.now.0 }
     {
         world.soundness();
         match world.packages().resolve(b"COMMON-LISP-USER", b"position") {

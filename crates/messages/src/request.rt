@@ -23,7 +23,7 @@ pub struct Request<'a> {
 
 /// What is answered to a request.
 #[derive(Debug, Drop)]
-pub struct Answer {
+pub struct RequestAnswer {
     /// The line that a session writes, without its newline.
     pub text: Vec<u8>,
     /// Whether it was a message that wrote.
@@ -34,7 +34,7 @@ pub struct Answer {
 #[derive(Debug, Drop)]
 pub struct Replies {
     /// The answers, in order.
-    pub answers: Vec<Answer>,
+    pub answers: Vec<RequestAnswer>,
     /// The number of the last message.
     pub last: u64,
 }

@@ -13,7 +13,7 @@ use Rattle.std.proofs.lemmas.List.Splits.{length-slice_split, slice_split_first,
 use Rattle.std.proofs.lemmas.List.Sums.{fails_before_first}
 use Rattle.std.proofs.lemmas.Slice.Eq.{bytes_eq-Decides}
 use Rattle.std.proofs.Math.Bool.{or-false}
-use Rattle.name_patterns.specs.Pattern.{begins_with, has_pieces, is_star, pieces, some_end}
+use Rattle.name_patterns.specs.Pattern.{begins_with, matches_pieces, is_star, pieces, some_end}
 
 -- ---- ends of a text
 
@@ -42,18 +42,18 @@ module _ (is : List ℕ → Bool) where
 module _ (piece others : List ℕ) where
   -- what stands behind the piece is like that pattern at some end
   abbrev follow : List ℕ → Bool
-  follow text = some_end (has_pieces (pieces others)) (drop (length piece) text)
+  follow text = some_end (matches_pieces (pieces others)) (drop (length piece) text)
 
   abbrev all : List (List ℕ)
   all = piece ∷ pieces others
 
   of_several : (ps : List (List ℕ)) (text : List ℕ) → 1 ≤ length ps
-      → has_pieces (piece ∷ ps) text ≡ (begins_with piece text && some_end (has_pieces ps) (drop (length piece) text))
-  unfolding has_pieces
+      → matches_pieces (piece ∷ ps) text ≡ (begins_with piece text && some_end (matches_pieces ps) (drop (length piece) text))
+  unfolding matches_pieces
   of_several [] text some = absurd (omega (arith, some))
   of_several (next ∷ ps) text some = refl
 
-  begins_all : (text : List ℕ) → has_pieces all text ≡ (begins_with piece text && follow text)
+  begins_all : (text : List ℕ) → matches_pieces all text ≡ (begins_with piece text && follow text)
   begins_all text = of_several (pieces others) text (omega (arith, length-slice_split is_star others))
 
   both : (a b : Bool) → (a && b) ≡ true → b ≡ true
@@ -65,13 +65,13 @@ module _ (piece others : List ℕ) where
   either false b P f g e = g e
 
   -- wherever the piece stands, the others come behind its first place
-  others_follow : (text : List ℕ) → some_end (has_pieces all) text ≡ true → follow text ≡ true
+  others_follow : (text : List ℕ) → some_end (matches_pieces all) text ≡ true → follow text ≡ true
   unfolding some_end
   others_follow [] some = both (begins_with piece []) (follow []) (sym (begins_all []) ∙ some)
   others_follow (c ∷ cs) some =
-      either (has_pieces all (c ∷ cs)) (some_end (has_pieces all) cs) (follow (c ∷ cs) ≡ true)
+      either (matches_pieces all (c ∷ cs)) (some_end (matches_pieces all) cs) (follow (c ∷ cs) ≡ true)
       (λ here. both (begins_with piece (c ∷ cs)) (follow (c ∷ cs)) (sym (begins_all (c ∷ cs)) ∙ here))
-      (λ later. end_after_more (has_pieces (pieces others)) (length piece) c cs (others_follow cs later))
+      (λ later. end_after_more (matches_pieces (pieces others)) (length piece) c cs (others_follow cs later))
       some
 
   same_bool : (a b : Bool) → (a ≡ true → b ≡ true) → (b ≡ true → a ≡ true) → a ≡ b
@@ -80,32 +80,32 @@ module _ (piece others : List ℕ) where
   same_bool false true f g = g refl
   same_bool false false f g = refl
 
-  begun : (text : List ℕ) → begins_with piece text ≡ true → has_pieces all text ≡ follow text
+  begun : (text : List ℕ) → begins_with piece text ≡ true → matches_pieces all text ≡ follow text
   begun text is = begins_all text ∙ ap (λ b. b && follow text) is
 
-  unbegun : (text : List ℕ) → begins_with piece text ≡ false → has_pieces all text ≡ false
+  unbegun : (text : List ℕ) → begins_with piece text ≡ false → matches_pieces all text ≡ false
   unbegun text not = begins_all text ∙ ap (λ b. b && follow text) not
 
   -- where the text begins with the piece, that place decides
-  piece_here : (text : List ℕ) → begins_with piece text ≡ true → some_end (has_pieces all) text ≡ has_pieces all text
+  piece_here : (text : List ℕ) → begins_with piece text ≡ true → some_end (matches_pieces all) text ≡ matches_pieces all text
   unfolding some_end
   piece_here [] is = refl
   piece_here (c ∷ cs) is =
-      same_bool (some_end (has_pieces all) (c ∷ cs)) (has_pieces all (c ∷ cs)) (λ some. begun (c ∷ cs) is ∙ others_follow (c ∷ cs) some)
-      (λ some. ap (λ b. b || some_end (has_pieces all) cs) some)
+      same_bool (some_end (matches_pieces all) (c ∷ cs)) (matches_pieces all (c ∷ cs)) (λ some. begun (c ∷ cs) is ∙ others_follow (c ∷ cs) some)
+      (λ some. ap (λ b. b || some_end (matches_pieces all) cs) some)
 
   -- else a later one does
-  later_place : (text : List ℕ) → 1 ≤ length text → begins_with piece text ≡ false → some_end (has_pieces all) (drop 1 text) ≡ some_end (has_pieces all) text
+  later_place : (text : List ℕ) → 1 ≤ length text → begins_with piece text ≡ false → some_end (matches_pieces all) (drop 1 text) ≡ some_end (matches_pieces all) text
   unfolding some_end
   later_place [] some not = absurd (omega (arith, some))
-  later_place (c ∷ cs) some not = sym (ap (λ b. b || some_end (has_pieces all) cs) (unbegun (c ∷ cs) not))
+  later_place (c ∷ cs) some not = sym (ap (λ b. b || some_end (matches_pieces all) cs) (unbegun (c ∷ cs) not))
 
   pub piece_later : (text : List ℕ) → 1 ≤ length text → begins_with piece text ≡ false
-      → some_end (has_pieces all) (take (length text - 1) (drop 1 text)) ≡ some_end (has_pieces all) text
-  piece_later text some not = ap (some_end (has_pieces all)) (take_rest text 1) ∙ later_place text some not
+      → some_end (matches_pieces all) (take (length text - 1) (drop 1 text)) ≡ some_end (matches_pieces all) text
+  piece_later text some not = ap (some_end (matches_pieces all)) (take_rest text 1) ∙ later_place text some not
 
   -- and none in nothing
-  pub piece_of_none : (text : List ℕ) → length text < 1 → begins_with piece text ≡ false → some_end (has_pieces all) text ≡ false
+  pub piece_of_none : (text : List ℕ) → length text < 1 → begins_with piece text ≡ false → some_end (matches_pieces all) text ≡ false
   unfolding some_end
   piece_of_none [] none not = unbegun [] not
   piece_of_none (c ∷ cs) none not = absurd (omega (arith, none))
@@ -122,12 +122,12 @@ module _ (piece others : List ℕ) where
   IsFront text found = option_map (λ (r : Bor (List ℕ)). r.now) found ≡ (if begins_with piece text then Some (drop (length piece) text) else None)
 
   abbrev after : Option (Bor (List ℕ)) → Bool
-  after found = option_map_or (λ (r : Bor (List ℕ)). some_end (has_pieces (pieces others)) r.now) found false
+  after found = option_map_or (λ (r : Bor (List ℕ)). some_end (matches_pieces (pieces others)) r.now) found false
 
-  pub decided_by_front : (text : List ℕ) (found : Option (Bor (List ℕ))) → IsFront text found → has_pieces all text ≡ after found
-  decided_by_front text found front = begins_all text ∙ by_front (begins_with piece text) (drop (length piece) text) (some_end (has_pieces (pieces others))) found front
+  pub decided_by_front : (text : List ℕ) (found : Option (Bor (List ℕ))) → IsFront text found → matches_pieces all text ≡ after found
+  decided_by_front text found front = begins_all text ∙ by_front (begins_with piece text) (drop (length piece) text) (some_end (matches_pieces (pieces others))) found front
 
-  pub decided_here : (text : List ℕ) (found : Option (Bor (List ℕ))) → begins_with piece text ≡ true → IsFront text found → some_end (has_pieces all) text ≡ after found
+  pub decided_here : (text : List ℕ) (found : Option (Bor (List ℕ))) → begins_with piece text ≡ true → IsFront text found → some_end (matches_pieces all) text ≡ after found
   decided_here text found is front = piece_here text is ∙ decided_by_front text found front
 
 -- ---- the last piece
@@ -143,16 +143,16 @@ other_length xs ys other = false_from_ne_true _ (λ same. other (same_length xs 
 pub front_fits : (part text : List ℕ) → begins_with part text ≡ true → length part ≤ length text
 front_fits part text is = omega (arith, same_length (take (length part) text) part is, length-take (length part) text)
 
-last_of_nothing : (part : List ℕ) → some_end (has_pieces (part ∷ [])) [] ≡ str_eq_ignore_ascii_case (drop (0 - length part) []) part
-unfolding some_end has_pieces
+last_of_nothing : (part : List ℕ) → some_end (matches_pieces (part ∷ [])) [] ≡ str_eq_ignore_ascii_case (drop (0 - length part) []) part
+unfolding some_end matches_pieces
 last_of_nothing part = ap (λ (l : List ℕ). str_eq_ignore_ascii_case l part) (sym (drop-nil (0 - length part)))
 
 -- it is an end of the text that is as long
-pub last_piece : (part text : List ℕ) → some_end (has_pieces (part ∷ [])) text ≡ str_eq_ignore_ascii_case (drop (length text - length part) text) part
-unfolding some_end has_pieces
+pub last_piece : (part text : List ℕ) → some_end (matches_pieces (part ∷ [])) text ≡ str_eq_ignore_ascii_case (drop (length text - length part) text) part
+unfolding some_end matches_pieces
 last_piece part [] = last_of_nothing part
 last_piece part (c ∷ cs) =
-    elim (nat_le (length part) (length cs)) as (λ b. nat_le (length part) (length cs) ≡ b → some_end (has_pieces (part ∷ [])) (c ∷ cs) ≡ str_eq_ignore_ascii_case (drop (length (c ∷ cs) - length part) (c ∷ cs)) part) [
+    elim (nat_le (length part) (length cs)) as (λ b. nat_le (length part) (length cs) ≡ b → some_end (matches_pieces (part ∷ [])) (c ∷ cs) ≡ str_eq_ignore_ascii_case (drop (length (c ∷ cs) - length part) (c ∷ cs)) part) [
       | true ↦ λ e.
           let fits : length part ≤ length cs = leb-true _ _ e in
           let not : str_eq_ignore_ascii_case (c ∷ cs) part ≡ false = other_length (c ∷ cs) part (λ same. absurd (omega (arith, same, fits))) in
@@ -167,8 +167,8 @@ last_piece part (c ∷ cs) =
     ] refl
 
 -- a pattern that is one piece
-pub one_piece : (pattern text : List ℕ) → pieces pattern ≡ pattern ∷ [] → str_eq_ignore_ascii_case text pattern ≡ has_pieces (pieces pattern) text
-unfolding has_pieces
+pub one_piece : (pattern text : List ℕ) → pieces pattern ≡ pattern ∷ [] → str_eq_ignore_ascii_case text pattern ≡ matches_pieces (pieces pattern) text
+unfolding matches_pieces
 one_piece pattern text one = rw one refl
 
 -- ---- a pattern is cut at its first star

@@ -21,11 +21,11 @@ some_end is (c ∷ cs) = is (c ∷ cs) || some_end is cs
 
 -- A text is like one piece if it is that piece, in upper or lower case. It is like several if it begins with the first one, and some end of what
 -- follows is like the others.
-unfoldable pub has_pieces : List (List ℕ) → List ℕ → Bool
-has_pieces [] text = false
-has_pieces (piece ∷ []) text = str_eq_ignore_ascii_case text piece
-has_pieces (piece ∷ next ∷ others) text = begins_with piece text && some_end (has_pieces (next ∷ others)) (drop (length piece) text)
+unfoldable pub matches_pieces : List (List ℕ) → List ℕ → Bool
+matches_pieces [] text = false
+matches_pieces (piece ∷ []) text = str_eq_ignore_ascii_case text piece
+matches_pieces (piece ∷ next ∷ others) text = begins_with piece text && some_end (matches_pieces (next ∷ others)) (drop (length piece) text)
 
 -- A name is like a pattern if it is like its pieces. So a star stands for any text, also for none, and each other byte for itself, in either case.
 abbrev pub is_like : List ℕ → List ℕ → Bool
-is_like pattern name = has_pieces (pieces pattern) name
+is_like pattern name = matches_pieces (pieces pattern) name

@@ -3,7 +3,7 @@ ghost use Rattle.std.specs.List.{position};
 ghost use Rattle.std.specs.Option.{option_map_or};
 ghost use Rattle.std.specs.Prelude.{◌≡◌, ◌<◌, ◌-◌, ◌∷◌, [], ℕ, List, MatchOption, IfSome, Some, None, drop, false, if◌then◌else◌, length, option_map};
 ghost use Rattle.std.specs.Str.{str_eq_ignore_ascii_case};
-ghost use Rattle.name_patterns.specs.Pattern.{begins_with, has_pieces, is_like, is_star, pieces, some_end};
+ghost use Rattle.name_patterns.specs.Pattern.{begins_with, matches_pieces, is_like, is_star, pieces, some_end};
 
 /// Whether a name is like a pattern: in upper or lower case, each star of the pattern for any text, also for none.
 pub fn is_like(pattern: &[u8], name: &[u8]) -> bool
@@ -20,7 +20,7 @@ pub fn is_like(pattern: &[u8], name: &[u8]) -> bool
 
 // Whether some end of a text is like a pattern. Each piece is taken where it first stands: what follows it there is longest.
 fn some_end_is_like(pattern: &[u8], text: &[u8]) -> bool
-    ensures { result ≡ some_end (has_pieces (pieces pattern.now)) text.now }
+    ensures { result ≡ some_end (matches_pieces (pieces pattern.now)) text.now }
 {
     let mut left = pattern;
     let mut rest = text;
@@ -54,8 +54,8 @@ fn first_star(pattern: &[u8]) -> Option<usize>
 
 // What follows a part where it first stands in a text.
 fn after_first<'a>(part: &[u8], text: &'a [u8]) -> Option<&'a [u8]>
-    ensures { (others : List ℕ) → some_end (has_pieces (part.now ∷ pieces others)) text.now
-        ≡ option_map_or (λ rest. some_end (has_pieces (pieces others)) rest.now) result false }
+    ensures { (others : List ℕ) → some_end (matches_pieces (part.now ∷ pieces others)) text.now
+        ≡ option_map_or (λ rest. some_end (matches_pieces (pieces others)) rest.now) result false }
 {
     let mut rest = text;
     while !begins_with(part, rest) {
@@ -89,7 +89,7 @@ fn begins_with(part: &[u8], text: &[u8]) -> bool
 
 // Whether a text ends with a part, in upper or lower case.
 fn ends_with(part: &[u8], text: &[u8]) -> bool
-    ensures { result ≡ some_end (has_pieces (part.now ∷ [])) text.now }
+    ensures { result ≡ some_end (matches_pieces (part.now ∷ [])) text.now }
 {
     is_same(end_of(text, part.len()), part)
 }

@@ -11,7 +11,7 @@ use Rattle.std.proofs.lemmas.List.{length_push, get_or_append_left, get_or_push,
 use Rattle.package_sets.specs.declared.chains.Chains.{Chains}
 use Rattle.package_sets.specs.KeptSets.{pair_at}
 use Rattle.package_sets.specs.Consistent.{AreWithin}
-use Rattle.package_sets.specs.SymbolChains.{external_name, second_of, last_below, AreChained}
+use Rattle.package_sets.specs.SymbolChains.{external_name, second_of, last_below, AreChainsOfNames}
 use Rattle.package_sets.proofs.Places.{all_at}
 
 -- a number is below another, or it is not
@@ -57,14 +57,14 @@ last_is f j (suc n) = by (last_is f j n) (nat_eq (f n) j) refl
       ];
     }
 
-pub chained_same : (f g : ℕ → ℕ) (n : ℕ) (c : Chains) → ((x : ℕ) → x < n → f x ≡ g x) → AreChained f n c → AreChained g n c
+pub chained_same : (f g : ℕ → ℕ) (n : ℕ) (c : Chains) → ((x : ℕ) → x < n → f x ≡ g x) → AreChainsOfNames f n c → AreChainsOfNames g n c
 chained_same f g n c same all = record {
   lasts = λ j. all.lasts j ∙ last_same f g j n same;
   as_many = all.as_many;
   befores = λ x less. all.befores x less ∙ last_same f g (f x) x (λ y before. same y (omega (arith, before, less))) ∙ ap (λ j. last_below g j x) (same x less);
 }
 
-pub chained_kept : (f : ℕ → ℕ) (n : ℕ) (c d : Chains) → ((j : ℕ) → get_or d.lasts.items j 0 ≡ get_or c.lasts.items j 0) → d.befores.items ≡ c.befores.items → AreChained f n c → AreChained f n d
+pub chained_kept : (f : ℕ → ℕ) (n : ℕ) (c d : Chains) → ((j : ℕ) → get_or d.lasts.items j 0 ≡ get_or c.lasts.items j 0) → d.befores.items ≡ c.befores.items → AreChainsOfNames f n c → AreChainsOfNames f n d
 chained_kept f n c d lasts befores all = record {
   lasts = λ j. lasts j ∙ all.lasts j;
   as_many = ap length befores ∙ all.as_many;
@@ -74,7 +74,7 @@ chained_kept f n c d lasts befores all = record {
 pub chained_push : (f : ℕ → ℕ) (n name : ℕ) (c d : Chains) → f n ≡ name
     → ((j : ℕ) → get_or d.lasts.items j 0 ≡ cond (nat_eq name j) (suc n) (get_or c.lasts.items j 0))
     → d.befores.items ≡ c.befores.items ++ get_or c.lasts.items name 0 ∷ []
-    → AreChained f n c → AreChained f (suc n) d
+    → AreChainsOfNames f n c → AreChainsOfNames f (suc n) d
 chained_push f n name c d is lasts befores all = record {
   lasts = λ j. lasts j ∙ (λ i. cond (nat_eq (sym is i) j) (suc n) (all.lasts j i)) ∙ sym (last_step f j n);
   as_many = (let size = ap length befores ∙ length_push c.befores.items (get_or c.lasts.items name 0) in let many = all.as_many in omega (arith, size, many));
@@ -91,7 +91,7 @@ chained_push f n name c d is lasts befores all = record {
         ∙ all.lasts name ∙ (λ i. last_below f (sym is i) n) ∙ ap (λ y. last_below f (f y) y) here
 
 -- the last place has a name that is there
-pub name_there : (f : ℕ → ℕ) (n : ℕ) (c : Chains) → AreChained f (suc n) c → f n < length c.lasts.items
+pub name_there : (f : ℕ → ℕ) (n : ℕ) (c : Chains) → AreChainsOfNames f (suc n) c → f n < length c.lasts.items
 name_there f n c all = by (below_or (f n) (length c.lasts.items))
   where
     by : (f n < length c.lasts.items) ⊎ (length c.lasts.items ≤ f n) → f n < length c.lasts.items
@@ -103,7 +103,7 @@ name_there f n c all = by (below_or (f n) (length c.lasts.items))
 pub chained_pop : (f : ℕ → ℕ) (n : ℕ) (c d : Chains)
     → c.befores.items ≡ d.befores.items ++ get_or c.befores.items (length d.befores.items) 0 ∷ []
     → ((j : ℕ) → get_or d.lasts.items j 0 ≡ cond (nat_eq (f n) j) (get_or c.befores.items (length d.befores.items) 0) (get_or c.lasts.items j 0))
-    → AreChained f (suc n) c → AreChained f n d
+    → AreChainsOfNames f (suc n) c → AreChainsOfNames f n d
 chained_pop f n c d befores lasts all = record {
   lasts = λ j. lasts j ∙ last j (nat_eq (f n) j) refl;
   as_many = size;
@@ -124,20 +124,20 @@ module _ (symbols externals : List (ℕ × ℕ)) (packages : ℕ) (within : AreW
   symbol_there : (x : ℕ) → x < length externals → (pair_at externals x).1 < length symbols
   symbol_there x less = (all_at (λ (e : ℕ × ℕ). (e.0 < packages) × (e.1 < length symbols)) externals within x (0, 0) less).1
 
-  pub chained_symbol : (s : ℕ × ℕ) (c : Chains) → AreChained (external_name symbols externals) (length externals) c → AreChained (external_name (symbols ++ s ∷ []) externals) (length externals) c
+  pub chained_symbol : (s : ℕ × ℕ) (c : Chains) → AreChainsOfNames (external_name symbols externals) (length externals) c → AreChainsOfNames (external_name (symbols ++ s ∷ []) externals) (length externals) c
   chained_symbol s c = chained_same (external_name symbols externals) (external_name (symbols ++ s ∷ []) externals) (length externals) c
       (λ x less. sym (ap (λ (q : ℕ × ℕ). q.1) (get_or_append_left symbols (s ∷ []) (0, 0) (pair_at externals x).1 (symbol_there x less))))
 
 pub chained_external : (symbols externals : List (ℕ × ℕ)) (e : ℕ × ℕ) (name number : ℕ) (c d : Chains) → name ≡ (pair_at symbols e.1).1 → number ≡ length (externals ++ e ∷ [])
     → ((j : ℕ) → get_or d.lasts.items j 0 ≡ cond (nat_eq name j) number (get_or c.lasts.items j 0))
     → d.befores.items ≡ c.befores.items ++ get_or c.lasts.items name 0 ∷ []
-    → AreChained (external_name symbols externals) (length externals) c → AreChained (external_name symbols (externals ++ e ∷ [])) (length (externals ++ e ∷ [])) d
+    → AreChainsOfNames (external_name symbols externals) (length externals) c → AreChainsOfNames (external_name symbols (externals ++ e ∷ [])) (length (externals ++ e ∷ [])) d
 chained_external symbols externals e name number c d is last lasts befores all =
     let size : length (externals ++ e ∷ []) ≡ suc (length externals) = (let more = length_push externals e in omega (arith, more)) in
     let f : ℕ → ℕ = external_name symbols (externals ++ e ∷ []) in
     let before = chained_same (external_name symbols externals) (external_name symbols (externals ++ e ∷ [])) (length externals) c
     (λ x less. sym (ap (λ (q : ℕ × ℕ). (pair_at symbols q.1).1) (get_or_append_left externals (e ∷ []) (0, 0) x less))) all in
-    subst (λ (n : ℕ). AreChained (external_name symbols (externals ++ e ∷ [])) n d) (sym size)
+    subst (λ (n : ℕ). AreChainsOfNames (external_name symbols (externals ++ e ∷ [])) n d) (sym size)
     (chained_push (external_name symbols (externals ++ e ∷ [])) (length externals) name c d
     (ap (λ (q : ℕ × ℕ). (pair_at symbols q.1).1) (get_or_push externals e (0, 0) (length externals) refl) ∙ sym is)
     (λ j. lasts j ∙ ap (λ n. cond (nat_eq name j) n (get_or c.lasts.items j 0)) (last ∙ size)) befores before)
@@ -146,12 +146,12 @@ chained_external symbols externals e name number c d is last lasts befores all =
 pub chained_second : (ps : List (ℕ × ℕ)) (e : ℕ × ℕ) (last : ℕ) (c d : Chains) → last ≡ length (ps ++ e ∷ [])
     → ((j : ℕ) → get_or d.lasts.items j 0 ≡ cond (nat_eq e.1 j) last (get_or c.lasts.items j 0))
     → d.befores.items ≡ c.befores.items ++ get_or c.lasts.items e.1 0 ∷ []
-    → AreChained (second_of ps) (length ps) c → AreChained (second_of (ps ++ e ∷ [])) (length (ps ++ e ∷ [])) d
+    → AreChainsOfNames (second_of ps) (length ps) c → AreChainsOfNames (second_of (ps ++ e ∷ [])) (length (ps ++ e ∷ [])) d
 chained_second ps e last c d is lasts befores all =
     let size : length (ps ++ e ∷ []) ≡ suc (length ps) = (let more = length_push ps e in omega (arith, more)) in
     let before = chained_same (second_of ps) (second_of (ps ++ e ∷ [])) (length ps) c
     (λ x less. sym (ap (λ (q : ℕ × ℕ). q.1) (get_or_append_left ps (e ∷ []) (0, 0) x less))) all in
-    subst (λ n. AreChained (second_of (ps ++ e ∷ [])) n d) (sym size)
+    subst (λ n. AreChainsOfNames (second_of (ps ++ e ∷ [])) n d) (sym size)
     (chained_push (second_of (ps ++ e ∷ [])) (length ps) e.1 c d
     (ap (λ (q : ℕ × ℕ). q.1) (get_or_push ps e (0, 0) (length ps) refl))
     (λ j. lasts j ∙ ap (λ n. cond (nat_eq e.1 j) n (get_or c.lasts.items j 0)) (is ∙ size)) befores before)
@@ -174,7 +174,7 @@ take_fits (suc n) [] = omega arith
 take_fits (suc n) (p ∷ ps) = let rest = take_fits n ps in omega (arith, rest)
 
 pub chained_cut : (symbols externals : List (ℕ × ℕ)) (packages n m : ℕ) (c : Chains) → AreWithin packages (length (take m symbols)) (take n externals)
-    → AreChained (external_name symbols externals) (length (take n externals)) c → AreChained (external_name (take m symbols) (take n externals)) (length (take n externals)) c
+    → AreChainsOfNames (external_name symbols externals) (length (take n externals)) c → AreChainsOfNames (external_name (take m symbols) (take n externals)) (length (take n externals)) c
 chained_cut symbols externals packages n m c within =
     chained_same (external_name symbols externals) (external_name (take m symbols) (take n externals)) (length (take n externals)) c
     (λ x less.
@@ -185,7 +185,7 @@ chained_cut symbols externals packages n m c within =
     ∙ ap (λ (q : ℕ × ℕ). q.1) (sym (get_or-take m symbols (pair_at (take n externals) x).1 (0, 0) second)))
 
 -- where only the first pairs stay
-pub chained_front : (ps : List (ℕ × ℕ)) (n : ℕ) (c : Chains) → AreChained (second_of ps) (length (take n ps)) c → AreChained (second_of (take n ps)) (length (take n ps)) c
+pub chained_front : (ps : List (ℕ × ℕ)) (n : ℕ) (c : Chains) → AreChainsOfNames (second_of ps) (length (take n ps)) c → AreChainsOfNames (second_of (take n ps)) (length (take n ps)) c
 chained_front ps n c =
     chained_same (second_of ps) (second_of (take n ps)) (length (take n ps)) c
     (λ x less. let first : x < n = omega (arith, less, take_fits n ps) in ap (λ (q : ℕ × ℕ). q.1) (sym (get_or-take n ps x (0, 0) first)))

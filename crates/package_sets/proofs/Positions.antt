@@ -5,7 +5,7 @@ use Rattle.std.proofs.Math.Seq.{take-append_seam}
 use Rattle.std.proofs.lemmas.List.{length-map, length_push, map-set, get_or-map, get_or-set_same, get_or-set_other, get_or_past}
 use Rattle.std.proofs.lemmas.Bool.Decides.{Decides-eqb}
 use Rattle.package_sets.specs.KeptSets.{positions_from, positions_of}
-use Rattle.package_sets.specs.Groups.{group_at, IsGrouped, IsInGroup}
+use Rattle.package_sets.specs.Groups.{group_at, ArePositionsGrouped, IsInGroup}
 
 pub take_last : {X : Type 0} (xs : List X) (x : X) → take (length (xs ++ x ∷ []) - 1) (xs ++ x ∷ []) ≡ xs
 take_last xs x = ap (λ n. take (n - 1) (xs ++ x ∷ [])) (length_push xs x) ∙ ap (λ n. take n (xs ++ x ∷ [])) (less (length xs)) ∙ take-append_seam xs (x ∷ [])
@@ -75,21 +75,21 @@ group_there gs f some =
         absurd (omega (arith, some, ap length none))
 
 -- after a pair is added
-pub grouped_push : (gs hs : List (Vec ℕ)) (ps : List (ℕ × ℕ)) (p : ℕ × ℕ) → IsGrouped gs ps
-    → IsInGroup p.0 (length ps) gs hs → IsGrouped hs (ps ++ p ∷ [])
+pub grouped_push : (gs hs : List (Vec ℕ)) (ps : List (ℕ × ℕ)) (p : ℕ × ℕ) → ArePositionsGrouped gs ps
+    → IsInGroup p.0 (length ps) gs hs → ArePositionsGrouped hs (ps ++ p ∷ [])
 grouped_push gs hs ps p grouped noted f =
     noted f ∙ ap (λ (l : List ℕ). cond (nat_eq p.0 f) (l ++ length ps ∷ []) l) (grouped f) ∙ sym (positions_push f ps p)
 
 -- the group of the last pair is not empty
-pub last_there : (gs : List (Vec ℕ)) (ps : List (ℕ × ℕ)) (p : ℕ × ℕ) → IsGrouped gs (ps ++ p ∷ []) → p.0 < length gs
+pub last_there : (gs : List (Vec ℕ)) (ps : List (ℕ × ℕ)) (p : ℕ × ℕ) → ArePositionsGrouped gs (ps ++ p ∷ []) → p.0 < length gs
 last_there gs ps p grouped =
     let is : group_at gs p.0 ≡ positions_of p.0 ps ++ length ps ∷ [] =
     grouped p.0 ∙ positions_push p.0 ps p ∙ ap (λ b. cond b (positions_of p.0 ps ++ length ps ∷ []) (positions_of p.0 ps)) ((Decides-eqb p.0 p.0).1 refl) in
     group_there gs p.0 (omega (arith, ap length is, length_push (positions_of p.0 ps) (length ps)))
 
 -- after the last pair is taken away
-pub grouped_pop : (gs hs : List (Vec ℕ)) (ps : List (ℕ × ℕ)) (p : ℕ × ℕ) → IsGrouped gs (ps ++ p ∷ [])
-    → ((f : ℕ) → group_at hs f ≡ cond (nat_eq p.0 f) (take (length (group_at gs f) - 1) (group_at gs f)) (group_at gs f)) → IsGrouped hs ps
+pub grouped_pop : (gs hs : List (Vec ℕ)) (ps : List (ℕ × ℕ)) (p : ℕ × ℕ) → ArePositionsGrouped gs (ps ++ p ∷ [])
+    → ((f : ℕ) → group_at hs f ≡ cond (nat_eq p.0 f) (take (length (group_at gs f) - 1) (group_at gs f)) (group_at gs f)) → ArePositionsGrouped hs ps
 grouped_pop gs hs ps p grouped taken f =
     taken f ∙ ap (λ (l : List ℕ). cond (nat_eq p.0 f) (take (length l - 1) l) l) (grouped f ∙ positions_push f ps p) ∙ by (nat_eq p.0 f)
   where

@@ -5,12 +5,12 @@ use Rattle.std.proofs.Common.{◌≡◌, ◌<◌, ◌≤◌, inl, inr, ℕ, suc,
 use Rattle.std.proofs.lemmas.Bool.{false≢true}
 use Rattle.package_sets.specs.KeptSets.{Kept, pair_at, pair_eq}
 use Rattle.package_sets.specs.SymbolChains.{external_name, last_below}
-use Rattle.package_sets.specs.InheritedNames.{IsInherited}
+use Rattle.package_sets.specs.InheritedNames.{IsInheritedSymbol}
 use Rattle.package_sets.proofs.Chaining.{below_or, last_is}
 
 -- what is sought is below `last`, which has the name
 pub record IsSought (k : Kept) (p j last : ℕ) : Type 0 where
-  pub all : (x : ℕ) → IsInherited k p j x → x < last
+  pub all : (x : ℕ) → IsInheritedSymbol k p j x → x < last
   pub fits : last ≤ length k.externals
   pub named : (x : ℕ) → last ≡ suc x → external_name k.symbols k.externals x ≡ j
 
@@ -28,11 +28,11 @@ module _ (k : Kept) (p j : ℕ) where
         named = is.there;
       }
 
-  pub sought_end : IsSought k p j 0 → (x : ℕ) → IsInherited k p j x → ⊥
+  pub sought_end : IsSought k p j 0 → (x : ℕ) → IsInheritedSymbol k p j x → ⊥
   sought_end sought x inherited = let less = sought.all x inherited in absurd (omega (arith, less))
 
   module _ (last place : ℕ) (sought : IsSought k p j last) (is : last ≡ suc place) where
-    pub sought_hit : is_some (position (pair_eq (p, (pair_at k.externals place).0)) k.uses) ≡ true → IsInherited k p j place
+    pub sought_hit : is_some (position (pair_eq (p, (pair_at k.externals place).0)) k.uses) ≡ true → IsInheritedSymbol k p j place
     sought_hit used = record {
       external = (let fits = sought.fits in omega (arith, fits, is));
       named = sought.named place is;

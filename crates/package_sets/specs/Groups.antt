@@ -27,10 +27,10 @@ IsInGroup n i gs hs =
     (f : ℕ) → group_at hs f ≡ (if nat_eq n f then group_at gs f ++ i ∷ [] else group_at gs f)
 
 -- the table has the positions of the pairs for each first number
-abbrev pub IsGrouped : List (Vec ℕ) → List (ℕ × ℕ) → Type 0
-IsGrouped groups ps = (f : ℕ) → group_at groups f ≡ positions_of f ps
+abbrev pub ArePositionsGrouped : List (Vec ℕ) → List (ℕ × ℕ) → Type 0
+ArePositionsGrouped groups ps = (f : ℕ) → group_at groups f ≡ positions_of f ps
 
 -- a set of pairs that is small enough, with its groups
-pub record ArePairs (a : Inside) : Type 0 where
+pub record AreSoundPairs (a : Inside) : Type 0 where
   pub few : length (pairs_of a) < 2 ^ 32
-  pub grouped : IsGrouped a.groups.items (pairs_of a)
+  pub grouped : ArePositionsGrouped a.groups.items (pairs_of a)

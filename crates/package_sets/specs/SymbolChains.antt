@@ -19,7 +19,7 @@ last_below names j zero = 0
 last_below names j (suc n) = if nat_eq (names n) j then suc n else last_below names j n
 
 -- for each name the last of the first n places that has it, and for each of these the one before it
-pub record AreChained (names : ℕ → ℕ) (n : ℕ) (c : Chains) : Type 0 where
+pub record AreChainsOfNames (names : ℕ → ℕ) (n : ℕ) (c : Chains) : Type 0 where
   pub lasts : (j : ℕ) → get_or c.lasts.items j 0 ≡ last_below names j n
   pub as_many : length c.befores.items ≡ n
   pub befores : (x : ℕ) → x < n → get_or c.befores.items x 0 ≡ last_below names (names x) x

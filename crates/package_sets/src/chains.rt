@@ -2,7 +2,7 @@
 ghost use Rattle.std.specs.Prelude.{◌≡◌, ◌<◌, ◌++◌, ◌∷◌, [], ℕ, nat_eq, length, take, get_or, if◌then◌else◌, IfOk, OnOk};
 ghost use Rattle.std.specs.List.{AllByRecursion};
 ghost use Rattle.std.specs.Vec.{vec_len, vec_capacity};
-ghost use Rattle.package_sets.specs.SymbolChains.{external_name, second_of, AreChained};
+ghost use Rattle.package_sets.specs.SymbolChains.{external_name, second_of, AreChainsOfNames};
 
 use crate::{Pairs, Symbols};
 use std::alloc::{AllocError, Global};
@@ -28,7 +28,7 @@ impl Drop for Chains {
 impl Chains {
     /// No places.
     pub(crate) fn new(alloc: Global) -> Chains
-        ensures { (names : ℕ → ℕ) → AreChained names 0 result }
+        ensures { (names : ℕ → ℕ) → AreChainsOfNames names 0 result }
     {
         Chains {
             lasts: Vec::new(alloc),
@@ -109,8 +109,8 @@ impl Chains {
     /// Keeps the first `len` places of what is named by the second numbers of pairs. Takes no memory, and time in proportion to
     /// what goes.
     pub(crate) fn truncate_seconds(&mut self, pairs: &Pairs, len: u32)
-        requires { AreChained (second_of pairs.now) (length pairs.now) self.old }
-        ensures { AreChained (second_of pairs.now) (length (take len pairs.now)) self.new }
+        requires { AreChainsOfNames (second_of pairs.now) (length pairs.now) self.old }
+        ensures { AreChainsOfNames (second_of pairs.now) (length (take len pairs.now)) self.new }
     {
         let mut kept = pairs.len();
         while kept > len {
@@ -122,9 +122,9 @@ impl Chains {
     /// Keeps the first `len` places of what is external. Takes no memory, and time in proportion to what goes.
     pub(crate) fn truncate(&mut self, symbols: &Symbols, externals: &Pairs, len: u32)
         requires within { AllByRecursion (λ e. e.1 < length symbols.now) externals.now }
-        requires chained { AreChained (external_name symbols.now externals.now)
+        requires chained { AreChainsOfNames (external_name symbols.now externals.now)
             (length externals.now) self.old }
-        ensures { AreChained (external_name symbols.now externals.now)
+        ensures { AreChainsOfNames (external_name symbols.now externals.now)
             (length (take len externals.now)) self.new }
     {
         let mut kept = externals.len();

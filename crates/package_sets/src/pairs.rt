@@ -26,11 +26,11 @@ impl Model for Pairs {
 
     ghost coded = { pairs_code };
 
-    ghost use Rattle.package_sets.specs.Groups.{pairs_of, ArePairs};
+    ghost use Rattle.package_sets.specs.Groups.{pairs_of, AreSoundPairs};
 
     ghost view = { pairs_of };
 
-    ghost invariant = { ArePairs };
+    ghost invariant = { AreSoundPairs };
 }
 
 // Puts a position last into the group of `first`.

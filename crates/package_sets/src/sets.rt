@@ -2,7 +2,7 @@
 ghost use Rattle.std.specs.Prelude.{◌≡◌, length, IfOk};
 ghost use Rattle.package_sets.specs.KeptSets.{cut, nothing, sizes_of};
 ghost use Rattle.package_sets.specs.Consistent.{IsGood};
-ghost use Rattle.package_sets.specs.SymbolChains.{external_name, AreChained};
+ghost use Rattle.package_sets.specs.SymbolChains.{external_name, AreChainsOfNames};
 
 use crate::chains::Chains;
 use crate::{Names, Pairs, Seed, Sizes, Symbols};
@@ -90,7 +90,7 @@ impl PackageSets {
         chains: Chains,
     ) -> Result<PackageSets, AllocError>
         requires imported { imported.items ≡ self.now.imported }
-        requires chained { AreChained (external_name self.now.symbols self.now.externals)
+        requires chained { AreChainsOfNames (external_name self.now.symbols self.now.externals)
             (length self.now.externals) chains }
         ensures { IfOk result (λ sets. sets ≡ self.now) }
     {

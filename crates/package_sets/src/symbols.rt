@@ -38,11 +38,11 @@ impl Model for Symbols {
 
     ghost coded = { pairs_code };
 
-    ghost use Rattle.package_sets.specs.SymbolChains.{second_of, AreChained};
+    ghost use Rattle.package_sets.specs.SymbolChains.{second_of, AreChainsOfNames};
 
     ghost view = { λ a. a.pairs };
 
-    ghost invariant = { λ a. AreChained (second_of a.pairs) (length a.pairs) a.chains };
+    ghost invariant = { λ a. AreChainsOfNames (second_of a.pairs) (length a.pairs) a.chains };
 }
 
 impl Symbols {

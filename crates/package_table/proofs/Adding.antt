@@ -16,7 +16,7 @@ use Rattle.package_sets.specs.Changes.{with_external_number, with_import, with_n
 use Rattle.package_table.specs.Table.{Name, common_lisp, keyword, is_locked}
 use Rattle.package_table.specs.Numbers.{Numbered, with_numbered}
 use Rattle.package_table.specs.Meaning.{number_in, is_shown_in, numbered_of}
-use Rattle.package_table.specs.Adds.{IsPlaced, Adds}
+use Rattle.package_table.specs.Adds.{HasFixedNumbers, Adds}
 use Rattle.package_sets.proofs.Cut.{cut_itself, up_to_itself, cut_package, cut_symbol, cut_import, cut_external, cut_use, up_to_package, up_to_symbol, up_to_import, up_to_external, up_to_use}
 use Rattle.package_sets.proofs.Places.{any_some, any_none, none_is_length}
 use Rattle.package_table.proofs.Names.{same_some, none_some}
@@ -235,7 +235,7 @@ use_adds k p q good = record {
 }
 
 -- ---- the packages that are locked
-module _ (k : Kept) (placed : IsPlaced k) (P : Name) (p : ℕ) (here : position (bytes_eq P) k.packages ≡ Some p) where
+module _ (k : Kept) (placed : HasFixedNumbers k) (P : Name) (p : ℕ) (here : position (bytes_eq P) k.packages ≡ Some p) where
   is_at : (Q : Name) (q : ℕ) → position (bytes_eq Q) k.packages ≡ Some q → bytes_eq P Q ≡ true → p ≡ q
   is_at Q q there same = same_some p q (sym here ∙ ap (λ R. position (bytes_eq R) k.packages) (equal_names P Q same) ∙ there)
 
@@ -262,7 +262,7 @@ module _ (k : Kept) (placed : IsPlaced k) (P : Name) (p : ℕ) (here : position 
   keyword_number differ = locked_number ∙ ap (λ b. cond b true (bytes_eq P keyword)) differ
 
 -- what is not external is not shown
-pub hidden_new : (k : Kept) → IsPlaced k → (p i : ℕ) → nat_lt p 2 ≡ false → number_in k p (pair_at k.symbols i).1 ≡ None → is_shown_in k p i ≡ false
+pub hidden_new : (k : Kept) → HasFixedNumbers k → (p i : ℕ) → nat_lt p 2 ≡ false → number_in k p (pair_at k.symbols i).1 ≡ None → is_shown_in k p i ≡ false
 hidden_new k placed p i open_to none =
     elim (position (pair_eq (p, i)) k.externals) as (λ o. position (pair_eq (p, i)) k.externals ≡ o → (nat_lt p 2 || is_some o) ≡ false) [
       | None ↦ λ _. ap (λ b. b || false) open_to

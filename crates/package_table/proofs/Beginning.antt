@@ -18,7 +18,7 @@ use Rattle.package_sets.proofs.Places.{all_at}
 use Rattle.package_table.specs.Table.{Name, name_cmp, Package, Table, entry_at, empty_package, package_of_names, common_lisp, common_lisp_user, keyword, common_lisp_package, keyword_package, keyword_names, common_lisp_names, user_package, initial, with_entry, with_used}
 use Rattle.package_table.specs.Numbers.{Numbered}
 use Rattle.package_table.specs.Meaning.{map_by, present_in, package_of_number, numbered_of}
-use Rattle.package_table.specs.Adds.{HasNothing, IsPlaced}
+use Rattle.package_table.specs.Adds.{HasNothing, HasFixedNumbers}
 use Rattle.package_table.proofs.Names.{name_total, name_exact, tied_same, none_some}
 use Rattle.package_table.proofs.Frames.{get_inserted, get_kept, equal_names, equal_itself, unequal_names}
 use Rattle.package_table.proofs.First.{symbol_first, at_home}
@@ -166,7 +166,7 @@ module _ (k : Kept) (good : IsGood k) (packages : k.packages ≡ common_lisp ∷
       ∙ sym (finite.get-from_entries name_total ((common_lisp, common_lisp_package) ∷ (common_lisp_user, user_package) ∷ (keyword, keyword_package) ∷ []) q))
 
 -- the first three are where they are looked for
-pub first_placed : (k : Kept) → k.packages ≡ common_lisp ∷ keyword ∷ common_lisp_user ∷ [] → k.imports ≡ [] → k.externals ≡ [] → IsPlaced k
+pub first_placed : (k : Kept) → k.packages ≡ common_lisp ∷ keyword ∷ common_lisp_user ∷ [] → k.imports ≡ [] → k.externals ≡ [] → HasFixedNumbers k
 first_placed k packages imports externals = record {
   lisp_first = ap (position (bytes_eq common_lisp)) packages;
   keyword_second = ap (position (bytes_eq keyword)) packages;

@@ -13,7 +13,7 @@ use Rattle.package_sets.specs.Consistent.{IsGood}
 use Rattle.package_table.specs.Table.{Name, Present, Package, entry_at, IsPackage, IsPresent}
 use Rattle.package_table.specs.Lookup.{external_home, is_present, is_symbol, is_used}
 use Rattle.package_table.specs.Numbers.{number_at, number_of}
-use Rattle.package_table.specs.Numbering.{IsNumbered, KeepsNumbers}
+use Rattle.package_table.specs.Numbering.{AreSymbolsNumbered, KeepsNumbers}
 use Rattle.package_table.specs.Meaning.{number_in, present_in, package_of_number, home_in, symbol_name, numbered_of}
 use Rattle.package_table.specs.Adds.{Adds}
 use Rattle.package_table.proofs.Names.{same_some, none_some}
@@ -179,7 +179,7 @@ module _ (k : Kept) (good : IsGood k) where
       ∙ sym (ap (λ o. option_map_or (λ (h : Package). finite.contains_key h.uses Q) o false) (package_at k good P p here) ∙ ap is_some (uses_there k good P p q Q there))
 
   -- ---- each symbol has one number
-  pub numbers_always : IsNumbered (numbered_of k) (length k.symbols)
+  pub numbers_always : AreSymbolsNumbered (numbered_of k) (length k.symbols)
   numbers_always = record {
     below = λ h n present.
         let at = present_number h n h present in

@@ -11,10 +11,10 @@ use Rattle.std.specs.FinMap as finite
 use Rattle.std.specs.Cmp.{both_ways}
 use Rattle.package_sets.specs.KeptSets.{Kept, name_at, pair_at, pair_eq}
 use Rattle.package_sets.specs.Consistent.{IsGood}
-use Rattle.package_table.specs.Table.{Name, Present, Package, Uses, Finds, IsPackage, IsPresent, IsExternal, IsJoined, AreSoundPackages}
+use Rattle.package_table.specs.Table.{Name, Present, Package, Uses, Finds, IsPackage, IsPresent, IsExternal, AreUsesSound, AreSoundPackages}
 use Rattle.package_table.specs.Changes.{finds_other, user_finds_other, finds_other_than_shown}
 use Rattle.package_table.specs.Meaning.{number_in, is_shown_in, package_of_number, home_in, symbol_name, found_number, finds_another, shown_positions, shown_symbol, numbered_of}
-use Rattle.package_table.specs.Adds.{IsPlaced}
+use Rattle.package_table.specs.Adds.{HasFixedNumbers}
 use Rattle.package_table.proofs.Names.{same_some, none_some}
 use Rattle.package_table.proofs.Frames.{equal_itself, not_equal}
 use Rattle.package_table.proofs.Found.{found_is}
@@ -60,7 +60,7 @@ module _ (k : Kept) (good : IsGood k) where
       ∙ sym (ap is_some (uses_there k good (name_at k.packages q) q p (name_at k.packages p) (position_of k.packages good.distinct.packages p less)))
 
   -- whether a package uses p and finds another symbol, by numbers and by names
-  pub asked_user : IsJoined (numbered_of k).0 → (q p j : ℕ) (H : Name) → q < length k.packages → p < length k.packages → j < length k.names
+  pub asked_user : AreUsesSound (numbered_of k).0 → (q p j : ℕ) (H : Name) → q < length k.packages → p < length k.packages → j < length k.names
       → (is_some (position (pair_eq (q, p)) k.uses) && option_map_or (λ o. not (bytes_eq (home_in k o) H)) (found_number k q j) false)
       ≡ (finite.contains_key (package_of_number k q).uses (name_at k.packages p) && finds_other (numbered_of k).0 (name_at k.packages q) H (name_at k.names j))
   asked_user joined q p j H q_in p_in j_in = λ i. uses_number q p p_in i && finds i
@@ -97,7 +97,7 @@ module _ (k : Kept) (good : IsGood k) where
           ] refl
 
   -- ---- what is external in another package
-  module _ (placed : IsPlaced k) (sound : AreSoundPackages (numbered_of k).0) (P Q : Name) (p q : ℕ) (here : position (bytes_eq P) k.packages ≡ Some p) (there : position (bytes_eq Q) k.packages ≡ Some q) where
+  module _ (placed : HasFixedNumbers k) (sound : AreSoundPackages (numbered_of k).0) (P Q : Name) (p q : ℕ) (here : position (bytes_eq P) k.packages ≡ Some p) (there : position (bytes_eq Q) k.packages ≡ Some q) where
     shown : Shows k good placed sound Q q there (shown_positions k q) (shown_symbol k q)
     shown = shown_listed k good placed sound Q q there
 

@@ -10,7 +10,7 @@ use Rattle.lisp_object.specs.Ascii.{is_ascii}
 use Rattle.lisp_object.proofs.Sound.{all_below}
 use Rattle.std.proofs.lemmas.Slice.Eq.{bytes_eq-Decides}
 use Rattle.package_table.specs.Limits.{most_packages, most_symbols, longest_symbol_name}
-use Rattle.package_table.specs.Table.{Name, name_cmp, Present, Package, common_lisp, common_lisp_user, keyword, package_of_names, common_lisp_names, keyword_names, common_lisp_package, keyword_package, user_package, initial, entry_at, IsPackage, IsPresent, Uses, Finds, IsPackageName, IsSymbolName, IsJoined, HasFirst, IsWithin, AreSoundPackages, symbol_count, own_count}
+use Rattle.package_table.specs.Table.{Name, name_cmp, Present, Package, common_lisp, common_lisp_user, keyword, package_of_names, common_lisp_names, keyword_names, common_lisp_package, keyword_package, user_package, initial, entry_at, IsPackage, IsPresent, Uses, Finds, IsPackageName, IsSymbolName, AreUsesSound, HasFirst, IsWithin, AreSoundPackages, symbol_count, own_count}
 use Rattle.package_table.proofs.Names.{name_total, tied_same, same_tied, same_some, none_some}
 use Rattle.package_table.proofs.Seen.{entries_in_order}
 
@@ -146,7 +146,7 @@ user_there = get_initial common_lisp_user
 keyword_there : finite.get initial keyword ≡ Some keyword_package
 keyword_there = get_initial keyword
 
-joined : IsJoined initial
+joined : AreUsesSound initial
 joined = record {
   homes = λ p n h e. elim (present_first p n h e) [
     | inl w ↦ subst (λ q. IsPresent initial q n h) (w.0 ∙ sym w.1) e

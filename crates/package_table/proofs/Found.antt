@@ -13,7 +13,7 @@ use Rattle.std.specs.Ordering.{eq_by_cmp}
 use Rattle.std.specs.FinMap as finite
 use Rattle.std.specs.FinMap.{contains_key-keys}
 use Rattle.std.proofs.lemmas.Bool.{false≢true, or_right}
-use Rattle.package_table.specs.Table.{Name, name_cmp, Present, Package, Table, entry_at, IsPresent, IsExternal, Uses, Finds, FindsNone, IsJoined}
+use Rattle.package_table.specs.Table.{Name, name_cmp, Present, Package, Table, entry_at, IsPresent, IsExternal, Uses, Finds, FindsNone, AreUsesSound}
 use Rattle.package_table.specs.Lookup.{external_home, first_external, home_by_name, is_external, is_used}
 use Rattle.package_table.proofs.Names.{tied_same, same_tied, same_some, none_some}
 
@@ -139,7 +139,7 @@ module _ (t : Table) (n : Name) where
   some_found p h (inl here) = (h, present_look (finite.get t p) h here)
   some_found p h (inr used) = inherited_look (finite.get t p) used.0 h used.1 (external_home_is (entry_at t used.0 n) h used.2 used.3)
 
-  pub found_is : IsJoined t → (p h : Name) → Finds t p n h → home_by_name t p n ≡ Some h
+  pub found_is : AreUsesSound t → (p h : Name) → Finds t p n h → home_by_name t p n ≡ Some h
   found_is joined p h finds =
       let some = some_found p h finds in
       some.1 ∙ ap (λ g. Some g) (joined.one p n some.0 h (found_finds p some.0 some.1) finds)

@@ -14,7 +14,7 @@ use Rattle.std.specs.FinMap as finite
 use Rattle.package_sets.specs.KeptSets.{Kept, name_at, pair_at, pair_eq, positions_from, positions_of}
 use Rattle.package_sets.specs.Consistent.{IsGood}
 use Rattle.package_sets.proofs.Places.{all_at, none_any}
-use Rattle.package_table.specs.Table.{Name, Present, Package, Table, entry_at, IsPresent, IsExternal, Uses, Finds, FindsNone, IsJoined}
+use Rattle.package_table.specs.Table.{Name, Present, Package, Table, entry_at, IsPresent, IsExternal, Uses, Finds, FindsNone, AreUsesSound}
 use Rattle.package_table.specs.Lookup.{home_by_name, external_home}
 use Rattle.package_table.specs.Meaning.{number_in, is_shown_in, present_in, package_of_number, home_in, shown_number, first_shown, found_number, numbered_of}
 use Rattle.package_table.proofs.Names.{same_some, none_some}
@@ -270,7 +270,7 @@ module _ (k : Kept) (good : IsGood k) where
         some_any : (q x : ℕ) → position (pair_eq (p, q)) k.uses ≡ Some x → list_any (pair_eq (p, q)) k.uses ≡ true
         some_any q x is = let at = position-Some (pair_eq (p, q)) k.uses x (0, 0) is in any_at (pair_eq (p, q)) k.uses x (0, 0) at.0 at.1
 
-    pub found_by : IsJoined (numbered_of k).0 → option_map (home_in k) (found_number k p j) ≡ home_by_name (numbered_of k).0 P N
+    pub found_by : AreUsesSound (numbered_of k).0 → option_map (home_in k) (found_number k p j) ≡ home_by_name (numbered_of k).0 P N
     found_by joined =
         elim (found_number k p j) as (λ o. found_number k p j ≡ o → option_map (home_in k) o ≡ home_by_name (numbered_of k).0 P N) [
           | Some i ↦ λ is. sym (found_is (numbered_of k).0 N joined P (home_in k i) (finds_number i is))

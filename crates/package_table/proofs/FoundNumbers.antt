@@ -4,14 +4,14 @@ use Rattle.package_sets.specs.Consistent.{IsGood}
 use Rattle.package_sets.specs.KeptSets.{Kept, name_at}
 use Rattle.package_table.specs.Meaning.{found_number, home_in, numbered_of, symbol_name}
 use Rattle.package_table.specs.Numbers.{number_of, IsFoundNumber}
-use Rattle.package_table.specs.Table.{Name, IsJoined}
+use Rattle.package_table.specs.Table.{Name, AreUsesSound}
 use Rattle.package_table.proofs.ByName.{number_by_position}
 use Rattle.package_table.proofs.FoundBy.{found_by}
 use Rattle.package_table.proofs.Mapped.{named}
 use Rattle.package_table.proofs.Puts.{this_known}
 
 pub found_numbered : (k : Kept) → IsGood k → (P N : Name) (p j : ℕ) → position (bytes_eq P) k.packages ≡ Some p → position (bytes_eq N) k.names ≡ Some j
-    → IsJoined (numbered_of k).0 → (found_it : Option ℕ) → found_it ≡ found_number k p j → IfSome found_it (IsFoundNumber (numbered_of k) P N)
+    → AreUsesSound (numbered_of k).0 → (found_it : Option ℕ) → found_it ≡ found_number k p j → IfSome found_it (IsFoundNumber (numbered_of k) P N)
 found_numbered k good P N p j here there joined None is = tt
 found_numbered k good P N p j here there joined (Some i) is =
     let known = this_known k good P N p here j there i (sym is) in

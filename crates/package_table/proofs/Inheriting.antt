@@ -7,9 +7,9 @@ use Rattle.std.proofs.lemmas.List.Quantifiers.{position-Some}
 use Rattle.std.specs.List.{list_any}
 use Rattle.package_sets.specs.KeptSets.{Kept, name_at, pair_at, pair_eq, positions_of}
 use Rattle.package_sets.specs.Consistent.{IsGood}
-use Rattle.package_sets.specs.InheritedNames.{IsInherited}
+use Rattle.package_sets.specs.InheritedNames.{IsInheritedSymbol}
 use Rattle.package_sets.proofs.Growing.{pair_equiv}
-use Rattle.package_table.specs.Table.{Name, Finds, IsJoined}
+use Rattle.package_table.specs.Table.{Name, Finds, AreUsesSound}
 use Rattle.package_table.specs.Meaning.{number_in, is_shown_in, home_in, shown_number, first_shown, numbered_of}
 use Rattle.package_table.proofs.Names.{same_some, none_some}
 use Rattle.package_table.proofs.Meant.{known, home_fits, pair_there, same_pair}
@@ -59,7 +59,7 @@ module _ (k : Kept) (good : IsGood k) where
     shown_symbol_known : (i : ℕ) (u : IsUsed i) → (i < length k.symbols) × ((pair_at k.symbols i).1 ≡ j)
     shown_symbol_known i u = let at = known k good u.q j i (shows k u.q j i u.shown).0 in (at.symbol, at.named_so)
 
-    module _ (joined : IsJoined (numbered_of k).0) (p_in : p < length k.packages) (j_in : j < length k.names) where
+    module _ (joined : AreUsesSound (numbered_of k).0) (p_in : p < length k.packages) (j_in : j < length k.names) where
       finds_used : (i : ℕ) → IsUsed i → Finds (numbered_of k).0 (name_at k.packages p) (name_at k.names j) (home_in k i)
       finds_used i u =
           let here = position_of k.packages good.distinct.packages p p_in in
@@ -103,7 +103,7 @@ module _ (k : Kept) (good : IsGood k) where
     locked_none lisp keyword (suc zero) less = keyword
     locked_none lisp keyword (suc (suc q)) less = absurd (omega (arith, less))
 
-    pub inherited_none : ((x : ℕ) → IsInherited k p j x → ⊥)
+    pub inherited_none : ((x : ℕ) → IsInheritedSymbol k p j x → ⊥)
         → (is_some (position (pair_eq (p, 0)) k.uses) && is_some (number_in k 0 j)) ≡ false
         → (is_some (position (pair_eq (p, 1)) k.uses) && is_some (number_in k 1 j)) ≡ false
         → first_shown k j (positions_of p k.uses) ≡ None

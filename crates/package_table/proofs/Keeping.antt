@@ -7,7 +7,7 @@
 use Rattle.std.proofs.Common.{◌≡◌, ◌≢◌, ◌⊎◌, true, None, Some, refl, sym, ap, subst, ◌∙◌, inl, inr}
 use Rattle.std.specs.Option.{option_map}
 use Rattle.std.specs.FinMap as finite
-use Rattle.package_table.specs.Table.{Name, Present, Table, entry_at, IsPackage, IsPresent, IsExternal, Uses, Finds, IsJoined, with_entry, with_used, with_new_package}
+use Rattle.package_table.specs.Table.{Name, Present, Table, entry_at, IsPackage, IsPresent, IsExternal, Uses, Finds, AreUsesSound, with_entry, with_used, with_new_package}
 use Rattle.package_table.proofs.Frames.{place_cases, entry_new, entry_other, uses_with_entry, package_with_entry, entry_with_used, uses_either, package_with_used, entry_with_new, uses_with_new, package_with_new}
 
 -- one home in a place
@@ -15,7 +15,7 @@ pub present_once : (t : Table) (p n g h : Name) → IsPresent t p n g → IsPres
 present_once t p n g h a b = let both : Some g ≡ Some h = sym a ∙ b in cc
 
 -- a symbol that is found is present at its home
-pub present_at_home : (t : Table) (p n h : Name) → IsJoined t → Finds t p n h → IsPresent t h n h
+pub present_at_home : (t : Table) (p n h : Name) → AreUsesSound t → Finds t p n h → IsPresent t h n h
 present_at_home t p n h joined finds =
     elim finds [
       | inl here ↦ joined.homes p n h here
@@ -39,7 +39,7 @@ module _ (t u : Table)
         | inr (r, used, external, there) ↦ inr (r, uses q r used, external_as r m external, present_as r m h there)
       ]
 
-  pub joined_alike : IsJoined t → IsJoined u
+  pub joined_alike : AreUsesSound t → AreUsesSound u
   joined_alike joined = record {
     homes = λ p n h there. ap (option_map (λ (e : Present). e.home)) (entries h n) ∙ joined.homes p n h (present_as p n h there);
     used = λ p q used. packages q (joined.used p q (uses p q used));
@@ -135,7 +135,7 @@ module _ (t : Table) (p n : Name) (e : Present)
                 present ∙ ap Some (home_is ∙ sym is)
           ] refl old
 
-  pub joined_with_entry : IsJoined t → IsJoined (with_entry t p n e)
+  pub joined_with_entry : AreUsesSound t → AreUsesSound (with_entry t p n e)
   joined_with_entry joined = record {
     homes = λ q m h found.
         elim (present_either t p n e there q m h found) [
@@ -191,7 +191,7 @@ module _ (t : Table) (p q : Name)
             ]
       ]
 
-  pub joined_with_used : IsJoined t → IsJoined then
+  pub joined_with_used : AreUsesSound t → AreUsesSound then
   joined_with_used joined = record {
     homes = λ r m h found. ap (option_map (λ (e : Present). e.home)) (entry_with_used t p q h m) ∙ joined.homes r m h (present_then r m h found);
     used = λ r s used.
@@ -220,6 +220,6 @@ module _ (t : Table) (p q : Name)
         ];
   }
 
-pub joined_with_new : (t : Table) (p : Name) → finite.get t p ≡ None → IsJoined t → IsJoined (with_new_package t p)
+pub joined_with_new : (t : Table) (p : Name) → finite.get t p ≡ None → AreUsesSound t → AreUsesSound (with_new_package t p)
 joined_with_new t p absent joined =
     joined_alike t (with_new_package t p) (entry_with_new t p absent) (uses_with_new t p absent) (package_with_new t p absent) joined

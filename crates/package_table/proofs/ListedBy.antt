@@ -15,7 +15,7 @@ use Rattle.package_sets.proofs.Places.{any_some, any_none, all_at}
 use Rattle.package_table.specs.Table.{Name, name_cmp, Present, Package, Table, common_lisp, common_lisp_names, common_lisp_package, keyword, is_locked, entry_at, IsPresent, AreSoundPackages}
 use Rattle.package_table.specs.Readers.{present_symbols, own_names, external_names, imports, used_names}
 use Rattle.package_table.specs.Meaning.{number_in, is_shown_in, present_in, package_of_number, home_in, symbol_name, shown_positions, shown_symbol, numbered_of}
-use Rattle.package_table.specs.Adds.{IsPlaced}
+use Rattle.package_table.specs.Adds.{HasFixedNumbers}
 use Rattle.package_table.proofs.Names.{same_some, none_some, same_tied}
 use Rattle.package_table.proofs.Frames.{equal_names, equal_itself}
 use Rattle.package_table.proofs.First.{symbol_first, at_home}
@@ -110,7 +110,7 @@ shown_symbol_fits k good q i =
       | false ↦ λ less. (all_at (λ (p : ℕ × ℕ). (p.0 < length k.packages) × (p.1 < length k.symbols)) k.externals good.within.externals (get_or (positions_of q k.externals) i 0) (0, 0) (place_fits q k.externals i less)).1
     ]
 
-module _ (k : Kept) (good : IsGood k) (placed : IsPlaced k) (sound : AreSoundPackages (numbered_of k).0) (Q : Name) (q : ℕ) (here : position (bytes_eq Q) k.packages ≡ Some q) where
+module _ (k : Kept) (good : IsGood k) (placed : HasFixedNumbers k) (sound : AreSoundPackages (numbered_of k).0) (Q : Name) (q : ℕ) (here : position (bytes_eq Q) k.packages ≡ Some q) where
   -- ---- a locked package
   lisp_home : (N h : Name) → IsPresent (numbered_of k).0 common_lisp N h → h ≡ common_lisp
   unfolding common_lisp_package

@@ -8,7 +8,7 @@ use Rattle.std.proofs.lemmas.List.{length-take-le}
 use Rattle.package_sets.specs.declared.sizes.Sizes.{Sizes}
 use Rattle.package_sets.specs.KeptSets.{Kept, cut, sizes_of, AreUpTo}
 use Rattle.package_sets.proofs.Places.{all_at}
-use Rattle.package_table.specs.Numbering.{IsNumbered, IsNumberedSound}
+use Rattle.package_table.specs.Numbering.{AreSymbolsNumbered, IsNumberedSound}
 use Rattle.package_table.specs.Meaning.{numbered_of}
 use Rattle.package_table.specs.Views.{IsMark, IsState, IsRising, tables_at}
 use Rattle.package_sets.proofs.Cut.{cut_itself, cut_cut, up_to_itself}
@@ -82,7 +82,7 @@ back k (m ∷ ns) (suc i) d less marks rising =
 
 -- ---- what was kept at the marks
 numbered_state : (k : Kept) → IsState k → IsNumberedSound (numbered_of k)
-numbered_state k state = (state.sound, subst (IsNumbered (numbered_of k)) state.counted (numbers_always k state.good))
+numbered_state k state = (state.sound, subst (AreSymbolsNumbered (numbered_of k)) state.counted (numbers_always k state.good))
 
 each_sound : (k : Kept) (ns : List Sizes) → AllByRecursion (IsMark k) ns → AllByRecursion IsNumberedSound (tables_at ns k)
 each_sound k [] marks = tt

@@ -12,7 +12,7 @@ use Rattle.std.specs.Option.{option_map, option_map_or}
 use Rattle.package_table.specs.Table.{Name, Present, IsPresent, entry_at}
 use Rattle.package_table.specs.Lookup.{is_symbol}
 use Rattle.package_table.specs.Numbers.{Numbered, number_at, number_of}
-use Rattle.package_table.specs.Numbering.{IsNumbered, KeepsNumbers}
+use Rattle.package_table.specs.Numbering.{AreSymbolsNumbered, KeepsNumbers}
 use Rattle.package_table.specs.Growth.{Grows}
 use Rattle.package_table.proofs.Names.{same_some, none_some}
 use Rattle.package_table.proofs.Frames.{equal_names, equal_itself}
@@ -28,7 +28,7 @@ there_symbol (Some e) h same = ap Some (equal_names e.home h same)
 pub at_symbol : (s : Numbered) (h n : Name) → IsPresent s.0 h n h → number_of s h n ≡ number_at s.1 h n
 at_symbol s h n there = ap (λ b. cond b (number_at s.1 h n) None) (symbol_there (entry_at s.0 h n) h there)
 
-pub number_some : (s : Numbered) (count : ℕ) → IsNumbered s count → (h n : Name) → IsPresent s.0 h n h → (i : ℕ) × (number_of s h n ≡ Some i) × (i < count)
+pub number_some : (s : Numbered) (count : ℕ) → AreSymbolsNumbered s count → (h n : Name) → IsPresent s.0 h n h → (i : ℕ) × (number_of s h n ≡ Some i) × (i < count)
 number_some s count numbered h n there =
     let b = numbered.below h n there in
     (b.0, at_symbol s h n there ∙ b.1, b.2)
@@ -40,7 +40,7 @@ number_there s h n i is = there_symbol (entry_at s.0 h n) h (chosen (is_symbol s
     chosen true o some = refl
     chosen false o none = absurd (none_some i none)
 
-pub number_apart : (s : Numbered) (count : ℕ) → IsNumbered s count → (h n g m : Name) (i : ℕ) → number_of s h n ≡ Some i → number_of s g m ≡ Some i → (h ≡ g) × (n ≡ m)
+pub number_apart : (s : Numbered) (count : ℕ) → AreSymbolsNumbered s count → (h n g m : Name) (i : ℕ) → number_of s h n ≡ Some i → number_of s g m ≡ Some i → (h ≡ g) × (n ≡ m)
 number_apart s count numbered h n g m i a b =
     let here = number_there s h n i a in
     let there = number_there s g m i b in

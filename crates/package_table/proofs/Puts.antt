@@ -10,12 +10,12 @@ use Rattle.std.specs.FinMap as finite
 use Rattle.package_sets.specs.KeptSets.{Kept, import_of, name_at, pair_at, pair_eq, positions_of}
 use Rattle.package_sets.specs.Consistent.{IsGood}
 use Rattle.package_sets.specs.Changes.{symbol_named, with_external_number, with_import, with_symbol}
-use Rattle.package_table.specs.Table.{Name, name_cmp, Present, Package, Table, entry_at, with_entry, common_lisp, keyword, is_locked, IsJoined, IsPresent}
+use Rattle.package_table.specs.Table.{Name, name_cmp, Present, Package, Table, entry_at, with_entry, common_lisp, keyword, is_locked, AreUsesSound, IsPresent}
 use Rattle.package_table.specs.Lookup.{home_by_name, is_external}
 use Rattle.package_table.specs.Changes.{finds_this}
 use Rattle.package_table.specs.Numbers.{Numbered, with_numbered}
 use Rattle.package_table.specs.Meaning.{number_in, is_shown_in, present_in, home_in, found_number, first_shown, numbered_of}
-use Rattle.package_table.specs.Adds.{IsPlaced, Adds}
+use Rattle.package_table.specs.Adds.{HasFixedNumbers, Adds}
 use Rattle.package_table.proofs.Names.{name_total, name_exact, same_some, none_some}
 use Rattle.package_table.proofs.Frames.{equal_names, equal_itself, get_inserted}
 use Rattle.package_table.proofs.Found.{found_none}
@@ -111,7 +111,7 @@ module _ (k : Kept) (good : IsGood k) (P N : Name) (p : ℕ) (here : position (b
     pub interned_so : numbered_of (with_symbol k p N) ≡ with_numbered (numbered_of k) P N (record { home = P; external = nat_lt p 2 }) (length k.symbols)
     interned_so = symbol_made k good p N unnamed (unnumbered nothing) P here
 
-    pub interned : IsPlaced k → bytes_eq P common_lisp ≡ false → numbered_of (with_symbol k p N) ≡ with_numbered (numbered_of k) P N (record { home = P; external = bytes_eq P keyword }) (length k.symbols)
+    pub interned : HasFixedNumbers k → bytes_eq P common_lisp ≡ false → numbered_of (with_symbol k p N) ≡ with_numbered (numbered_of k) P N (record { home = P; external = bytes_eq P keyword }) (length k.symbols)
     interned placed open_to =
         interned_so
         ∙ ap (λ b. with_numbered (numbered_of k) P N (record { home = P; external = b }) (length k.symbols)) (keyword_number k placed P p here open_to)
@@ -133,7 +133,7 @@ module _ (k : Kept) (good : IsGood k) (P N : Name) (p : ℕ) (here : position (b
     pub unimported : number_in k p (pair_at k.symbols i).1 ≡ None
     unimported = ap (number_in k p) known_symbol.named_so ∙ unnumbered none j there
 
-    pub imported : IsPlaced k → is_locked P ≡ false → numbered_of (with_import k p i) ≡ with_numbered (numbered_of k) P N (record { home = H; external = false }) i
+    pub imported : HasFixedNumbers k → is_locked P ≡ false → numbered_of (with_import k p i) ≡ with_numbered (numbered_of k) P N (record { home = H; external = false }) i
     imported placed open_to =
         import_added k good P N p i here known_symbol.symbol (there ∙ ap Some (sym known_symbol.named_so)) unimported
         ∙ (λ t. with_numbered (numbered_of k) P N (record { home = own_home k good H N h j home there i is t; external = hidden_new k placed p i (locked_number k placed P p here ∙ open_to) unimported t }) i)
@@ -146,14 +146,14 @@ module _ (k : Kept) (good : IsGood k) (P N : Name) (p : ℕ) (here : position (b
     pub this_known : (i : ℕ) → found_number k p j ≡ Some i → (i < length k.symbols) × ((pair_at k.symbols i).1 ≡ j)
     this_known = found_known k good p j
 
-    pub this_found : IsJoined (numbered_of k).0 → (H : Name) → finds_this (numbered_of k).0 P H N ≡ true → (i : ℕ) × (found_number k p j ≡ Some i) × (home_in k i ≡ H)
+    pub this_found : AreUsesSound (numbered_of k).0 → (H : Name) → finds_this (numbered_of k).0 P H N ≡ true → (i : ℕ) × (found_number k p j ≡ Some i) × (home_in k i ≡ H)
     this_found joined H finds =
         elim (found_number k p j) as (λ o. found_number k p j ≡ o → option_map_or (λ g. bytes_eq g H) (option_map (home_in k) o) false ≡ true → (i : ℕ) × (found_number k p j ≡ Some i) × (home_in k i ≡ H)) [
           | None ↦ λ _ none. absurd (false≢true none)
           | Some i ↦ λ is same. (i, is, equal_names (home_in k i) H same)
         ] refl (ap (λ o. option_map_or (λ g. bytes_eq g H) o false) (found_by k good P N p j here there joined) ∙ finds)
 
-    pub this_home : IsJoined (numbered_of k).0 → (H : Name) → finds_this (numbered_of k).0 P H N ≡ true → (i : ℕ) → found_number k p j ≡ Some i → home_in k i ≡ H
+    pub this_home : AreUsesSound (numbered_of k).0 → (H : Name) → finds_this (numbered_of k).0 P H N ≡ true → (i : ℕ) → found_number k p j ≡ Some i → home_in k i ≡ H
     this_home joined H finds i is =
         let found_it = this_found joined H finds in
         ap (home_in k) (same_some i found_it.0 (sym is ∙ found_it.1)) ∙ found_it.2

@@ -8,7 +8,7 @@ use Rattle.package_table.specs.Meaning.{number_in}
 
 -- COMMON-LISP and KEYWORD are the packages 0 and 1; what a package has as external it has by its name; and nothing is imported
 -- by a name of which there is a symbol at home.
-pub record IsPlaced (k : Kept) : Type 0 where
+pub record HasFixedNumbers (k : Kept) : Type 0 where
   pub lisp_first : position (bytes_eq common_lisp) k.packages ≡ Some 0
   pub keyword_second : position (bytes_eq keyword) k.packages ≡ Some 1
   pub shown : (p i x : ℕ) → position (pair_eq (p, i)) k.externals ≡ Some x → number_in k p (pair_at k.symbols i).1 ≡ Some i
@@ -20,7 +20,7 @@ pub record Adds (k u : Kept) : Type 0 where
   pub packages : (P : Name) (p : ℕ) → position (bytes_eq P) k.packages ≡ Some p → position (bytes_eq P) u.packages ≡ Some p
   pub names : (N : Name) (j : ℕ) → position (bytes_eq N) k.names ≡ Some j → position (bytes_eq N) u.names ≡ Some j
   pub numbers : (p j i : ℕ) → number_in k p j ≡ Some i → number_in u p j ≡ Some i
-  pub placed : IsPlaced k → IsPlaced u
+  pub placed : HasFixedNumbers k → HasFixedNumbers u
   pub fits : (n : Sizes) → AreUpTo n (sizes_of k) → AreUpTo n (sizes_of u)
   pub cuts : (n : Sizes) → AreUpTo n (sizes_of k) → cut n u ≡ cut n k
 

@@ -185,7 +185,7 @@ pub record IsSymbolName (n : Name) : Type 0 where
 
 -- Each symbol is present in its home, what is used is a package, no package uses itself, and none finds two symbols by
 -- one name.
-pub record IsJoined (t : Table) : Type 0 where
+pub record AreUsesSound (t : Table) : Type 0 where
   pub homes : (p n h : Name) → IsPresent t p n h → IsPresent t h n h
   pub used : (p q : Name) → Uses t p q → IsPackage t q
   pub apart : (p : Name) → Uses t p p → ⊥
@@ -211,6 +211,6 @@ pub record IsWithin (t : Table) : Type 0 where
 
 -- what holds of all packages
 pub record AreSoundPackages (t : Table) : Type 0 where
-  pub joined : IsJoined t
+  pub joined : AreUsesSound t
   pub first : HasFirst t
   pub within : IsWithin t

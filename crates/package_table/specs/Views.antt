@@ -9,7 +9,7 @@ use Rattle.package_table.specs.Table.{AreSoundPackages, symbol_count}
 use Rattle.package_table.specs.Numbers.{Numbered, Tables}
 pub use Rattle.package_table.specs.KeptTrees.{as_map}
 use Rattle.package_table.specs.Meaning.{numbered_of}
-use Rattle.package_table.specs.Adds.{IsPlaced}
+use Rattle.package_table.specs.Adds.{HasFixedNumbers}
 
 -- the tables of what was kept at these marks
 abbrev pub tables_at : List Sizes → Kept → List Numbered
@@ -24,7 +24,7 @@ pub record IsState (k : Kept) : Type 0 where
   pub good : IsGood k
   pub sound : AreSoundPackages (numbered_of k).0
   pub counted : length k.symbols ≡ symbol_count (numbered_of k).0
-  pub placed : IsPlaced k
+  pub placed : HasFixedNumbers k
 
 -- what was kept then can be had by a cut, and was such a state
 pub record IsMark (k : Kept) (n : Sizes) : Type 0 where

@@ -2,10 +2,10 @@
 ghost use Rattle.std.specs.Prelude.{◌≡◌, ◌<◌, ◌&&◌, false, nat_lt, length};
 ghost use Rattle.std.specs.FinMap as finite;
 ghost use Rattle.package_sets.specs.KeptSets.{name_at};
-ghost use Rattle.package_table.specs.Table.{IsJoined, IsPackage, AreSoundPackages};
+ghost use Rattle.package_table.specs.Table.{AreUsesSound, IsPackage, AreSoundPackages};
 ghost use Rattle.package_table.specs.Changes.{finds_this, finds_other, user_finds_other, finds_other_than_shown};
 ghost use Rattle.package_table.specs.Meaning.{finds_another, numbered_of, package_of_number, shown_positions, shown_symbol};
-ghost use Rattle.package_table.specs.Adds.{IsPlaced};
+ghost use Rattle.package_table.specs.Adds.{HasFixedNumbers};
 
 use crate::limits::LOCKED_PACKAGES;
 use crate::look_ups::{found_number, home_name, home_of};
@@ -13,7 +13,7 @@ use package_sets::PackageSets;
 
 /// Whether `owner` finds the symbol of this home and name.
 pub(crate) fn finds_this(sets: &PackageSets, owner: &[u8], home: &[u8], name: &[u8]) -> bool
-    requires { IsJoined (numbered_of sets.now).0 }
+    requires { AreUsesSound (numbered_of sets.now).0 }
     ensures { result ≡ finds_this (numbered_of sets.now).0 owner.now home.now name.now }
 {
     match home_of(sets, owner, name) {
@@ -24,7 +24,7 @@ pub(crate) fn finds_this(sets: &PackageSets, owner: &[u8], home: &[u8], name: &[
 
 /// Whether `owner` finds another symbol than that of this home by its name.
 pub(crate) fn finds_other(sets: &PackageSets, owner: &[u8], home: &[u8], name: &[u8]) -> bool
-    requires { IsJoined (numbered_of sets.now).0 }
+    requires { AreUsesSound (numbered_of sets.now).0 }
     ensures { result ≡ finds_other (numbered_of sets.now).0 owner.now home.now name.now }
 {
     match home_of(sets, owner, name) {
@@ -38,7 +38,7 @@ fn finds_as_user(sets: &PackageSets, user: u32, owner: u32, home: &[u8], name: u
     requires user { user < length sets.now.packages }
     requires owner { owner < length sets.now.packages }
     requires name { name < length sets.now.names }
-    requires joined { IsJoined (numbered_of sets.now).0 }
+    requires joined { AreUsesSound (numbered_of sets.now).0 }
     ensures { let k = sets.now in let at = name_at k.packages in
         result ≡ (finite.contains_key (package_of_number k user).uses (at owner)
         && finds_other (numbered_of k).0 (at user) home.now (name_at k.names name)) }
@@ -78,7 +78,7 @@ pub(crate) fn user_finds_other(sets: &PackageSets, owner: &[u8], home: &[u8], na
 fn finds_another(sets: &PackageSets, owner: u32, symbol: u32) -> bool
     requires owner { owner < length sets.now.packages }
     requires symbol { symbol < length sets.now.symbols }
-    requires joined { IsJoined (numbered_of sets.now).0 }
+    requires joined { AreUsesSound (numbered_of sets.now).0 }
     ensures { result ≡ finds_another sets.now owner symbol }
 {
     sets.goodness();
@@ -117,7 +117,7 @@ pub(crate) fn finds_other_than_shown(sets: &PackageSets, owner: &[u8], used: &[u
     requires owner { IsPackage (numbered_of sets.now).0 owner.now }
     requires used { IsPackage (numbered_of sets.now).0 used.now }
     requires sound { AreSoundPackages (numbered_of sets.now).0 }
-    requires placed { IsPlaced sets.now }
+    requires placed { HasFixedNumbers sets.now }
     ensures { result ≡ finds_other_than_shown (numbered_of sets.now).0 owner.now used.now }
 {
     sets.goodness();

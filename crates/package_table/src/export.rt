@@ -6,7 +6,7 @@ ghost use Rattle.package_table.specs.Growth.{Grows, TellsOfChange};
 ghost use Rattle.package_table.specs.Numbers.{table_now};
 ghost use Rattle.package_table.specs.Numbering.{KeepsNumbers};
 ghost use Rattle.package_table.specs.Meaning.{numbered_of};
-ghost use Rattle.package_table.specs.Adds.{AddsNoSymbol, IsPlaced};
+ghost use Rattle.package_table.specs.Adds.{AddsNoSymbol, HasFixedNumbers};
 
 use crate::conflicts::{finds_this, user_finds_other};
 use crate::find::is_locked;
@@ -52,7 +52,7 @@ fn export_symbol(
     name: &[u8],
 ) -> Result<bool, PackageError>
     requires sound { AreSoundPackages (numbered_of sets.old).0 }
-    requires placed { IsPlaced sets.old }
+    requires placed { HasFixedNumbers sets.old }
     ensures gives { AnswersPackages (λ _. (numbered_of sets.new).0) result
         (after_export (numbered_of sets.old).0 owner.now home.now name.now) }
     ensures changed { TellsChange

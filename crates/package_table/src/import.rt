@@ -1,12 +1,12 @@
 //! `import`: a symbol becomes present.
 ghost use Rattle.std.specs.Prelude.{◌≡◌, IfErr, IfOk};
-ghost use Rattle.package_table.specs.Table.{IsJoined, IsPresent};
+ghost use Rattle.package_table.specs.Table.{AreUsesSound, IsPresent};
 ghost use Rattle.package_table.specs.Changes.{after_import, import_changes, with_present, AnswersPackages, RunsOutOnlyIf, TellsChange, Yields};
 ghost use Rattle.package_table.specs.Growth.{Grows, TellsOfChange};
 ghost use Rattle.package_table.specs.Numbers.{table_now};
 ghost use Rattle.package_table.specs.Numbering.{KeepsNumbers};
 ghost use Rattle.package_table.specs.Meaning.{numbered_of};
-ghost use Rattle.package_table.specs.Adds.{AddsNoSymbol, IsPlaced};
+ghost use Rattle.package_table.specs.Adds.{AddsNoSymbol, HasFixedNumbers};
 
 use crate::conflicts::finds_other;
 use crate::find::is_locked;
@@ -23,7 +23,7 @@ fn import_refusal(
     home: &[u8],
     name: &[u8],
 ) -> Result<bool, PackageError>
-    requires { IsJoined (numbered_of sets.now).0 }
+    requires { AreUsesSound (numbered_of sets.now).0 }
     ensures gives { let t = (numbered_of sets.now).0 in
         AnswersPackages (λ _. with_present t owner.now home.now name.now) result
         (after_import t owner.now home.now name.now) }
@@ -49,8 +49,8 @@ fn import_symbol(
     name: &[u8],
 ) -> Result<bool, PackageError>
     requires symbol { IsPresent (numbered_of sets.old).0 home.now name.now home.now }
-    requires joined { IsJoined (numbered_of sets.old).0 }
-    requires placed { IsPlaced sets.old }
+    requires joined { AreUsesSound (numbered_of sets.old).0 }
+    requires placed { HasFixedNumbers sets.old }
     ensures gives { AnswersPackages (λ _. (numbered_of sets.new).0) result
         (after_import (numbered_of sets.old).0 owner.now home.now name.now) }
     ensures changed { TellsChange

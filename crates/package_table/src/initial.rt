@@ -6,7 +6,7 @@ ghost use Rattle.package_sets.specs.KeptSets.{name_at};
 ghost use Rattle.package_table.specs.Table.{common_lisp, common_lisp_user, empty_package, initial, keyword, package_of_names};
 ghost use Rattle.package_table.specs.Readers.{names_of};
 ghost use Rattle.package_table.specs.Meaning.{numbered_of};
-ghost use Rattle.package_table.specs.Adds.{HasNothing, IsPlaced};
+ghost use Rattle.package_table.specs.Adds.{HasNothing, HasFixedNumbers};
 
 use crate::standardized::{COMMON_LISP, COMMON_LISP_USER, KEYWORD};
 use package_sets::{PackageSets, Seed};
@@ -114,7 +114,7 @@ fn add_names(sets: &mut PackageSets, owner: u32, names: &[&[u8]]) -> Result<(), 
 /// The first packages.
 pub(crate) fn first_packages(alloc: Global, seed: Seed) -> Result<PackageSets, AllocError>
     ensures table { IfOk result (λ sets. (numbered_of sets).0 ≡ initial) }
-    ensures placed { IfOk result IsPlaced }
+    ensures placed { IfOk result HasFixedNumbers }
     ensures count { IfOk result (λ sets. length sets.symbols ≡ 53) }
 {
     let mut sets = three_packages(alloc, seed)?;

@@ -1,14 +1,14 @@
 //! `intern`: the symbol of a name in a package, new if there is none.
 ghost use Rattle.std.specs.Prelude.{◌≡◌, ◌<◌, All, Some, IfErr, IfOk, length};
 ghost use Rattle.package_sets.specs.KeptSets.{name_at};
-ghost use Rattle.package_table.specs.Table.{IsJoined, IsPackage, symbol_count};
+ghost use Rattle.package_table.specs.Table.{AreUsesSound, IsPackage, symbol_count};
 ghost use Rattle.package_table.specs.Lookup.{home_by_name};
 ghost use Rattle.package_table.specs.Changes.{after_intern, intern_changes, AnswersPackages};
 ghost use Rattle.package_table.specs.Growth.{Grows, IsSameBut, TellsOfChange};
 ghost use Rattle.package_table.specs.Numbers.{table_now};
 ghost use Rattle.package_table.specs.Numbering.{KeepsNumbers};
 ghost use Rattle.package_table.specs.Meaning.{numbered_of};
-ghost use Rattle.package_table.specs.Adds.{Adds, IsPlaced};
+ghost use Rattle.package_table.specs.Adds.{Adds, HasFixedNumbers};
 
 use crate::limits::{MAX_SYMBOL_NAME, MAX_SYMBOLS};
 use crate::look_ups::{found_home, package_number};
@@ -36,8 +36,8 @@ fn intern_in(
     requires owner { owner < length sets.old.packages }
     requires package { IsPackage (numbered_of sets.old).0 (name_at sets.old.packages owner) }
     requires counted { length sets.old.symbols ≡ symbol_count (numbered_of sets.old).0 }
-    requires joined { IsJoined (numbered_of sets.old).0 }
-    requires placed { IsPlaced sets.old }
+    requires joined { AreUsesSound (numbered_of sets.old).0 }
+    requires placed { HasFixedNumbers sets.old }
 
     // It gives what the definition says; numbers are only added, and after an error nothing has changed.
     ensures gives { AnswersPackages (λ interned. (interned.home, (numbered_of sets.new).0)) result
@@ -74,8 +74,8 @@ fn intern_symbol(
     name: &[u8],
 ) -> Result<Interned, PackageError>
     requires counted { length sets.old.symbols ≡ symbol_count (numbered_of sets.old).0 }
-    requires joined { IsJoined (numbered_of sets.old).0 }
-    requires placed { IsPlaced sets.old }
+    requires joined { AreUsesSound (numbered_of sets.old).0 }
+    requires placed { HasFixedNumbers sets.old }
     ensures gives { AnswersPackages (λ interned. (interned.home, (numbered_of sets.new).0)) result
         (after_intern (numbered_of sets.old).0 owner.now name.now) }
     ensures is_new { IfOk result

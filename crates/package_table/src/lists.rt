@@ -5,7 +5,7 @@ ghost use Rattle.package_sets.specs.KeptSets.{name_at, pair_at, positions_of};
 ghost use Rattle.package_table.specs.Table.{IsPackage, AreSoundPackages};
 ghost use Rattle.package_table.specs.Readers.{home_at, names_of, package_names, used_names, own_names, external_names, imports, ListRefused};
 ghost use Rattle.package_table.specs.Meaning.{numbered_of, shown_positions, shown_symbol, symbol_name};
-ghost use Rattle.package_table.specs.Adds.{IsPlaced};
+ghost use Rattle.package_table.specs.Adds.{HasFixedNumbers};
 
 use crate::PackageError;
 use crate::conflicts::{shown_positions, shown_symbol};
@@ -135,7 +135,7 @@ pub(crate) fn uses(
     owner: &[u8],
 ) -> Result<Items<Bytes>, PackageError>
     requires sound { AreSoundPackages (numbered_of sets.now).0 }
-    requires placed { IsPlaced sets.now }
+    requires placed { HasFixedNumbers sets.now }
     ensures list { IfOk result (λ names. names ≡ used_names (numbered_of sets.now).0 owner.now) }
     ensures there { IfOk result (λ _. IsPackage (numbered_of sets.now).0 owner.now) }
     ensures refused { IfErr result (ListRefused (numbered_of sets.now).0 owner.now) }
@@ -154,7 +154,7 @@ pub(crate) fn own_names<'a>(
     owner: &[u8],
 ) -> Result<Vec<&'a [u8]>, PackageError>
     requires sound { AreSoundPackages (numbered_of sets.now).0 }
-    requires placed { IsPlaced sets.now }
+    requires placed { HasFixedNumbers sets.now }
     ensures list { IfOk result
         (λ names. names_of names.items ≡ own_names (numbered_of sets.now).0 owner.now) }
     ensures there { IfOk result (λ _. IsPackage (numbered_of sets.now).0 owner.now) }
@@ -175,7 +175,7 @@ pub(crate) fn external_names<'a>(
     owner: &[u8],
 ) -> Result<Vec<&'a [u8]>, PackageError>
     requires sound { AreSoundPackages (numbered_of sets.now).0 }
-    requires placed { IsPlaced sets.now }
+    requires placed { HasFixedNumbers sets.now }
     ensures list { IfOk result
         (λ names. names_of names.items ≡ external_names (numbered_of sets.now).0 owner.now) }
     ensures there { IfOk result (λ _. IsPackage (numbered_of sets.now).0 owner.now) }
@@ -195,7 +195,7 @@ pub(crate) fn own(
     owner: &[u8],
 ) -> Result<Items<Bytes>, PackageError>
     requires sound { AreSoundPackages (numbered_of sets.now).0 }
-    requires placed { IsPlaced sets.now }
+    requires placed { HasFixedNumbers sets.now }
     ensures list { IfOk result (λ names. names ≡ own_names (numbered_of sets.now).0 owner.now) }
     ensures there { IfOk result (λ _. IsPackage (numbered_of sets.now).0 owner.now) }
     ensures refused { IfErr result (ListRefused (numbered_of sets.now).0 owner.now) }
@@ -211,7 +211,7 @@ pub(crate) fn externals(
     owner: &[u8],
 ) -> Result<Items<Bytes>, PackageError>
     requires sound { AreSoundPackages (numbered_of sets.now).0 }
-    requires placed { IsPlaced sets.now }
+    requires placed { HasFixedNumbers sets.now }
     ensures list { IfOk result
         (λ names. names ≡ external_names (numbered_of sets.now).0 owner.now) }
     ensures there { IfOk result (λ _. IsPackage (numbered_of sets.now).0 owner.now) }
@@ -264,7 +264,7 @@ pub(crate) fn imports(
     owner: &[u8],
 ) -> Result<Items<(Bytes, Bytes)>, PackageError>
     requires sound { AreSoundPackages (numbered_of sets.now).0 }
-    requires placed { IsPlaced sets.now }
+    requires placed { HasFixedNumbers sets.now }
     ensures list { IfOk result (λ names. names ≡ imports (numbered_of sets.now).0 owner.now) }
     ensures there { IfOk result (λ _. IsPackage (numbered_of sets.now).0 owner.now) }
     ensures refused { IfErr result (ListRefused (numbered_of sets.now).0 owner.now) }

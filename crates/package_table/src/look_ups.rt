@@ -2,7 +2,7 @@
 ghost use Rattle.std.specs.Prelude.{◌≡◌, ◌<◌, ◌↔◌, ◌&&◌, IfSome, nat_lt, length, position, if◌then◌else◌, is_some, option_map, Some, None};
 ghost use Rattle.std.specs.FinMap as finite;
 ghost use Rattle.package_sets.specs.KeptSets.{name_at, pair_at, pair_eq, positions_of};
-ghost use Rattle.package_table.specs.Table.{IsJoined, Name};
+ghost use Rattle.package_table.specs.Table.{AreUsesSound, Name};
 ghost use Rattle.package_table.specs.Lookup.{external_home, home_by_name, is_present, is_symbol, is_used};
 ghost use Rattle.package_table.specs.Changes.{is_full_of_packages};
 ghost use Rattle.package_table.specs.Numbers.{names_of_symbol, number_of, IsFoundNumber};
@@ -70,7 +70,7 @@ fn has_used(sets: &PackageSets, owner: u32, used: u32, name: u32) -> bool
 fn inherited_by_name(sets: &PackageSets, owner: u32, name: u32) -> Option<u32>
     requires owner { owner < length sets.now.packages }
     requires name { name < length sets.now.names }
-    requires joined { IsJoined (numbered_of sets.now).0 }
+    requires joined { AreUsesSound (numbered_of sets.now).0 }
     ensures { result ≡ first_shown sets.now name (positions_of owner sets.now.uses) }
 {
     sets.goodness();
@@ -97,7 +97,7 @@ fn inherited_by_name(sets: &PackageSets, owner: u32, name: u32) -> Option<u32>
 pub(crate) fn found_number(sets: &PackageSets, owner: u32, name: u32) -> Option<u32>
     requires owner { owner < length sets.now.packages }
     requires name { name < length sets.now.names }
-    requires joined { IsJoined (numbered_of sets.now).0 }
+    requires joined { AreUsesSound (numbered_of sets.now).0 }
     ensures { result ≡ found_number sets.now owner name }
 {
     let number = number_in(sets, owner, name);
@@ -261,7 +261,7 @@ pub(crate) fn external_home<'a>(
 /// The home of the symbol that the package of a number finds by this name.
 pub(crate) fn found_home<'a>(sets: &'a PackageSets, owner: u32, name: &[u8]) -> Option<&'a [u8]>
     requires package { owner < length sets.now.packages }
-    requires joined { IsJoined (numbered_of sets.now).0 }
+    requires joined { AreUsesSound (numbered_of sets.now).0 }
     ensures { option_map (λ h. h.now) result
         ≡ home_by_name (numbered_of sets.now).0 (name_at sets.now.packages owner) name.now }
 {
@@ -279,7 +279,7 @@ pub(crate) fn found_home<'a>(sets: &'a PackageSets, owner: u32, name: &[u8]) -> 
 /// said by no clause.
 #[inline(always)]
 pub(crate) fn found_by_names(sets: &PackageSets, owner: &[u8], name: &[u8]) -> Option<u32>
-    requires { IsJoined (numbered_of sets.now).0 }
+    requires { AreUsesSound (numbered_of sets.now).0 }
     ensures { IfSome result (IsFoundNumber (numbered_of sets.now) owner.now name.now) }
 {
     sets.goodness();
@@ -294,7 +294,7 @@ pub(crate) fn found_by_names(sets: &PackageSets, owner: &[u8], name: &[u8]) -> O
 
 /// The home of the symbol that a package finds by this name.
 pub(crate) fn home_of<'a>(sets: &'a PackageSets, owner: &[u8], name: &[u8]) -> Option<&'a [u8]>
-    requires { IsJoined (numbered_of sets.now).0 }
+    requires { AreUsesSound (numbered_of sets.now).0 }
     ensures { option_map (λ h. h.now) result ≡ home_by_name (numbered_of sets.now).0 owner.now name.now }
 {
     match package_number(sets, owner) {

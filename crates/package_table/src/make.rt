@@ -6,7 +6,7 @@ ghost use Rattle.package_table.specs.Growth.{Grows};
 ghost use Rattle.package_table.specs.Numbers.{table_now};
 ghost use Rattle.package_table.specs.Numbering.{KeepsNumbers};
 ghost use Rattle.package_table.specs.Meaning.{numbered_of};
-ghost use Rattle.package_table.specs.Adds.{AddsNoSymbol, IsPlaced};
+ghost use Rattle.package_table.specs.Adds.{AddsNoSymbol, HasFixedNumbers};
 
 use crate::find::package_name;
 use crate::limits::MAX_PACKAGE_NAME;

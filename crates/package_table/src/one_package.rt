@@ -1,7 +1,7 @@
 //! One package of several, which is sought once.
 ghost use Rattle.std.specs.Prelude.{◌≡◌, ◌<◌, length};
 ghost use Rattle.package_sets.specs.KeptSets.{name_at};
-ghost use Rattle.package_table.specs.Table.{IsJoined};
+ghost use Rattle.package_table.specs.Table.{AreUsesSound};
 ghost use Rattle.package_table.specs.Meaning.{numbered_of};
 ghost use Rattle.package_table.specs.Resolving.{resolution, resolution_of, AnswersLookUp};
 
@@ -23,7 +23,7 @@ impl<'a> Model for OnePackage<'a> {
     ghost use Rattle.std.specs.Prelude.{◌<◌, length};
     ghost use Rattle.std.specs.Coded.{coded×};
     ghost use Rattle.package_sets.specs.KeptSets.{name_at};
-    ghost use Rattle.package_table.specs.Table.{Name, Table, name_code, table_code, IsJoined};
+    ghost use Rattle.package_table.specs.Table.{Name, Table, name_code, table_code, AreUsesSound};
     ghost use Rattle.package_table.specs.Meaning.{numbered_of};
 
     ghost Value = { Table × Name };
@@ -33,14 +33,14 @@ impl<'a> Model for OnePackage<'a> {
     ghost view = { λ p. ((numbered_of p.sets.now).0, name_at p.sets.now.packages p.number) };
 
     ghost invariant = { λ p.
-        (p.number < length p.sets.now.packages) × IsJoined (numbered_of p.sets.now).0 };
+        (p.number < length p.sets.now.packages) × AreUsesSound (numbered_of p.sets.now).0 };
 }
 
 impl<'a> OnePackage<'a> {
     /// The package of this number.
     pub(crate) fn at(sets: &'a PackageSets, number: u32) -> OnePackage<'a>
         requires package { number < length sets.now.packages }
-        requires joined { IsJoined (numbered_of sets.now).0 }
+        requires joined { AreUsesSound (numbered_of sets.now).0 }
         ensures { result ≡ ((numbered_of sets.now).0, name_at sets.now.packages number) }
     {
         OnePackage { sets, number }

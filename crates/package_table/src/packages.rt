@@ -2,7 +2,7 @@
 ghost use Rattle.std.specs.Prelude.{◌≡◌, [], IfOk, IfErr, IfSome, option_map};
 ghost use Rattle.package_table.specs.Table.{initial, is_locked, package_named, symbol_count, IsPackage, AreSoundPackages};
 ghost use Rattle.package_table.specs.Numbers.{table_now, without_marks};
-ghost use Rattle.package_table.specs.Numbering.{IsNumbered};
+ghost use Rattle.package_table.specs.Numbering.{AreSymbolsNumbered};
 ghost use Rattle.package_table.specs.Resolving.{resolution, external_resolution, internal_resolution, resolution_of, AnswersLookUp};
 ghost use Rattle.package_table.specs.Readers.{names_of, package_names, used_names, own_names, external_names, imports, ListRefused};
 
@@ -96,7 +96,7 @@ impl Packages {
     /// Each symbol has a number, which is below how many there are, and two symbols have two. For proofs: it does
     /// nothing.
     pub fn numbering(&self)
-        ensures { IsNumbered (table_now self.now) (symbol_count self.now.0) }
+        ensures { AreSymbolsNumbered (table_now self.now) (symbol_count self.now.0) }
     {
         self.sets.goodness();
     }

@@ -4,11 +4,11 @@ ghost use Rattle.std.specs.FinMap as finite;
 ghost use Rattle.package_sets.specs.KeptSets.{name_at, pair_at, pair_eq};
 ghost use Rattle.package_sets.specs.Consistent.{IsGood};
 ghost use Rattle.package_sets.specs.Changes.{with_external_number, with_import};
-ghost use Rattle.package_table.specs.Table.{common_lisp, entry_at, is_locked, keyword, with_entry, with_new_package, with_used, IsJoined, IsPackage, IsPresent};
+ghost use Rattle.package_table.specs.Table.{common_lisp, entry_at, is_locked, keyword, with_entry, with_new_package, with_used, AreUsesSound, IsPackage, IsPresent};
 ghost use Rattle.package_table.specs.Lookup.{home_by_name, is_external, is_used};
 ghost use Rattle.package_table.specs.Changes.{finds_this};
 ghost use Rattle.package_table.specs.Meaning.{number_in, numbered_of};
-ghost use Rattle.package_table.specs.Adds.{Adds, AddsNoSymbol, IsPlaced};
+ghost use Rattle.package_table.specs.Adds.{Adds, AddsNoSymbol, HasFixedNumbers};
 
 use crate::look_ups::{found_number, number_in};
 use package_sets::PackageSets;
@@ -36,7 +36,7 @@ pub(crate) fn put_new(sets: &mut PackageSets, owner: u32, name: &[u8]) -> Result
     requires fresh { let p = name_at sets.old.packages owner in
         home_by_name (numbered_of sets.old).0 p name.now ≡ None }
     requires unlocked { bytes_eq (name_at sets.old.packages owner) common_lisp ≡ false }
-    requires placed { IsPlaced sets.old }
+    requires placed { HasFixedNumbers sets.old }
     ensures ok { let p = name_at sets.old.packages owner in OnOk result
         ((numbered_of sets.new).0 ≡ with_entry (numbered_of sets.old).0 p name.now
         (record { home = p; external = bytes_eq p keyword })) }
@@ -62,7 +62,7 @@ pub(crate) fn put_import(
     requires symbol { IsPresent (numbered_of sets.old).0 home.now name.now home.now }
     requires fresh { entry_at (numbered_of sets.old).0 owner.now name.now ≡ None }
     requires unlocked { is_locked owner.now ≡ false }
-    requires placed { IsPlaced sets.old }
+    requires placed { HasFixedNumbers sets.old }
     ensures ok { OnOk result ((numbered_of sets.new).0
         ≡ with_entry (numbered_of sets.old).0 owner.now name.now
         (record { home = home.now; external = false })) }
@@ -92,7 +92,7 @@ fn import_and_show(sets: &mut PackageSets, owner: u32, symbol: u32) -> Result<()
     requires owner { owner < length sets.old.packages }
     requires symbol { symbol < length sets.old.symbols }
     requires fresh { number_in sets.old owner (pair_at sets.old.symbols symbol).1 ≡ None }
-    requires placed { IsPlaced sets.old }
+    requires placed { HasFixedNumbers sets.old }
     ensures good { IfOk result (λ _. IsGood (with_import sets.old owner symbol)) }
     ensures ok { OnOk result
         (sets.new ≡ with_external_number (with_import sets.old owner symbol) owner symbol) }
@@ -118,10 +118,10 @@ pub(crate) fn put_external(
     name: &[u8],
 ) -> Result<(), AllocError>
     requires package { IsPackage (numbered_of sets.old).0 owner.now }
-    requires joined { IsJoined (numbered_of sets.old).0 }
+    requires joined { AreUsesSound (numbered_of sets.old).0 }
     requires finds { finds_this (numbered_of sets.old).0 owner.now home.now name.now ≡ true }
     requires hidden { is_external (numbered_of sets.old).0 owner.now name.now ≡ false }
-    requires placed { IsPlaced sets.old }
+    requires placed { HasFixedNumbers sets.old }
     ensures ok { OnOk result ((numbered_of sets.new).0
         ≡ with_entry (numbered_of sets.old).0 owner.now name.now
         (record { home = home.now; external = true })) }

@@ -1,6 +1,6 @@
 //! What the name in a token stands for (standard 2.3.5).
 ghost use Rattle.std.specs.Prelude.{◌≡◌};
-ghost use Rattle.package_table.specs.Table.{IsJoined};
+ghost use Rattle.package_table.specs.Table.{AreUsesSound};
 ghost use Rattle.package_table.specs.Meaning.{numbered_of};
 ghost use Rattle.package_table.specs.Resolving.{external_resolution, internal_resolution, resolution_of, AnswersLookUp};
 
@@ -44,7 +44,7 @@ pub(crate) fn resolve_internal<'a>(
     prefix: &[u8],
     name: &[u8],
 ) -> Result<Resolved<'a>, PackageError>
-    requires { IsJoined (numbered_of sets.now).0 }
+    requires { AreUsesSound (numbered_of sets.now).0 }
     ensures { AnswersLookUp resolution_of result
         (internal_resolution (numbered_of sets.now).0 prefix.now name.now) }
 {

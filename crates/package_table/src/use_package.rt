@@ -6,7 +6,7 @@ ghost use Rattle.package_table.specs.Growth.{Grows, TellsOfChange};
 ghost use Rattle.package_table.specs.Numbers.{table_now};
 ghost use Rattle.package_table.specs.Numbering.{KeepsNumbers};
 ghost use Rattle.package_table.specs.Meaning.{numbered_of};
-ghost use Rattle.package_table.specs.Adds.{AddsNoSymbol, IsPlaced};
+ghost use Rattle.package_table.specs.Adds.{AddsNoSymbol, HasFixedNumbers};
 
 use crate::conflicts::finds_other_than_shown;
 use crate::find::is_locked;
@@ -19,7 +19,7 @@ use package_sets::PackageSets;
 // The first reason to refuse that `owner` uses `used`, and else whether it does not use it yet.
 fn use_refusal(sets: &PackageSets, owner: &[u8], used: &[u8]) -> Result<bool, PackageError>
     requires sound { AreSoundPackages (numbered_of sets.now).0 }
-    requires placed { IsPlaced sets.now }
+    requires placed { HasFixedNumbers sets.now }
     ensures gives { let t = (numbered_of sets.now).0 in
         AnswersPackages (λ changes. if changes then with_used t owner.now used.now else t) result
         (after_use t owner.now used.now) }
@@ -42,7 +42,7 @@ fn use_refusal(sets: &PackageSets, owner: &[u8], used: &[u8]) -> Result<bool, Pa
 
 fn use_other(sets: &mut PackageSets, owner: &[u8], used: &[u8]) -> Result<bool, PackageError>
     requires sound { AreSoundPackages (numbered_of sets.old).0 }
-    requires placed { IsPlaced sets.old }
+    requires placed { HasFixedNumbers sets.old }
     ensures gives { AnswersPackages (λ _. (numbered_of sets.new).0) result
         (after_use (numbered_of sets.old).0 owner.now used.now) }
     ensures changed { TellsChange (use_changes (numbered_of sets.old).0 owner.now used.now) result }

@@ -37,10 +37,10 @@ value_text_in (Some world) value = printed world.packages world.current_package 
 value_text_in None value = []
 
 -- The number of an outcome, and the answer to a form that was accepted. Where there is no room for its text the number is 90.
-abbrev pub IsAnswered : Option WorldState → Outcome → ℕ → List ℕ → Type 0
-IsAnswered left (Accepted value) number answer = ((number ≡ 0) × (answer ≡ value_text_in left (object_of value))) ⊎ (number ≡ NO_MEMORY)
-IsAnswered left Snapshotted number answer = number ≡ 0
-IsAnswered left (Refused refusal) number answer = number ≡ refusal
+abbrev pub IsOutcomeTold : Option WorldState → Outcome → ℕ → List ℕ → Type 0
+IsOutcomeTold left (Accepted value) number answer = ((number ≡ 0) × (answer ≡ value_text_in left (object_of value))) ⊎ (number ≡ NO_MEMORY)
+IsOutcomeTold left Snapshotted number answer = number ≡ 0
+IsOutcomeTold left (Refused refusal) number answer = number ≡ refusal
 
 -- of one outcome of many its number, the length of its answer, and the answer, the lowest byte of a number first
 abbrev pub numbered_answer : ℕ → List ℕ → List ℕ
@@ -53,14 +53,14 @@ outcome_bytes left Snapshotted = numbered_answer 0 []
 outcome_bytes left (Refused number) = numbered_answer number []
 
 -- The number of many outcomes, and what is told of them. Where there is no room for that the number is 90.
-abbrev pub AreAnswered : Option WorldState → List Outcome → ℕ → List ℕ → Type 0
-AreAnswered left outcomes number answers = ((number ≡ 0) × (answers ≡ flat_map (outcome_bytes left) outcomes)) ⊎ (number ≡ NO_MEMORY)
+abbrev pub AreOutcomesTold : Option WorldState → List Outcome → ℕ → List ℕ → Type 0
+AreOutcomesTold left outcomes number answers = ((number ≡ 0) × (answers ≡ flat_map (outcome_bytes left) outcomes)) ⊎ (number ≡ NO_MEMORY)
 
 -- ---- the calls
 
 -- While orders are open, a call is refused with 61, and nothing changes.
-abbrev pub IsBarred : {E : Type 0} → List OrderValue → E → E → ℕ → Type 0
-IsBarred pending old new number = (pending ≡ [] → ⊥) → (number ≡ REOPEN) × (new ≡ old)
+abbrev pub IsBarredByOrders : {E : Type 0} → List OrderValue → E → E → ℕ → Type 0
+IsBarredByOrders pending old new number = (pending ≡ [] → ⊥) → (number ≡ REOPEN) × (new ≡ old)
 
 -- two files of these bytes were opened
 pub record IsOpenedOn {R : Type 0} (a b : List ℕ) (limit : ℕ) (store : StoreView DeferredDisk R) : Type 0 where
@@ -79,18 +79,18 @@ pub record IsUnopenedOn (a b : List ℕ) (limit number : ℕ) : Type 0 where
 
 module _ {R : Type 0} (old new : StoreView DeferredDisk R) where
   -- the store executed the text
-  pub record IsExecuted (mode : Mode) (text : List ℕ) (number : ℕ) (answer : List ℕ) : Type 0 where
+  pub record ExecutesText (mode : Mode) (text : List ℕ) (number : ℕ) (answer : List ℕ) : Type 0 where
     pub outcome : Outcome
     pub reopen : old.world ≡ None → AsksToReopen old new outcome
     pub executes : (world : WorldState) → old.world ≡ Some world → Executes six_functions state_by_calls old new world mode text outcome
-    pub answered : IsAnswered new.world outcome number answer
+    pub answered : IsOutcomeTold new.world outcome number answer
 
   -- the store took a snapshot
-  pub record IsSnapshotted (number : ℕ) : Type 0 where
+  pub record StoreTakesSnapshot (number : ℕ) : Type 0 where
     pub outcome : Outcome
     pub reopen : old.world ≡ None → AsksToReopen old new outcome
     pub snapshots : (world : WorldState) → old.world ≡ Some world → Snapshots six_functions state_by_calls old new world outcome
-    pub answered : IsAnswered new.world outcome number []
+    pub answered : IsOutcomeTold new.world outcome number []
 
   -- The store executed the texts that end at these places, one after the other. Where there is no room for them or for what they gave
   -- the number is 90.
@@ -100,7 +100,7 @@ module _ {R : Type 0} (old new : StoreView DeferredDisk R) where
     pub outcomes : List Outcome
     pub reopen : old.world ≡ None → AreExecuted six_functions state_by_calls old new mode texts outcomes
     pub executes : (world : WorldState) → old.world ≡ Some world → ExecutesAll six_functions state_by_calls old new world mode texts outcomes
-    pub answered : AreAnswered new.world outcomes number answers
+    pub answered : AreOutcomesTold new.world outcomes number answers
 
   abbrev pub ExecutesMany : Mode → List ℕ → List ℕ → ℕ → List ℕ → Type 0
   ExecutesMany mode bytes ends number answers = AreExecutedOf mode bytes ends number answers ⊎ ((number ≡ NO_MEMORY) × (new ≡ old))

@@ -14,17 +14,17 @@ use Rattle.messages.specs.Calls.{AnswersRequests, BeginsMessages}
 use Rattle.six_functions.specs.MacroFunctions.{six_functions}
 
 -- The number of replies, and what is told of them. Where there is no room for that the number is 90.
-abbrev pub AreTold : Replies → ℕ → List ℕ → Type 0
-AreTold replies number answers = ((number ≡ 0) × (answers ≡ flat_map bytes_of_answer replies.answers.items)) ⊎ (number ≡ NO_MEMORY)
+abbrev pub AreRepliesTold : Replies → ℕ → List ℕ → Type 0
+AreRepliesTold replies number answers = ((number ≡ 0) × (answers ≡ flat_map bytes_of_answer replies.answers.items)) ⊎ (number ≡ NO_MEMORY)
 
 -- the same of what the store gave: replies, or the number of a refusal
-abbrev pub IsTold : Result Replies ℕ → ℕ → List ℕ → Type 0
-IsTold (Ok replies) number answers = AreTold replies number answers
-IsTold (Err refusal) number answers = number ≡ refusal
+abbrev pub IsReplyOrRefusalTold : Result Replies ℕ → ℕ → List ℕ → Type 0
+IsReplyOrRefusalTold (Ok replies) number answers = AreRepliesTold replies number answers
+IsReplyOrRefusalTold (Err refusal) number answers = number ≡ refusal
 
 module _ {R : Type 0} (old new : StoreView DeferredDisk R) where
   -- the store began with messages, and this is its position
-  pub record IsBegun (number position : ℕ) : Type 0 where
+  pub record StoreBeginsWithMessages (number position : ℕ) : Type 0 where
     pub given : Result ℕ ℕ
     pub reopen : old.world ≡ None → (given ≡ Err REOPEN) × (new ≡ old)
     pub begins : (world : WorldState) → old.world ≡ Some world → BeginsMessages six_functions state_by_calls old new world given
@@ -37,7 +37,7 @@ module _ {R : Type 0} (old new : StoreView DeferredDisk R) where
     pub given : Result Replies ℕ
     pub reopen : old.world ≡ None → (given ≡ Err REOPEN) × (new ≡ old)
     pub answers_are : (world : WorldState) → old.world ≡ Some world → AnswersRequests six_functions state_by_calls old new world last requests given
-    pub tells : IsTold given number answers
+    pub tells : IsReplyOrRefusalTold given number answers
 
   -- where there is no room for the requests the number is 90, and nothing changes
   abbrev pub AnswersAll : ℕ → List ℕ → List RequestHead → ℕ → List ℕ → Type 0

@@ -2,7 +2,7 @@
 use Rattle.std.specs.Prelude.{ℕ, ◌-◌, if◌then◌else◌, List, [], ◌∷◌, take, drop, Option, None, Some}
 use Rattle.pazturrok_c.specs.Engine.{numbered_answer}
 use Rattle.pazturrok_c.specs.declared.done.RequestHead.{RequestHead}
-use Rattle.messages.specs.declared.request.Answer.{Answer}
+use Rattle.messages.specs.declared.request.RequestAnswer.{RequestAnswer}
 use Rattle.messages.specs.declared.request.Request.{Request}
 
 -- a request: its number, if it is a message, and its text
@@ -19,5 +19,5 @@ requests_in start bytes [] = []
 requests_in start bytes (head ∷ heads) = (head_number head, take (head.end - start) bytes) ∷ requests_in head.end (drop (head.end - start) bytes) heads
 
 -- of an answer whether it is of a message that wrote, in place of a number, and its text
-abbrev pub bytes_of_answer : Answer → List ℕ
+abbrev pub bytes_of_answer : RequestAnswer → List ℕ
 bytes_of_answer answer = numbered_answer (if answer.wrote then 1 else 0) answer.text.items

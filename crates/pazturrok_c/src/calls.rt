@@ -1,13 +1,13 @@
 // What C asks of an engine.
 ghost use Rattle.std.specs.Prelude.{◌≡◌, length, min};
-ghost use Rattle.pazturrok_c.specs.Calls.{AnswersEach, BeginsWithMessages, ExecutesForm, ExecutesForms, IsCopied, TakesSnapshot, TellsEnd};
+ghost use Rattle.pazturrok_c.specs.Calls.{AnswersEach, BeginsWithMessages, ExecutesForm, ExecutesForms, AreBytesCopied, TakesSnapshot, TellsEnd};
 
-use crate::done::{Done, RequestHead};
+use crate::done::{CallResult, RequestHead};
 use crate::engine::Engine;
 
 /// As many bytes as there is room for, from a place on. Gives how many.
 pub(crate) fn copy_out(from: &[u8], at: usize, out: &mut [u8]) -> usize
-    ensures { IsCopied from.now at out.old out.new result }
+    ensures { AreBytesCopied from.now at out.old out.new result }
 {
     if at >= from.len() {
         return 0;
@@ -20,10 +20,10 @@ pub(crate) fn copy_out(from: &[u8], at: usize, out: &mut [u8]) -> usize
 
 impl Engine {
     // How a call ended that answers so many bytes, if it was not refused.
-    fn done(&self, number: u16, answer: usize) -> Done
+    fn done(&self, number: u16, answer: usize) -> CallResult
         ensures { TellsEnd self.now number answer result }
     {
-        Done {
+        CallResult {
             number,
             answer: if number == 0 { answer } else { 0 },
             orders: self.orders().len(),
@@ -31,9 +31,9 @@ impl Engine {
     }
 
     /// Executes a form. As much of its answer is copied as there is room for.
-    pub(crate) fn execute_for(&mut self, rescue: bool, text: &[u8], answer: &mut [u8]) -> Done
+    pub(crate) fn execute_for(&mut self, rescue: bool, text: &[u8], answer: &mut [u8]) -> CallResult
         ensures asked { ExecutesForm self.old self.new rescue text.now result }
-        ensures copies { result.number ≡ 0 → IsCopied self.new.answer.items 0 answer.old answer.new
+        ensures copies { result.number ≡ 0 → AreBytesCopied self.new.answer.items 0 answer.old answer.new
             (min (length self.new.answer.items) (length answer.old)) }
     {
         let number = self.execute(rescue, text);
@@ -44,7 +44,7 @@ impl Engine {
     }
 
     /// Executes the forms whose texts end at these places.
-    pub(crate) fn execute_all_for(&mut self, rescue: bool, texts: &[u8], ends: &[u64]) -> Done
+    pub(crate) fn execute_all_for(&mut self, rescue: bool, texts: &[u8], ends: &[u64]) -> CallResult
         ensures { ExecutesForms self.old self.new rescue texts.now ends.now result }
     {
         let number = self.execute_all(rescue, texts, ends);
@@ -52,7 +52,7 @@ impl Engine {
     }
 
     /// Begins with messages.
-    pub(crate) fn begin_messages_for(&mut self, position: &mut u64) -> Done
+    pub(crate) fn begin_messages_for(&mut self, position: &mut u64) -> CallResult
         ensures { BeginsWithMessages self.old self.new position.new result }
     {
         let number = self.begin_messages(position);
@@ -65,7 +65,7 @@ impl Engine {
         last: u64,
         texts: &[u8],
         heads: &[RequestHead],
-    ) -> Done
+    ) -> CallResult
         ensures { AnswersEach self.old self.new last texts.now heads.now result }
     {
         let number = self.answer_requests(last, texts, heads);
@@ -73,7 +73,7 @@ impl Engine {
     }
 
     /// Takes a snapshot.
-    pub(crate) fn snapshot_for(&mut self) -> Done
+    pub(crate) fn snapshot_for(&mut self) -> CallResult
         ensures { TakesSnapshot self.old self.new result }
     {
         let number = self.snapshot();

@@ -3,7 +3,7 @@
 /// How a call ended.
 #[repr(C)]
 #[derive(Clone, Copy, Drop)]
-pub struct Done {
+pub struct CallResult {
     /// The number of the refusal, or 0.
     pub number: u16,
     /// How many bytes the answer has; what does not fit the buffer is left out of it.
@@ -15,7 +15,7 @@ pub struct Done {
 /// What a store tells of its half in use.
 #[repr(C)]
 #[derive(Clone, Copy, Drop)]
-pub struct Told {
+pub struct HalfReport {
     /// The generation of the half in use.
     pub generation: u64,
     /// How many records it has.

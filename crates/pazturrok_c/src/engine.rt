@@ -3,8 +3,8 @@ ghost use Rattle.std.specs.Prelude.{◌≡◌, ◌↔◌, [], IfOk, IfErr, IsTru
 ghost use Rattle.std.specs.List.{All};
 ghost use Rattle.deferred_disk.specs.Bytes.{orders_bytes};
 ghost use Rattle.deferred_disk.specs.Disk.{pending_of};
-ghost use Rattle.pazturrok_c.specs.Engine.{AreAnswered, ExecutesMany, IsAnswered, IsBarred, IsExecuted, IsOpenedOn, IsSnapshotted, IsUnopenedOn, mode_in};
-ghost use Rattle.pazturrok_c.specs.Messages.{AnswersAll, AreTold, IsBegun, IsTold};
+ghost use Rattle.pazturrok_c.specs.Engine.{AreOutcomesTold, ExecutesMany, IsOutcomeTold, IsBarredByOrders, ExecutesText, IsOpenedOn, StoreTakesSnapshot, IsUnopenedOn, mode_in};
+ghost use Rattle.pazturrok_c.specs.Messages.{AnswersAll, AreRepliesTold, StoreBeginsWithMessages, IsReplyOrRefusalTold};
 ghost use Rattle.prevalence_store.specs.calls.Execute.{IsProperOutcome};
 
 use crate::answer::{EngineStore, printed};
@@ -47,7 +47,7 @@ fn mode_of(rescue: bool) -> Mode
 }
 
 impl Engine {
-    ghost use Rattle.pazturrok_c.specs.Calls.{IsPerformed};
+    ghost use Rattle.pazturrok_c.specs.Calls.{AreOrdersPerformed};
 
     /// Opens the store of two files that hold these bytes. Else the number of the refusal: where the store is not
     /// opened on them, or there was no memory for a copy.
@@ -96,8 +96,8 @@ impl Engine {
 
     /// Executes a form, unless orders are open.
     pub(crate) fn execute(&mut self, rescue: bool, text: &[u8]) -> u16
-        ensures barred { IsBarred (pending_of self.old.store.disk) self.old self.new result }
-        ensures executes { pending_of self.old.store.disk ≡ [] → IsExecuted self.old.store self.new.store
+        ensures barred { IsBarredByOrders (pending_of self.old.store.disk) self.old self.new result }
+        ensures executes { pending_of self.old.store.disk ≡ [] → ExecutesText self.old.store self.new.store
             (mode_in rescue) text.now result self.new.answer.items }
     {
         if !self.is_done() {
@@ -111,7 +111,7 @@ impl Engine {
     fn answer_to(&mut self, outcome: &Outcome) -> u16
         requires { IsProperOutcome outcome.now }
         ensures store { self.new.store ≡ self.old.store }
-        ensures answered { IsAnswered self.new.store.world outcome.now result self.new.answer.items }
+        ensures answered { IsOutcomeTold self.new.store.world outcome.now result self.new.answer.items }
     {
         match outcome {
             Outcome::Accepted(value) => match printed(self.alloc, &self.store, value) {
@@ -128,7 +128,7 @@ impl Engine {
 
     /// Executes the forms whose texts end at these places, unless orders are open.
     pub(crate) fn execute_all(&mut self, rescue: bool, texts: &[u8], ends: &[u64]) -> u16
-        ensures barred { IsBarred (pending_of self.old.store.disk) self.old self.new result }
+        ensures barred { IsBarredByOrders (pending_of self.old.store.disk) self.old self.new result }
         ensures executes { pending_of self.old.store.disk ≡ [] → ExecutesMany self.old.store self.new.store
             (mode_in rescue) texts.now ends.now result self.new.answer.items }
     {
@@ -148,7 +148,7 @@ impl Engine {
     fn answer_to_all(&mut self, outcomes: &[Outcome]) -> u16
         requires { All IsProperOutcome outcomes.now }
         ensures store { self.new.store ≡ self.old.store }
-        ensures answered { AreAnswered self.new.store.world outcomes.now result self.new.answer.items }
+        ensures answered { AreOutcomesTold self.new.store.world outcomes.now result self.new.answer.items }
     {
         match answers_to(self.alloc, &self.store, outcomes) {
             Ok(answer) => {
@@ -161,9 +161,9 @@ impl Engine {
 
     /// Begins with messages, unless orders are open. Gives the position.
     pub(crate) fn begin_messages(&mut self, position: &mut u64) -> u16
-        ensures barred { IsBarred (pending_of self.old.store.disk) self.old self.new result }
+        ensures barred { IsBarredByOrders (pending_of self.old.store.disk) self.old self.new result }
         ensures begins { pending_of self.old.store.disk ≡ []
-            → IsBegun self.old.store self.new.store result position.new }
+            → StoreBeginsWithMessages self.old.store self.new.store result position.new }
     {
         if !self.is_done() {
             return REOPEN;
@@ -179,7 +179,7 @@ impl Engine {
 
     /// Answers the requests whose texts end at these places, after the message of the last number, unless orders are open.
     pub(crate) fn answer_requests(&mut self, last: u64, texts: &[u8], heads: &[RequestHead]) -> u16
-        ensures barred { IsBarred (pending_of self.old.store.disk) self.old self.new result }
+        ensures barred { IsBarredByOrders (pending_of self.old.store.disk) self.old self.new result }
         ensures answers { pending_of self.old.store.disk ≡ [] → AnswersAll self.old.store self.new.store
             last texts.now heads.now result self.new.answer.items }
     {
@@ -196,7 +196,7 @@ impl Engine {
     // Keeps what is told of what the store gave, and gives the number.
     fn tell_given(&mut self, given: &Result<Replies, u16>) -> u16
         ensures store { self.new.store ≡ self.old.store }
-        ensures told { IsTold given.now result self.new.answer.items }
+        ensures told { IsReplyOrRefusalTold given.now result self.new.answer.items }
     {
         match given {
             Ok(replies) => self.tell_replies(replies),
@@ -207,7 +207,7 @@ impl Engine {
     // Keeps what is told of replies, and gives the number.
     fn tell_replies(&mut self, replies: &Replies) -> u16
         ensures store { self.new.store ≡ self.old.store }
-        ensures told { AreTold replies.now result self.new.answer.items }
+        ensures told { AreRepliesTold replies.now result self.new.answer.items }
     {
         match told_of(self.alloc, &replies.answers) {
             Ok(answer) => {
@@ -220,9 +220,9 @@ impl Engine {
 
     /// Takes a snapshot, unless orders are open.
     pub(crate) fn snapshot(&mut self) -> u16
-        ensures barred { IsBarred (pending_of self.old.store.disk) self.old self.new result }
+        ensures barred { IsBarredByOrders (pending_of self.old.store.disk) self.old self.new result }
         ensures snapshots { pending_of self.old.store.disk ≡ []
-            → IsSnapshotted self.old.store self.new.store result }
+            → StoreTakesSnapshot self.old.store self.new.store result }
     {
         if !self.is_done() {
             return REOPEN;
@@ -235,7 +235,7 @@ impl Engine {
 
     /// Says that so many bytes of orders were carried out.
     pub(crate) fn report_done(&mut self, count: usize)
-        ensures { IsPerformed self.old self.new count }
+        ensures { AreOrdersPerformed self.old self.new count }
     {
         self.store.report_done(count);
     }

@@ -4,18 +4,18 @@ ghost use Rattle.deferred_disk.specs.Bytes.{orders_bytes};
 ghost use Rattle.deferred_disk.specs.Disk.{pending_of};
 ghost use Rattle.lisp_object.specs.Refusal.{name_of as name};
 ghost use Rattle.lisp_object.specs.declared.refusal.TheConstants.{REOPEN as reopen};
-ghost use Rattle.pazturrok_c.specs.Calls.{AnswersEach, BeginsWithMessages, ExecutesForm, ExecutesForms, IsCopied, IsPerformed, MayRefuseToOpen, OnEngine, Opens, ShowsAnswer, TakesSnapshot, TellsNothing};
+ghost use Rattle.pazturrok_c.specs.Calls.{AnswersEach, BeginsWithMessages, ExecutesForm, ExecutesForms, AreBytesCopied, AreOrdersPerformed, MayRefuseToOpen, OnEngine, Opens, ShowsAnswer, TakesSnapshot, TellsNothing};
 ghost use Rattle.pazturrok_c.specs.Engine.{IsOpenedOn};
 ghost use Rattle.pazturrok_c.specs.declared.engine.Engine.{Engine as AnEngine};
 
 use crate::calls::copy_out;
-use crate::done::{Done, RequestHead, Setting, Told};
+use crate::done::{CallResult, HalfReport, RequestHead, Setting};
 use crate::engine::Engine;
 use crate::slot::EngineSlot;
 use lisp_object::refusal::{NO_MEMORY, REOPEN, name_of};
 use std::alloc::Global;
 
-const NO_ENGINE: Done = Done {
+const NO_ENGINE: CallResult = CallResult {
     number: REOPEN,
     answer: 0,
     orders: 0,
@@ -47,7 +47,7 @@ pub extern "C" fn pzt_open(
     a: &[u8],
     b: &[u8],
     setting: &Setting,
-    done: &mut Done,
+    done: &mut CallResult,
 )
     ensures busy { (engine : AnEngine) → slot.old.handle.engine ≡ Some engine
         → (done.new.number ≡ reopen) × TellsNothing done.new × (slot.new.handle.engine ≡ Some engine) }
@@ -78,7 +78,7 @@ pub extern "C" fn pzt_execute(
     rescue: bool,
     text: &[u8],
     answer: &mut [u8],
-    done: &mut Done,
+    done: &mut CallResult,
 )
     ensures asks { OnEngine slot.old.handle.engine slot.new.handle.engine done.new.number
         (λ old new. ExecutesForm old new rescue text.now done.new) }
@@ -102,7 +102,7 @@ pub extern "C" fn pzt_execute_all(
     rescue: bool,
     texts: &[u8],
     ends: &[u64],
-    done: &mut Done,
+    done: &mut CallResult,
 )
     ensures asks { OnEngine slot.old.handle.engine slot.new.handle.engine done.new.number
         (λ old new. ExecutesForms old new rescue texts.now ends.now done.new) }
@@ -122,7 +122,7 @@ pub extern "C" fn pzt_begin_messages(
     alloc: Global,
     slot: &mut EngineSlot,
     position: &mut u64,
-    done: &mut Done,
+    done: &mut CallResult,
 )
     ensures asks { OnEngine slot.old.handle.engine slot.new.handle.engine done.new.number
         (λ old new. BeginsWithMessages old new position.new done.new) }
@@ -146,7 +146,7 @@ pub extern "C" fn pzt_answer_requests(
     last: u64,
     texts: &[u8],
     heads: &[RequestHead],
-    done: &mut Done,
+    done: &mut CallResult,
 )
     ensures asks { OnEngine slot.old.handle.engine slot.new.handle.engine done.new.number
         (λ old new. AnswersEach old new last texts.now heads.now done.new) }
@@ -162,7 +162,7 @@ pub extern "C" fn pzt_answer_requests(
 
 /// Takes a snapshot.
 #[unsafe(no_mangle)]
-pub extern "C" fn pzt_snapshot(alloc: Global, slot: &mut EngineSlot, done: &mut Done)
+pub extern "C" fn pzt_snapshot(alloc: Global, slot: &mut EngineSlot, done: &mut CallResult)
     ensures asks { OnEngine slot.old.handle.engine slot.new.handle.engine done.new.number
         (λ old new. TakesSnapshot old new done.new) }
     ensures none { slot.old.handle.engine ≡ None → TellsNothing done.new }
@@ -185,7 +185,7 @@ pub extern "C" fn pzt_answer(
 ) -> usize
     ensures same { slot.new.handle.engine ≡ slot.old.handle.engine }
     ensures copies { (engine : AnEngine) → slot.old.handle.engine ≡ Some engine
-        → IsCopied engine.answer.items at out.old out.new result }
+        → AreBytesCopied engine.answer.items at out.old out.new result }
     ensures none { slot.old.handle.engine ≡ None → result ≡ 0 }
 {
     let Some(engine) = slot.take(alloc) else {
@@ -206,7 +206,7 @@ pub extern "C" fn pzt_orders(
 ) -> usize
     ensures same { slot.new.handle.engine ≡ slot.old.handle.engine }
     ensures copies { (engine : AnEngine) → slot.old.handle.engine ≡ Some engine
-        → IsCopied (orders_bytes (pending_of engine.store.disk)) at out.old out.new result }
+        → AreBytesCopied (orders_bytes (pending_of engine.store.disk)) at out.old out.new result }
     ensures none { slot.old.handle.engine ≡ None → result ≡ 0 }
 {
     let Some(engine) = slot.take(alloc) else {
@@ -221,7 +221,7 @@ pub extern "C" fn pzt_orders(
 #[unsafe(no_mangle)]
 pub extern "C" fn pzt_performed(alloc: Global, slot: &mut EngineSlot, count: usize)
     ensures { OnEngine slot.old.handle.engine slot.new.handle.engine reopen
-        (λ old new. IsPerformed old new count) }
+        (λ old new. AreOrdersPerformed old new count) }
 {
     if let Some(mut engine) = slot.take(alloc) {
         engine.report_done(count);
@@ -231,7 +231,7 @@ pub extern "C" fn pzt_performed(alloc: Global, slot: &mut EngineSlot, count: usi
 
 /// What the store tells of its half in use.
 #[unsafe(no_mangle)]
-pub extern "C" fn pzt_tell(alloc: Global, slot: &mut EngineSlot, told: &mut Told)
+pub extern "C" fn pzt_tell(alloc: Global, slot: &mut EngineSlot, told: &mut HalfReport)
     ensures same { slot.new.handle.engine ≡ slot.old.handle.engine }
     ensures tells { (engine : AnEngine) → slot.old.handle.engine ≡ Some engine
         → (told.new.generation ≡ engine.store.generation) × (told.new.records ≡ engine.store.record_count)
@@ -261,7 +261,7 @@ pub extern "C" fn pzt_close(alloc: Global, slot: &mut EngineSlot)
 /// Copies the name of a number as far as there is room, and gives its length: 0 for a number that has none.
 #[unsafe(no_mangle)]
 pub extern "C" fn pzt_name(number: u16, out: &mut [u8]) -> usize
-    ensures { IsCopied (name number) 0 out.old out.new result }
+    ensures { AreBytesCopied (name number) 0 out.old out.new result }
 {
     copy_out(name_of(number).as_bytes(), 0, out)
 }

@@ -24,5 +24,5 @@ mod parts;
 mod requests;
 mod slot;
 
-pub use done::{Done, RequestHead, Setting, Told};
+pub use done::{CallResult, HalfReport, RequestHead, Setting};
 pub use slot::EngineSlot;

@@ -5,7 +5,7 @@ ghost use Rattle.pazturrok_c.specs.Requests.{bytes_of_answer, request_in, reques
 
 use crate::done::RequestHead;
 use crate::many::tell;
-use messages::{Answer, Request};
+use messages::{Request, RequestAnswer};
 use std::alloc::{AllocError, Global};
 
 /// The requests whose texts end at these places. It fails only for want of memory.
@@ -35,7 +35,7 @@ pub(crate) fn requests_of<'a>(
 }
 
 /// What is told of these answers, one after the other. It fails only for want of memory.
-pub(crate) fn told_of(alloc: Global, answers: &[Answer]) -> Result<Vec<u8>, AllocError>
+pub(crate) fn told_of(alloc: Global, answers: &[RequestAnswer]) -> Result<Vec<u8>, AllocError>
     ensures { IfOk result (λ bytes. bytes.items ≡ flat_map bytes_of_answer answers.now) }
 {
     let mut bytes = Vec::new(alloc);

@@ -20,8 +20,8 @@ use Rattle.token_scan.specs.Spelling.{is_plain_syntax, ends_tokens}
 use Rattle.token_scan.specs.Tokens.{TypedByte, kind, typed_byte, typed_text, outside, plain, with_front, in_bytes, token_in, ScannedBytes}
 use Rattle.token_scan.proofs.Steps.{outside_ends, outside_plain, room, plain_taken}
 use Rattle.lisp_reading.specs.declared.found.Found.TheVariants.{One as one}
-use Rattle.lisp_reading.specs.declared.told.Told.{Told}
-use Rattle.lisp_reading.specs.declared.told.Told.TheVariants.{Object as told_object}
+use Rattle.lisp_reading.specs.declared.told.ResolvedToken.{ResolvedToken}
+use Rattle.lisp_reading.specs.declared.told.ResolvedToken.TheVariants.{Object as told_object}
 use Rattle.lisp_object.specs.declared.refusal.TheConstants.{FORM_TOO_LONG}
 use Rattle.lisp_reading.specs.Naming.{token_meant}
 use Rattle.lisp_reading.specs.Plans.{Plan, Read, gives, scans, limited_token, token_at_front, run}
@@ -113,7 +113,7 @@ module _ (setting : Setting) where
       onward setting (attempt setting room) (scans false setting.limits.token (token_found setting)) (gives (one true x)) (b ∷ (bs ++ d ∷ ds)) (b ∷ (bs ++ d ∷ ds)) (d ∷ ds)
       (passed setting (scans false setting.limits.token (token_found setting)) (λ c. stands_alone (entry_at setting.table c).syntax)
       (λ c. alone setting depth (inner setting room) c (entry_at setting.table c).syntax) b (bs ++ d ∷ ds) (ap stands_alone is))
-      (subst (λ (r : Result Told ℕ). ReadsOnAs setting (scans false setting.limits.token (token_found setting)) (b ∷ (bs ++ d ∷ ds)) (told_found r) (d ∷ ds)) means
+      (subst (λ (r : Result ResolvedToken ℕ). ReadsOnAs setting (scans false setting.limits.token (token_found setting)) (b ∷ (bs ++ d ∷ ds)) (told_found r) (d ∷ ds)) means
       (scanned_token (token_found setting) (b ∷ bs) d ds parts fits ends))
 
   ended_token : (room : ℕ) (bs cs : List ℕ) (x : Object) → list_all (is_part setting.table) bs ≡ true → 0 < length bs

@@ -25,7 +25,7 @@ use Rattle.package_table.proofs.Keeping.{present_at_home}
 use Rattle.std_macros.specs.Values.{headed}
 use Rattle.plain_reader.specs.declared.context.PlainContext.{PlainContext}
 use Rattle.plain_reader.specs.declared.objects.ClosedList.{ClosedList}
-use Rattle.plain_reader.specs.Plain.{AreThere, AllAreThere, IfStill}
+use Rattle.plain_reader.specs.Plain.{AreSymbolsThere, AllAreThere, IfStill}
 
 -- both of two tests
 both : (a b : Bool) → a ≡ true → b ≡ true → (a && b) ≡ true
@@ -99,7 +99,7 @@ quoted_put with xs ys pair_of x before after sound is items still = λ e. (
 )
 
 -- one more object that is there is put to items
-pub one_put : (with : PlainContext) (xs ys : List Object) (x : Object) (before after : Bool) → ys ≡ xs ++ x ∷ [] → IfStill before after (AreThere with x)
+pub one_put : (with : PlainContext) (xs ys : List Object) (x : Object) (before after : Bool) → ys ≡ xs ++ x ∷ [] → IfStill before after (AreSymbolsThere with x)
     → IfStill before after (AllAreThere with xs → AllAreThere with ys)
 one_put with xs ys x before after items still = λ e. (
   (still e).0,
@@ -115,7 +115,7 @@ list_put with xs ys inner x before after sound is items still =
 
 -- an object that alone is put to no items is there
 pub only_there : (with : PlainContext) (xs ys : List Object) (x : Object) (before after : Bool) → xs ≡ [] → ys ≡ x ∷ []
-    → IfStill before after (AllAreThere with xs → AllAreThere with ys) → IfStill before after (AreThere with x)
+    → IfStill before after (AllAreThere with xs → AllAreThere with ys) → IfStill before after (AreSymbolsThere with x)
 only_there with xs ys x before after none is still = λ e. (
   (still e).0,
   (and_parts (are_there with.packages.now.0 x) true

@@ -26,7 +26,7 @@ use Rattle.plain_reader.specs.declared.literal.Literal.{Literal}
 use Rattle.plain_reader.specs.declared.literals.ReadLiteral.{ReadLiteral}
 use Rattle.plain_reader.specs.Coming.{ReadsOnAs}
 use Rattle.plain_reader.specs.Written.{quote_of, lisp, literal_of, TakesObject, TakesItems, EndsList}
-use Rattle.plain_reader.specs.Plain.{setting, items_from, AreThere, AllAreThere, IfStill}
+use Rattle.plain_reader.specs.Plain.{setting, items_from, AreSymbolsThere, AllAreThere, IfStill}
 use Rattle.plain_reader.proofs.Calls.{list_taken, quote_taken}
 use Rattle.plain_reader.proofs.Coming.{onward}
 use Rattle.plain_reader.proofs.Items.{blank_items, object_items, closed_items}
@@ -124,21 +124,21 @@ literal_spaced with room c cs text (Ok (Some l)) blank is taken =
 pub still : {a b : Bool} {P Q : Type 0} → (P → Q) → IfStill a b P → IfStill a b Q
 still gives_more known = λ e. ((known e).0, gives_more (known e).1)
 
-pub same_there : (with : PlainContext) (x y : Object) → x ≡ y → AreThere with x → AreThere with y
-same_there with x y same there = subst (λ (x : Object). AreThere with x) same there
+pub same_there : (with : PlainContext) (x y : Object) → x ≡ y → AreSymbolsThere with x → AreSymbolsThere with y
+same_there with x y same there = subst (λ (x : Object). AreSymbolsThere with x) same there
 
-pub two_there : (with : PlainContext) (x y : Object) → AreThere with x → AreThere with y → AllAreThere with (x ∷ y ∷ [])
+pub two_there : (with : PlainContext) (x y : Object) → AreSymbolsThere with x → AreSymbolsThere with y → AllAreThere with (x ∷ y ∷ [])
 two_there with x y first next =
     let t = with.packages.now.0 in
     and_from (are_there t x) (are_there t y && true) first (and_from (are_there t y) true next refl)
 
-pub all_there : (with : PlainContext) (x : Object) (ys : List Object) → AreSoundPackages with.packages.now.0 → AreThere with x → AllAreThere with ys
-    → AreThere with (list_of (x ∷ ys))
+pub all_there : (with : PlainContext) (x : Object) (ys : List Object) → AreSoundPackages with.packages.now.0 → AreSymbolsThere with x → AllAreThere with ys
+    → AreSymbolsThere with (list_of (x ∷ ys))
 all_there with x ys sound first others =
     let t = with.packages.now.0 in
     list_there t (x ∷ ys) sound (and_from (are_there t x) (list_all (are_there t) ys) first others)
 
-pub quoted_there : (with : PlainContext) (x : Object) → AreSoundPackages with.packages.now.0 → AreThere with x → AreThere with (quote_of x)
+pub quoted_there : (with : PlainContext) (x : Object) → AreSoundPackages with.packages.now.0 → AreSymbolsThere with x → AreSymbolsThere with (quote_of x)
 quoted_there with x sound there = headed_there with.packages.now.0 x sound there
 
 -- ---- sound objects

@@ -54,8 +54,8 @@ abbrev pub LeavesLessText : List ℕ → Taken → Type 0
 LeavesLessText text t = length t.rest.now < length text
 
 -- each interned symbol of an object, and of these objects, is one of the packages
-abbrev pub AreThere : PlainContext → Object → Type 0
-AreThere with x = are_there with.packages.now.0 x ≡ true
+abbrev pub AreSymbolsThere : PlainContext → Object → Type 0
+AreSymbolsThere with x = are_there with.packages.now.0 x ≡ true
 
 -- all symbols of these objects are there
 abbrev pub AllAreThere : PlainContext → List Object → Type 0

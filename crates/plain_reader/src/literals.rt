@@ -3,7 +3,7 @@
 ghost use Rattle.std.specs.Prelude.{◌≡◌, ◌∷◌, ◌<◌, [], ℕ, length, true, IfOk, IfSome, IsTrue};
 ghost use Rattle.lisp_object.specs.Object.{IsSound};
 ghost use Rattle.lisp_object.specs.Datum.{object_of};
-ghost use Rattle.plain_reader.specs.Plain.{AreThere, IfStill, Takes};
+ghost use Rattle.plain_reader.specs.Plain.{AreSymbolsThere, IfStill, Takes};
 ghost use Rattle.plain_reader.specs.Written.{literal_of, TakesItems};
 ghost use Rattle.plain_reader.specs.SelfEvaluating.{is_self_evaluating};
 
@@ -34,7 +34,7 @@ pub(crate) fn literal<'a>(
     ensures takes { IfOk result (λ found. IfSome found
         (λ l. TakesItems with.now room text.now (literal_of l.literal ∷ []) l.rest.now)) }
     ensures known { IfOk result (λ found. IfStill known.old known.new
-        (IfSome found (λ l. AreThere with.now (literal_of l.literal)))) }
+        (IfSome found (λ l. AreSymbolsThere with.now (literal_of l.literal)))) }
     ensures shorter { IfOk result (λ found. IfSome found
         (λ l. length l.rest.now < length text.now)) }
     ensures sound { IfOk result (λ found. IfSome found
@@ -60,7 +60,7 @@ fn quoted<'a>(
     ensures takes { IfOk result (λ found. IfSome found
         (λ l. TakesItems with.now room (39 ∷ text.now) (literal_of l.literal ∷ []) l.rest.now)) }
     ensures known { IfOk result (λ found. IfStill known.old known.new
-        (IfSome found (λ l. AreThere with.now (literal_of l.literal)))) }
+        (IfSome found (λ l. AreSymbolsThere with.now (literal_of l.literal)))) }
     ensures shorter { IfOk result (λ found. IfSome found
         (λ l. length l.rest.now < length text.now)) }
     ensures sound { IfOk result (λ found. IfSome found
@@ -110,7 +110,7 @@ fn itself<'a>(
     ensures takes { (room : ℕ) → IfOk result (λ found. IfSome found
         (λ l. TakesItems with.now room text.now (literal_of l.literal ∷ []) l.rest.now)) }
     ensures known { IfOk result (λ found. IfStill known.old known.new
-        (IfSome found (λ l. AreThere with.now (literal_of l.literal)))) }
+        (IfSome found (λ l. AreSymbolsThere with.now (literal_of l.literal)))) }
     ensures shorter { IfOk result (λ found. IfSome found
         (λ l. length l.rest.now < length text.now)) }
     ensures sound { IfOk result (λ found. IfSome found
@@ -149,7 +149,7 @@ fn atom<'a>(
     ensures takes { (room : ℕ)
         → IfOk result (λ found. IfSome found (Takes with.now room text.now)) }
     ensures known { IfOk result (λ found. IfStill known.old known.new
-        (IfSome found (λ t. AreThere with.now t.object))) }
+        (IfSome found (λ t. AreSymbolsThere with.now t.object))) }
     ensures shorter { IfOk result (λ found. IfSome found
         (λ t. length t.rest.now < length text.now)) }
 {

@@ -8,7 +8,7 @@ ghost use Rattle.readtable_core.specs.Tables.{entry_at};
 ghost use Rattle.lisp_reading.specs.Gathering.{is_escape};
 ghost use Rattle.lisp_reading.specs.Setting.{Setting};
 ghost use Rattle.lisp_reading.specs.Reading.{is_whitespace};
-ghost use Rattle.plain_reader.specs.Plain.{Takes, TakesList, Puts, Gathers, Closes, LeavesLessText, AreThere, AllAreThere, IfStill};
+ghost use Rattle.plain_reader.specs.Plain.{Takes, TakesList, Puts, Gathers, Closes, LeavesLessText, AreSymbolsThere, AllAreThere, IfStill};
 ghost use Rattle.plain_reader.specs.Texts.{is_letter, IsText};
 
 use crate::context::PlainContext;
@@ -236,7 +236,7 @@ pub(crate) fn string<'a>(
     requires { (entry_at with.now.readtable.now 34).function ≡ Some std_string }
     ensures takes { (room : ℕ)
         → IfOk result (λ found. IfSome found (Takes with.now room (34 ∷ text.now))) }
-    ensures there { IfOk result (λ found. IfSome found (λ t. AreThere with.now t.object)) }
+    ensures there { IfOk result (λ found. IfSome found (λ t. AreSymbolsThere with.now t.object)) }
     ensures shorter { IfOk result (λ found. IfSome found (LeavesLessText text.now)) }
 {
     match string_length(with.readtable, text) {

@@ -6,14 +6,14 @@ ghost use Rattle.lisp_object.specs.Ascii.{is_ascii};
 ghost use Rattle.readtable_core.specs.Characters.{has_invalid_trait};
 ghost use Rattle.token_scan.specs.Marks.{are_ascii};
 ghost use Rattle.token_scan.specs.Tokens.{typed_byte, kind};
-ghost use Rattle.plain_reader.specs.Plain.{Takes, Puts, LeavesLessText, AreThere, AllAreThere, IfStill};
+ghost use Rattle.plain_reader.specs.Plain.{Takes, Puts, LeavesLessText, AreSymbolsThere, AllAreThere, IfStill};
 ghost use Rattle.plain_reader.specs.Tokens.{IsTokenRun, IsToken, marks_of_bytes};
 ghost use Rattle.plain_reader.specs.Words.{is_word};
 
 use crate::context::PlainContext;
 use crate::objects::Taken;
 use crate::words::{decimal, is_word, word};
-use lisp_reading::{HeldObject, HeldObjects, TellError, Told, tell};
+use lisp_reading::{HeldObject, HeldObjects, ResolutionError, ResolvedToken, tell};
 use readtable_core::{Readtable, Syntax};
 use smallvec::SmallVec;
 use std::alloc::{AllocError, Global};
@@ -29,7 +29,7 @@ pub(crate) fn token<'a>(
     ensures takes { (room : ℕ)
         → IfOk result (λ found. IfSome found (Takes with.now room text.now)) }
     ensures known { IfOk result (λ found. IfStill known.old known.new
-        (IfSome found (λ t. AreThere with.now t.object))) }
+        (IfSome found (λ t. AreSymbolsThere with.now t.object))) }
     ensures token { IfOk result (λ found. IfSome found (λ t. t.token ≡ true)) }
     ensures shorter { IfOk result (λ found. IfSome found (LeavesLessText text.now)) }
 {
@@ -161,7 +161,7 @@ fn meaning(
     requires ascii { list_all is_ascii bytes.now ≡ true }
     ensures token { IfOk result (λ found. IfSome found (IsToken with.now bytes.now)) }
     ensures known { IfOk result (λ found. IfStill known.old known.new
-        (IfSome found (AreThere with.now))) }
+        (IfSome found (AreSymbolsThere with.now))) }
 {
     if with.standard {
         if is_word(bytes) {
@@ -185,7 +185,7 @@ fn through_marks(
     requires ascii { list_all is_ascii bytes.now ≡ true }
     ensures token { IfOk result (λ found. IfSome found (IsToken with.now bytes.now)) }
     ensures known { IfOk result (λ found. IfStill known.old known.new
-        (IfSome found (AreThere with.now))) }
+        (IfSome found (AreSymbolsThere with.now))) }
 {
     let case = with.readtable.case();
     let marks = marks(with.alloc, bytes)?;
@@ -197,15 +197,15 @@ fn through_marks(
         with.base,
         marks,
     ) {
-        Ok(Told::Object(object)) => {
+        Ok(ResolvedToken::Object(object)) => {
             if !object.is_there(with.packages) {
                 *known = false;
             }
             Ok(Some(object))
         }
-        Ok(Told::Dot) => Ok(None),
-        Err(TellError::OutOfMemory) => Err(AllocError),
-        Err(TellError::Refused(_)) => Ok(None),
+        Ok(ResolvedToken::Dot) => Ok(None),
+        Err(ResolutionError::OutOfMemory) => Err(AllocError),
+        Err(ResolutionError::Refused(_)) => Ok(None),
     }
 }
 

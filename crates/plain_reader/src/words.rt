@@ -6,7 +6,7 @@ ghost use Rattle.readtable_core.specs.Characters.{is_lower_case, upper_case, is_
 ghost use Rattle.token_meaning.specs.Numerals.{is_numeral, numeral_value};
 ghost use Rattle.plain_reader.specs.Tokens.{IsToken};
 ghost use Rattle.plain_reader.specs.Words.{is_word};
-ghost use Rattle.plain_reader.specs.Plain.{AreThere, IfStill};
+ghost use Rattle.plain_reader.specs.Plain.{AreSymbolsThere, IfStill};
 
 use crate::context::PlainContext;
 use lisp_object::Bytes;
@@ -45,7 +45,7 @@ pub(crate) fn word(
     requires ascii { list_all is_ascii bytes.now ≡ true }
     ensures token { IfOk result (λ found. IfSome found (IsToken with.now bytes.now)) }
     ensures known { IfOk result (λ found. IfStill known.old known.new
-        (IfSome found (AreThere with.now))) }
+        (IfSome found (AreSymbolsThere with.now))) }
 {
     with.packages.soundness();
     let name = upcased(with.alloc, bytes)?;

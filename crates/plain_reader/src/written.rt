@@ -9,7 +9,7 @@ ghost use Rattle.lisp_object.specs.Object.{symbol, IsSound};
 ghost use Rattle.package_table.specs.Table.{Name, common_lisp};
 ghost use Rattle.readtable_core.specs.Characters.{is_lower_case};
 ghost use Rattle.plain_reader.specs.Written.{lisp, literal_of, quote_of, EndsList, TakesItems, TakesObject, arguments_at, get_form_at, setf_at, FindsSymbol};
-ghost use Rattle.plain_reader.specs.Plain.{AreThere, IfStill};
+ghost use Rattle.plain_reader.specs.Plain.{AreSymbolsThere, IfStill};
 ghost use Rattle.plain_reader.specs.Tokens.{IsToken};
 ghost use Rattle.plain_reader.specs.Words.{is_word};
 
@@ -60,9 +60,9 @@ pub(crate) fn written_setf<'a>(
         (λ t. FindsSymbol with.now h t.symbol.now → FindsSymbol with.now i t.indicator.now
         → TakesObject with.now room (40 ∷ text.now) false (setf_at h t.symbol.now i t.indicator.now t.literal) t.rest.now)) }
     ensures known { IfOk result (λ found. IfStill known.old known.new
-        (IfSome found (λ t. AreThere with.now (literal_of t.literal)))) }
+        (IfSome found (λ t. AreSymbolsThere with.now (literal_of t.literal)))) }
     ensures operators { IfOk result (λ found. IfSome found
-        (λ _. AreThere with.now (lisp (codes "SETF")) × AreThere with.now (lisp (codes "GET")))) }
+        (λ _. AreSymbolsThere with.now (lisp (codes "SETF")) × AreSymbolsThere with.now (lisp (codes "GET")))) }
     ensures names { IfOk result (λ found. IfSome found
         (λ t. (list_all is_ascii t.symbol.now ≡ true) × (list_all is_ascii t.indicator.now ≡ true))) }
     ensures shorter { IfOk result (λ found. IfSome found
@@ -92,9 +92,9 @@ fn written_assignment<'a>(
         (λ t. FindsSymbol with.now h t.symbol.now → FindsSymbol with.now i t.indicator.now
         → EndsList with.now room text.now (get_form_at h t.symbol.now i t.indicator.now ∷ literal_of t.literal ∷ []) t.rest.now)) }
     ensures known { IfOk result (λ found. IfStill known.old known.new
-        (IfSome found (λ t. AreThere with.now (literal_of t.literal)))) }
+        (IfSome found (λ t. AreSymbolsThere with.now (literal_of t.literal)))) }
     ensures operator { IfOk result (λ found. IfSome found
-        (λ _. AreThere with.now (lisp (codes "GET")))) }
+        (λ _. AreSymbolsThere with.now (lisp (codes "GET")))) }
     ensures names { IfOk result (λ found. IfSome found
         (λ t. (list_all is_ascii t.symbol.now ≡ true) × (list_all is_ascii t.indicator.now ≡ true))) }
     ensures shorter { IfOk result (λ found. IfSome found
@@ -130,7 +130,7 @@ fn spaced_written<'a>(
     ensures takes { (h i : Name) → IfSome result
         (λ p. FindsSymbol with.now h p.symbol.now → FindsSymbol with.now i p.indicator.now
         → TakesItems with.now room text.now (get_form_at h p.symbol.now i p.indicator.now ∷ []) p.rest.now) }
-    ensures operator { IfSome result (λ _. AreThere with.now (lisp (codes "GET"))) }
+    ensures operator { IfSome result (λ _. AreSymbolsThere with.now (lisp (codes "GET"))) }
     ensures names { IfSome result
         (λ p. (list_all is_ascii p.symbol.now ≡ true) × (list_all is_ascii p.indicator.now ≡ true)) }
     ensures shorter { IfSome result (λ p. length p.rest.now < length text.now) }
@@ -151,7 +151,7 @@ fn written_place<'a>(with: &PlainContext<'_>, room: u32, text: &'a [u8]) -> Opti
     ensures takes { (h i : Name) → IfSome result
         (λ p. FindsSymbol with.now h p.symbol.now → FindsSymbol with.now i p.indicator.now
         → TakesObject with.now room (40 ∷ text.now) false (get_form_at h p.symbol.now i p.indicator.now) p.rest.now) }
-    ensures operator { IfSome result (λ _. AreThere with.now (lisp (codes "GET"))) }
+    ensures operator { IfSome result (λ _. AreSymbolsThere with.now (lisp (codes "GET"))) }
     ensures names { IfSome result
         (λ p. (list_all is_ascii p.symbol.now ≡ true) × (list_all is_ascii p.indicator.now ≡ true)) }
     ensures shorter { IfSome result (λ p. length p.rest.now < length text.now) }
@@ -234,7 +234,7 @@ fn lisp_operator<'a>(with: &PlainContext<'_>, name: &[u8], text: &'a [u8]) -> Op
     requires capitals { list_any is_lower_case name.now ≡ false }
     ensures takes { (room : ℕ) → IfSome result
         (λ rest. TakesItems with.now room text.now (lisp name.now ∷ []) rest.now) }
-    ensures operator { IfSome result (λ _. AreThere with.now (lisp name.now)) }
+    ensures operator { IfSome result (λ _. AreSymbolsThere with.now (lisp name.now)) }
     ensures shorter { IfSome result (λ rest. length rest.now < length text.now) }
 {
     let Some(count) = word_length(with, text) else {
@@ -254,7 +254,7 @@ fn is_lisp(with: &PlainContext<'_>, bytes: &[u8], name: &[u8]) -> bool
     requires word { IsTrue (is_word bytes.now) }
     requires capitals { list_any is_lower_case name.now ≡ false }
     ensures token { result ≡ true → IsToken with.now bytes.now (lisp name.now) }
-    ensures there { result ≡ true → AreThere with.now (lisp name.now) }
+    ensures there { result ≡ true → AreSymbolsThere with.now (lisp name.now) }
 {
     with.packages.soundness();
     if is_name(bytes, name) {

@@ -24,7 +24,7 @@ use Rattle.plist_state.specs.declared.note.Note.TheVariants.{Made, Changed}
 use Rattle.plist_state.specs.State.{Readtables, standard_name}
 use Rattle.plist_state.specs.Views.{NumberedRest}
 use Rattle.plist_state.specs.Undoing.{table_before, tables_before, rest_before}
-use Rattle.plist_state.specs.Journal.{IsNoted, IsTableChange, IsEntryNote, ContinuesJournal}
+use Rattle.plist_state.specs.Journal.{CanBeUndone, IsTableChange, IsEntryNote, ContinuesJournal}
 use Rattle.plist_state.proofs.Notes.{continues_noted, continues_same}
 use Rattle.plist_state.specs.Changes.{writable, put_changed, with_changed, changed_readtable, Refused}
 use Rattle.plist_state.proofs.Orders.{name_total, name_exact, name_tied, one_name}
@@ -78,12 +78,12 @@ copied_back m n w name named (Some t) is r =
     (ap (λ k. tables_before over k (Over t)) named
     ∙ ap (λ (o : Option Table). option_map_or (λ _. finite.insert over n t) o over) (got_put m n w) ∙ put_again m n w t (sym is))
 
-copied_proper : (name : Vec ℕ) (before : Option Table) → IsNoted (was_table name before)
+copied_proper : (name : Vec ℕ) (before : Option Table) → CanBeUndone (was_table name before)
 copied_proper name None = tt
 copied_proper name (Some t) = tt
 
 -- ---- what is noted leads back to the readtables as they were
-module _ (ms ks ns : List (List Note)) (same : ks ≡ ms) (note : Note) (pushed : (t u : NumberedRest) → IsNoted note → rest_before note u ≡ t → ContinuesJournal ks t ns u)
+module _ (ms ks ns : List (List Note)) (same : ks ≡ ms) (note : Note) (pushed : (t u : NumberedRest) → CanBeUndone note → rest_before note u ≡ t → ContinuesJournal ks t ns u)
     (m later : Readtables) (n : Name) (w : Table) (put : later ≡ finite.insert m n w) (name : Vec ℕ) (named : name.items ≡ n) where
   pub change_noted : (t : Table) → finite.get m n ≡ Some t → (change : TableChange) → IsTableChange change → note ≡ Changed name change → table_before change w ≡ t
       → (r : NumberedRest) → ContinuesJournal ms (record r { readtables = m }) ns (record r { readtables = later })
@@ -94,13 +94,13 @@ module _ (ms ks ns : List (List Note)) (same : ks ≡ ms) (note : Note) (pushed 
       let undoes : rest_before (Changed name change) (record r { readtables = later }) ≡ record r { readtables = m } =
       ap (λ (k : Readtables). record r { readtables = k })
       ((λ i. tables_before (put i) (named i) change) ∙ got ∙ ap (finite.insert over n) back ∙ put_again m n w t there) in
-      continues_noted ms ks ns note (record r { readtables = m }) (record r { readtables = later }) same pushed (subst IsNoted (sym is) proper)
+      continues_noted ms ks ns note (record r { readtables = m }) (record r { readtables = later }) same pushed (subst CanBeUndone (sym is) proper)
       (ap (λ x. rest_before x (record r { readtables = later })) is ∙ undoes)
 
   pub copy_noted : (before : Option Table) → before ≡ finite.get m n → note ≡ was_table name before
       → (r : NumberedRest) → ContinuesJournal ms (record r { readtables = m }) ns (record r { readtables = later })
   copy_noted before was is r =
-      continues_noted ms ks ns note (record r { readtables = m }) (record r { readtables = later }) same pushed (subst IsNoted (sym is) (copied_proper name before))
+      continues_noted ms ks ns note (record r { readtables = m }) (record r { readtables = later }) same pushed (subst CanBeUndone (sym is) (copied_proper name before))
       (ap (λ x. rest_before x (record r { readtables = later })) is ∙ ap (λ (k : Readtables). rest_before (was_table name before) (record r { readtables = k })) put ∙ copied_back m n w name named before was r)
 
 -- nothing was changed
@@ -123,7 +123,7 @@ module _ (tables later : List (Vec ℕ × Table)) (n : Name) (t w : Table)
       ∙ insert_same name_of (λ (t : Table). t) name_cmp name_total name_exact (shown tables) n t (got_table n tables ∙ sym there)
 
 -- a change of a character of a readtable, written through `get_mut` and noted with what was there
-pub entry_noted : (ms ks ns : List (List Note)) → ks ≡ ms → (note : Note) → ((t u : NumberedRest) → IsNoted note → rest_before note u ≡ t → ContinuesJournal ks t ns u)
+pub entry_noted : (ms ks ns : List (List Note)) → ks ≡ ms → (note : Note) → ((t u : NumberedRest) → CanBeUndone note → rest_before note u ≡ t → ContinuesJournal ks t ns u)
     → (tables later : List (Vec ℕ × Table)) (n : Name) (t w : Table) → Some t ≡ lookup (at n) tables → later ≡ set_value (at n) tables w
     → (c : ℕ) (e : CharacterEntry) → c < 128 → IsEntryNote (shown tables) n c note → w ≡ with_character_entry t c e
     → (r : NumberedRest) → ContinuesJournal ms (record r { readtables = shown tables }) ns (record r { readtables = shown later })

@@ -16,13 +16,13 @@ use Rattle.plist_state.specs.Views.{rest_of}
 use Rattle.plist_state.specs.Undoing.{rests_at}
 use Rattle.plist_state.specs.Journal.{marks_of}
 use Rattle.plist_state.specs.Sound.{IsSoundWorldState, IsSoundWorld}
-use Rattle.plist_state.specs.MarkedWorlds.{marked_states, worlds_in, worlds_of, earlier_states, HasKeptWorld, IsReplaced, AreReplaced, IsWayBack}
+use Rattle.plist_state.specs.MarkedWorlds.{marked_states, worlds_in, worlds_of, earlier_states, HasKeptWorld, CanBePutBack, AreReplacedParts, IsWayBack}
 use Rattle.package_table.proofs.Names.{same_some}
 use Rattle.plist_state.proofs.Marking.{states_many}
 use Rattle.plist_state.proofs.Notes.{notes_of}
 
 -- as many states are marked in it as it has marks
-pub states_in : (e : Replaced) → IsReplaced e → length (worlds_in e).1 ≡ length e.marks.items
+pub states_in : (e : Replaced) → CanBePutBack e → length (worlds_in e).1 ≡ length e.marks.items
 states_in e kept =
     states_many e.packages.1.marked (marks_of e.marks.items) (rest_of e.stored) e.stored.properties.items kept.marked
     ∙ length-map e.marks.items notes_of
@@ -42,52 +42,52 @@ earlier_push (f ∷ es) e =
     ∙ sym (append_assoc (worlds_in f).1 ((worlds_in f).0 ∷ earlier_states es) ((worlds_in e).1 ++ (worlds_in e).0 ∷ []))
 
 -- so many states more
-one_more : (es : List Replaced) (e : Replaced) → IsReplaced e → length (earlier_states (es ++ e ∷ [])) ≡ length (earlier_states es) + length e.marks.items + 1
+one_more : (es : List Replaced) (e : Replaced) → CanBePutBack e → length (earlier_states (es ++ e ∷ [])) ≡ length (earlier_states es) + length e.marks.items + 1
 one_more es e kept =
     let all : length (earlier_states (es ++ e ∷ [])) ≡ length (earlier_states es) + length ((worlds_in e).1 ++ (worlds_in e).0 ∷ []) =
     ap length (earlier_push es e) ∙ length-append (earlier_states es) ((worlds_in e).1 ++ (worlds_in e).0 ∷ []) in
     let own : length ((worlds_in e).1 ++ (worlds_in e).0 ∷ []) ≡ length (worlds_in e).1 + 1 = length-append (worlds_in e).1 ((worlds_in e).0 ∷ []) in
     omega (arith, all, own, states_in e kept)
 
-pub replaced_none : (es : List Replaced) → es ≡ [] → AreReplaced es 0
-replaced_none es none = subst (λ fs. AreReplaced fs 0) (sym none) (record { each = All-nil IsReplaced; count = refl; below = omega arith })
+pub replaced_none : (es : List Replaced) → es ≡ [] → AreReplacedParts es 0
+replaced_none es none = subst (λ fs. AreReplacedParts fs 0) (sym none) (record { each = All-nil CanBePutBack; count = refl; below = omega arith })
 
-pub replaced_push : (es : List Replaced) (n : ℕ) (e : Replaced) (m : ℕ) → AreReplaced es n → IsReplaced e → m ≡ n + length e.marks.items + 1 → m < 2 ^ 62 → AreReplaced (es ++ e ∷ []) m
+pub replaced_push : (es : List Replaced) (n : ℕ) (e : Replaced) (m : ℕ) → AreReplacedParts es n → CanBePutBack e → m ≡ n + length e.marks.items + 1 → m < 2 ^ 62 → AreReplacedParts (es ++ e ∷ []) m
 replaced_push es n e m all kept is below = record {
-  each = All-push IsReplaced es e all.each kept;
+  each = All-push CanBePutBack es e all.each kept;
   count = omega (arith, is, all.count, one_more es e kept);
   below = below;
 }
 
 -- the last one was put back
-module _ (es : List Replaced) (e : Replaced) (n : ℕ) (all : AreReplaced (es ++ e ∷ []) n) where
-  pub last_kept : IsReplaced e
+module _ (es : List Replaced) (e : Replaced) (n : ℕ) (all : AreReplacedParts (es ++ e ∷ []) n) where
+  pub last_kept : CanBePutBack e
   last_kept = last es all.each
     where
-      last : (fs : List Replaced) → All IsReplaced (fs ++ e ∷ []) → IsReplaced e
-      last [] each = All-head IsReplaced e [] each
-      last (f ∷ fs) each = last fs (All-tail IsReplaced f (fs ++ e ∷ []) each)
+      last : (fs : List Replaced) → All CanBePutBack (fs ++ e ∷ []) → CanBePutBack e
+      last [] each = All-head CanBePutBack e [] each
+      last (f ∷ fs) each = last fs (All-tail CanBePutBack f (fs ++ e ∷ []) each)
 
   pub count_left : n ≡ length (earlier_states es) + length e.marks.items + 1
   count_left = all.count ∙ one_more es e last_kept
 
-  pub replaced_pop : (m : ℕ) → n ≡ m + length e.marks.items + 1 → AreReplaced es m
+  pub replaced_pop : (m : ℕ) → n ≡ m + length e.marks.items + 1 → AreReplacedParts es m
   replaced_pop m is = record {
     each = first es all.each;
     count = omega (arith, is, count_left);
     below = omega (arith, is, all.below);
   }
     where
-      first : (fs : List Replaced) → All IsReplaced (fs ++ e ∷ []) → All IsReplaced fs
-      first [] each = All-nil IsReplaced
-      first (f ∷ fs) each = All-cons IsReplaced f fs (All-head IsReplaced f (fs ++ e ∷ []) each) (first fs (All-tail IsReplaced f (fs ++ e ∷ []) each))
+      first : (fs : List Replaced) → All CanBePutBack (fs ++ e ∷ []) → All CanBePutBack fs
+      first [] each = All-nil CanBePutBack
+      first (f ∷ fs) each = All-cons CanBePutBack f fs (All-head CanBePutBack f (fs ++ e ∷ []) each) (first fs (All-tail CanBePutBack f (fs ++ e ∷ []) each))
 
-pub earlier_sound : (es : List Replaced) → All IsReplaced es → All IsSoundWorldState (earlier_states es)
+pub earlier_sound : (es : List Replaced) → All CanBePutBack es → All IsSoundWorldState (earlier_states es)
 earlier_sound [] each = All-nil IsSoundWorldState
 earlier_sound (e ∷ es) each =
-    let kept : IsReplaced e = All-head IsReplaced e es each in
+    let kept : CanBePutBack e = All-head CanBePutBack e es each in
     All-append IsSoundWorldState (worlds_in e).1 ((worlds_in e).0 ∷ earlier_states es) kept.marked.sound
-    (All-cons IsSoundWorldState (worlds_in e).0 (earlier_states es) kept.sound (earlier_sound es (All-tail IsReplaced e es each)))
+    (All-cons IsSoundWorldState (worlds_in e).0 (earlier_states es) kept.sound (earlier_sound es (All-tail CanBePutBack e es each)))
 
 -- those of a world are sound
 pub world_sound : (a : Inside) → HasKeptWorld a → IsSoundWorld (worlds_of a)
@@ -134,7 +134,7 @@ cut_at (y ∷ xs) zero x is = (ap (λ z. z ∷ xs) (same_some y x is), refl)
 cut_at (y ∷ xs) (suc k) x is = let rest = cut_at xs k x is in (ap (λ zs. y ∷ zs) rest.0, ap suc rest.1)
 
 -- what was replaced last is put back
-pub put_back : (es : List Replaced) (e : Replaced) (n : ℕ) → AreReplaced (es ++ e ∷ []) n → (marked : List WorldState) (mark : ℕ) → mark < n → (w : Worlds)
+pub put_back : (es : List Replaced) (e : Replaced) (n : ℕ) → AreReplacedParts (es ++ e ∷ []) n → (marked : List WorldState) (mark : ℕ) → mark < n → (w : Worlds)
     → earlier_states (es ++ e ∷ []) ++ marked ≡ w.1 → IsWayBack mark w ((worlds_in e).0, earlier_states es ++ (worlds_in e).1)
 put_back es e n all marked mark earlier w is =
     let past : List WorldState = earlier_states es in

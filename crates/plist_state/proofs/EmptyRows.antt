@@ -11,7 +11,7 @@ use Rattle.property_rows.specs.declared.property.NumberedProperty.{NumberedPrope
 use Rattle.property_rows.specs.Rows.{PropertyRow, room}
 use Rattle.plist_state.specs.Views.{Rows, lists_in, row_at, room_at}
 use Rattle.plist_state.specs.KeptRows.{IsWider}
-use Rattle.plist_state.specs.RowIndexes.{Indexes, IsIndexedIn, AreIndexed}
+use Rattle.plist_state.specs.RowIndexes.{Indexes, IsIndexedIn, AreRowIndexes}
 use Rattle.plist_state.proofs.ListRows.{IsPut, put_set, put_push, wider_same, wider_both, cleared, cleared_same}
 use Rattle.plist_state.proofs.Placing.{are_indexed}
 use Rattle.plist_state.proofs.Indexing.{IsIndexed-nil}
@@ -28,7 +28,7 @@ read_row rows x row less is = slice_get_read rows (length rows) x row refl less 
 pub record IsAlike (rows later : Rows) : Type 0 where
   pub lists : lists_in later ≡ lists_in rows
   pub wider : IsWider rows later
-  pub indexed : (indexes : Indexes) → AreIndexed rows indexes → AreIndexed later indexes
+  pub indexed : (indexes : Indexes) → AreRowIndexes rows indexes → AreRowIndexes later indexes
 
 pub alike_same : (rows : Rows) → IsAlike rows rows
 alike_same rows = record { lists = refl; wider = wider_same rows rows refl; indexed = λ indexes all. all }

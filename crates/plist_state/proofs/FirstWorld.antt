@@ -19,7 +19,7 @@ use Rattle.package_table.specs.Numbers.{Numbered}
 use Rattle.plist_state.specs.State.{Readtables, initial, state_with, first_readtables, first_rest, standard_name, user_name}
 use Rattle.plist_state.specs.Views.{NumberedRest, first_numbered}
 use Rattle.plist_state.specs.MarkedWorlds.{state_in}
-use Rattle.plist_state.specs.Sound.{IsSymbol, IsNamed, IsSoundWorldState}
+use Rattle.plist_state.specs.Sound.{IsSymbol, HasKeywordFunctions, IsSoundWorldState}
 use Rattle.plist_state.proofs.Orders.{name_total, one_name}
 use Rattle.plist_state.proofs.Soundness.{symbol_from}
 use Rattle.plist_state.proofs.Listed.{lists_empty}
@@ -38,7 +38,7 @@ all_weaker p q (x ∷ xs) weaker e =
 keyword_there : (n : Name) → list_any (bytes_eq n) keyword_names ≡ true → IsSymbol packages.initial (keyword, n)
 keyword_there n among = sound.first.keywords n among
 
-standard_named : IsNamed packages.initial readtable.standard
+standard_named : HasKeywordFunctions packages.initial readtable.standard
 standard_named = record {
   readtable = standard_sound;
   functions = all_weaker (λ n. list_any (bytes_eq n) keyword_names) (is_symbol packages.initial keyword) (functions_of readtable.standard)
@@ -72,13 +72,13 @@ first_names n there =
           ] refl e
     ] refl (subst (λ (o : Option readtable.Table). IsTrue (is_some o)) (at_first n) there)
 
-first_each : (n : Name) (r : readtable.Table) → finite.get first_readtables n ≡ Some r → IsNamed packages.initial r
+first_each : (n : Name) (r : readtable.Table) → finite.get first_readtables n ≡ Some r → HasKeywordFunctions packages.initial r
 first_each n r there =
-    elim (eq_by_cmp name_cmp n user_name) as (λ b. cond b (Some readtable.standard) (cond (eq_by_cmp name_cmp n standard_name) (Some readtable.standard) None) ≡ Some r → IsNamed packages.initial r) [
-      | true ↦ λ e. subst (IsNamed packages.initial) (ap (λ o. unwrap_or o r) e) standard_named
+    elim (eq_by_cmp name_cmp n user_name) as (λ b. cond b (Some readtable.standard) (cond (eq_by_cmp name_cmp n standard_name) (Some readtable.standard) None) ≡ Some r → HasKeywordFunctions packages.initial r) [
+      | true ↦ λ e. subst (HasKeywordFunctions packages.initial) (ap (λ o. unwrap_or o r) e) standard_named
       | false ↦ λ e.
-          elim (eq_by_cmp name_cmp n standard_name) as (λ b. cond b (Some readtable.standard) None ≡ Some r → IsNamed packages.initial r) [
-            | true ↦ λ f. subst (IsNamed packages.initial) (ap (λ o. unwrap_or o r) f) standard_named
+          elim (eq_by_cmp name_cmp n standard_name) as (λ b. cond b (Some readtable.standard) None ≡ Some r → HasKeywordFunctions packages.initial r) [
+            | true ↦ λ f. subst (HasKeywordFunctions packages.initial) (ap (λ o. unwrap_or o r) f) standard_named
             | false ↦ λ f. absurd (false≢true (ap is_some f))
           ] e
     ] (sym (at_first n) ∙ there)

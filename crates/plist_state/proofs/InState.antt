@@ -11,7 +11,7 @@ use Rattle.package_table.specs.declared.error.PackageError.{PackageError}
 use Rattle.package_table.specs.Table.{Table, symbol_count}
 use Rattle.package_table.specs.Changes.{AnswersPackages, RunsOutOnlyIf, Yields}
 use Rattle.package_table.specs.Numbers.{Numbered, Tables, table_now, number_of}
-use Rattle.package_table.specs.Numbering.{IsNumbered, KeepsNumbers}
+use Rattle.package_table.specs.Numbering.{AreSymbolsNumbered, KeepsNumbers}
 use Rattle.package_table.specs.Growth.{Grows, TellsOfChange}
 use Rattle.plist_state.specs.declared.note.Note.{Note}
 use Rattle.plist_state.specs.declared.world.World.TheInside.{Inside}
@@ -24,7 +24,7 @@ use Rattle.plist_state.specs.Views.{NumberedRest, rest_of}
 use Rattle.plist_state.specs.Undoing.{rests_at}
 use Rattle.plist_state.specs.Journal.{marks_of}
 use Rattle.plist_state.specs.Sound.{IsSoundWorldState}
-use Rattle.plist_state.specs.MarkedWorlds.{state_in, marked_states, earlier_states, worlds_of, AreKept, HasKeptWorld}
+use Rattle.plist_state.specs.MarkedWorlds.{state_in, marked_states, earlier_states, worlds_of, AreMarksSound, HasKeptWorld}
 use Rattle.plist_state.proofs.Listed.{lists_at, lists_none, lists_put, lists_grown, owned_grown}
 use Rattle.plist_state.proofs.Marking.{world_same}
 use Rattle.plist_state.proofs.Named.{value_named, value_unnamed}
@@ -38,7 +38,7 @@ with_changed_row r n g = record r { properties = with_row r.properties n (g (pli
 abbrev pub with_changed_list : WorldState → Symbol → (Plist → Plist) → WorldState
 with_changed_list s x f = record s { properties = with_list s.properties x (f (list_at s.properties x)) }
 
-module _ (s : Numbered) (count : ℕ) (counted : IsNumbered s count) (x : Symbol) (n : ℕ) (is : number_of s x.0 x.1 ≡ Some n) where
+module _ (s : Numbered) (count : ℕ) (counted : AreSymbolsNumbered s count) (x : Symbol) (n : ℕ) (is : number_of s x.0 x.1 ≡ Some n) where
   -- what g makes of the list by numbers, f makes of the list by symbols
   pub state_listed : (r : NumberedRest) (g : NumberedPlist → NumberedPlist) (f : Plist → Plist) → named_plist s (g (plist_of_number r.properties n)) ≡ f (named_plist s (plist_of_number r.properties n))
       → state_in s (with_changed_row r n g) ≡ with_changed_list (state_in s r) x f
@@ -49,7 +49,7 @@ module _ (s : Numbered) (count : ℕ) (counted : IsNumbered s count) (x : Symbol
 
 module _ {A E : Type 0} (res : Result A E) (past : List WorldState) (ts : Tables) (ms ns : List (List Note)) (r u : NumberedRest) (same : rests_at ns u ≡ rests_at ms r)
     (w : Worlds) (seen : ◌≡◌ {A = Worlds} (state_in (table_now ts) r, past ++ marked_states ts.1.marked (rests_at ms r)) w) where
-  pub world_listed : (count : ℕ) → IsNumbered (table_now ts) count → (x : Symbol) (n : ℕ) → number_of (table_now ts) x.0 x.1 ≡ Some n
+  pub world_listed : (count : ℕ) → AreSymbolsNumbered (table_now ts) count → (x : Symbol) (n : ℕ) → number_of (table_now ts) x.0 x.1 ≡ Some n
       → (g : NumberedPlist → NumberedPlist) (f : Plist → Plist) → named_plist (table_now ts) (g (plist_of_number r.properties n)) ≡ f (named_plist (table_now ts) (plist_of_number r.properties n))
       → OnOk res (u ≡ with_changed_row r n g)
       → OnOk res (◌≡◌ {A = Worlds} (state_in (table_now ts) u, past ++ marked_states ts.1.marked (rests_at ns u)) (with_changed_list w.0 x f, w.1))
@@ -81,7 +81,7 @@ module _ (a : Inside) (w : Worlds) (seen : worlds_of a ≡ w) (x : Symbol) where
 -- ---- what is seen of a property
 module _ (a : Inside) (kept : HasKeptWorld a) (w : Worlds) (seen : worlds_of a ≡ w) (x i : Symbol) where
   -- a property by the numbers of its symbol and of its indicator
-  pub property_seen : (count : ℕ) → IsNumbered (table_now a.packages) count → (n j : ℕ) → number_of (table_now a.packages) x.0 x.1 ≡ Some n → number_of (table_now a.packages) i.0 i.1 ≡ Some j
+  pub property_seen : (count : ℕ) → AreSymbolsNumbered (table_now a.packages) count → (n j : ℕ) → number_of (table_now a.packages) x.0 x.1 ≡ Some n → number_of (table_now a.packages) i.0 i.1 ≡ Some j
       → value_in (rest_of a.stored).properties n j ≡ property w.0 x i
   property_seen count counted n j owner indicator =
       sym (value_named (table_now a.packages) count counted i j indicator (plist_of_number (rest_of a.stored).properties n) (kept.now.owned.indicators n))
@@ -100,7 +100,7 @@ module _ (a : Inside) (kept : HasKeptWorld a) (w : Worlds) (seen : worlds_of a �
 
 -- ---- other packages
 module _ (a : Inside) (ts : Tables) (grows : Grows a.packages.0 ts.0) (keeps : KeepsNumbers (table_now a.packages) (table_now ts))
-    (counted : IsNumbered (table_now ts) (symbol_count ts.0)) (marked : ts.1.marked ≡ a.packages.1.marked) (kept : HasKeptWorld a) where
+    (counted : AreSymbolsNumbered (table_now ts) (symbol_count ts.0)) (marked : ts.1.marked ≡ a.packages.1.marked) (kept : HasKeptWorld a) where
   same_lists : lists (table_now ts) (rest_of a.stored).properties ≡ lists (table_now a.packages) (rest_of a.stored).properties
   same_lists = lists_grown (table_now a.packages) (table_now ts) (symbol_count ts.0) counted grows keeps (rest_of a.stored).properties kept.now.owned
 
@@ -120,7 +120,7 @@ module _ (a : Inside) (ts : Tables) (grows : Grows a.packages.0 ts.0) (keeps : K
       sizes = kept.now.sizes;
       owned = owned_grown (table_now a.packages) (table_now ts) (symbol_count ts.0) counted grows keeps (rest_of a.stored).properties kept.now.owned;
       sound = subst IsSoundWorldState (sym same_state) (sound_packages (state_in (table_now a.packages) (rest_of a.stored)) ts.0 kept.now.sound sound grows);
-      marked = subst (λ ss. AreKept ss (marks_of a.marks.items) (rest_of a.stored) a.stored.properties.items) (sym marked) kept.now.marked;
+      marked = subst (λ ss. AreMarksSound ss (marks_of a.marks.items) (rest_of a.stored) a.stored.properties.items) (sym marked) kept.now.marked;
     };
     earlier = kept.earlier;
   }
@@ -130,7 +130,7 @@ packages_unchanged (Ok x) a ts same w seen = tt
 packages_unchanged (Err e) a ts same w seen = ap (λ (ts : Tables). worlds_of (record a { packages = ts })) same ∙ seen
 
 -- what a call of the packages answers, of the world
-pub packages_changed : (a : Inside) (ts : Tables) → Grows a.packages.0 ts.0 → KeepsNumbers (table_now a.packages) (table_now ts) → IsNumbered (table_now ts) (symbol_count ts.0) → ts.1.marked ≡ a.packages.1.marked → HasKeptWorld a
+pub packages_changed : (a : Inside) (ts : Tables) → Grows a.packages.0 ts.0 → KeepsNumbers (table_now a.packages) (table_now ts) → AreSymbolsNumbered (table_now ts) (symbol_count ts.0) → ts.1.marked ≡ a.packages.1.marked → HasKeptWorld a
     → (res : Result Bool PackageError) (after : Table → Result Table PackageError) (changes : Table → Bool)
     → AnswersPackages (λ _. ts.0) res (after a.packages.0) → Yields res (changes a.packages.0) → IfErr res (RunsOutOnlyIf (changes a.packages.0)) → IfOk res (λ changed. TellsOfChange changed a.packages.0 ts.0) → IfErr res (λ _. ts ≡ a.packages)
     → (w : Worlds) → worlds_of a ≡ w → ChangesPackages w (worlds_of (record a { packages = ts })) res (after w.0.packages) (changes w.0.packages)

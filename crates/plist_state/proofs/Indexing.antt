@@ -17,7 +17,7 @@ use Rattle.std.proofs.lemmas.List.Edits.{length-insert, length-remove, get_or-in
 use Rattle.lisp_object.specs.declared.datum.Datum.{Datum}
 use Rattle.property_rows.specs.declared.property.NumberedProperty.{NumberedProperty}
 use Rattle.plist_state.specs.Lists.{same_number}
-use Rattle.plist_state.specs.RowIndexes.{Orders, order_of, orders, nth, order_in, HasRisingOrders, IsIndexed}
+use Rattle.plist_state.specs.RowIndexes.{Orders, order_of, orders, nth, order_in, HasRisingOrders, IsRowIndex}
 use Rattle.plist_state.proofs.Indices.{has, item_at}
 use Rattle.plist_state.proofs.ListRows.{number_tied}
 use Rattle.plist_state.proofs.Placing.{not_same}
@@ -76,7 +76,7 @@ elsewhere items i is = elsewhere_from items i 0 (sym (position_from-zero (has i)
 same_order : (a b : ℕ) → Some a ≡ Some b → a ≡ b
 same_order a b e = ap (λ o. unwrap_or o a) e
 
-module _ (x : Orders) (items : List NumberedProperty) (indexed : IsIndexed x (orders items)) (i : ℕ) where
+module _ (x : Orders) (items : List NumberedProperty) (indexed : IsRowIndex x (orders items)) (i : ℕ) where
   -- the order of each property with this indicator
   known : (k : ℕ) → k < length items → (nth (orders items) k).0 ≡ i → order_in x i ≡ Some (nth (orders items) k).1
   known k less is =
@@ -126,13 +126,13 @@ orders-take zero items = refl
 orders-take (suc n) [] = refl
 orders-take (suc n) (q ∷ qs) = ap (λ ps. order_of q ∷ ps) (orders-take n qs)
 
-pub IsIndexed-nil : (x : Orders) → IsIndexed x []
+pub IsIndexed-nil : (x : Orders) → IsRowIndex x []
 IsIndexed-nil x = record {
   finds = λ k less. absurd (omega (arith, less));
   rising = λ i j lt less. absurd (omega (arith, less));
 }
 
-pub IsIndexed-remove : (x ks : Orders) (k : ℕ) → k < length ks → IsIndexed x ks → IsIndexed x (remove ks k)
+pub IsIndexed-remove : (x ks : Orders) (k : ℕ) → k < length ks → IsRowIndex x ks → IsRowIndex x (remove ks k)
 IsIndexed-remove x ks k within indexed =
     let long : length (remove ks k) + 1 ≡ length ks = length-remove ks k within in
     let below : (j : ℕ) → j < k → nth (remove ks k) j ≡ nth ks j = λ j lt. get_or-remove_below ks k (0, 0) j lt within in
@@ -157,7 +157,7 @@ IsIndexed-remove x ks k within indexed =
       | false ↦ λ t. (j + 1, above j (grind (arith, nat_tests, t)), omega arith, omega arith, λ lt. absurd (grind (arith, nat_tests, t, lt)), λ le. refl)
     ] refl
 
-pub IsIndexed-take : (x ks : Orders) (n : ℕ) → n ≤ length ks → IsIndexed x ks → IsIndexed x (take n ks)
+pub IsIndexed-take : (x ks : Orders) (n : ℕ) → n ≤ length ks → IsRowIndex x ks → IsRowIndex x (take n ks)
 IsIndexed-take x ks n within indexed =
     let long : length (take n ks) ≡ n = length-take-le n ks within in
     let at : (j : ℕ) → j < n → nth (take n ks) j ≡ nth ks j = λ j lt. get_or-take n ks j (0, 0) lt in
@@ -174,8 +174,8 @@ module _ (x later ks : Orders) (i o : ℕ)
     (put : (q : ℕ) → order_in later q ≡ cond (eq_by_cmp nat_cmp q i) (Some o) (order_in x q))
     (absent : (k : ℕ) → k < length ks → (nth ks k).0 ≢ i)
     (other : (q : ℕ) → q ≢ i → eq_by_cmp nat_cmp q i ≡ false) (same : eq_by_cmp nat_cmp i i ≡ true)
-    (indexed : IsIndexed x ks) where
-  pub IsIndexed-noted : IsIndexed later ks
+    (indexed : IsRowIndex x ks) where
+  pub IsIndexed-noted : IsRowIndex later ks
   IsIndexed-noted = record {
     finds = λ k less.
         put (nth ks k).0 ∙ ap (λ b. cond b (Some o) (order_in x (nth ks k).0)) (other (nth ks k).0 (absent k less)) ∙ indexed.finds k less;
@@ -183,7 +183,7 @@ module _ (x later ks : Orders) (i o : ℕ)
   }
 
   -- the property of this order is there
-  pub IsIndexed-added : ((k : ℕ) → k < length ks → (nth ks k).1 < o) → IsIndexed later (ks ++ (i, o) ∷ [])
+  pub IsIndexed-added : ((k : ℕ) → k < length ks → (nth ks k).1 < o) → IsRowIndex later (ks ++ (i, o) ∷ [])
   IsIndexed-added above =
       let long : length (ks ++ (i, o) ∷ []) ≡ length ks + 1 = omega (arith, length_push ks (i, o)) in
       let left : (k : ℕ) → k < length ks → nth (ks ++ (i, o) ∷ []) k ≡ nth ks k = λ k lt. get_or_append_left ks ((i, o) ∷ []) (0, 0) k lt in
@@ -213,7 +213,7 @@ module _ (x later ks : Orders) (i o : ℕ)
 
 -- the next property of a row, in the index of those before it
 module _ (x later : Orders) (items : List NumberedProperty) (n next i o : ℕ) (less : n < length items) (here : nth (orders items) n ≡ (i, o))
-    (indexed : IsIndexed x (take n (orders items))) (below : (k : ℕ) → k < n → (nth (orders items) k).1 < next) (high : next ≤ o)
+    (indexed : IsRowIndex x (take n (orders items))) (below : (k : ℕ) → k < n → (nth (orders items) k).1 < next) (high : next ≤ o)
     (new : is_some (order_in x i) ≡ false)
     (put : (q : ℕ) → order_in later q ≡ cond (eq_by_cmp nat_cmp q i) (Some o) (order_in x q)) where
   long : length (orders items) ≡ length items
@@ -227,9 +227,9 @@ module _ (x later : Orders) (items : List NumberedProperty) (n next i o : ℕ) (
       let there : is_some (order_in x i) ≡ true = ap (λ i. is_some (order_in x i)) (sym same) ∙ ap is_some (indexed.finds k lt) in
       false≢true (sym new ∙ there)
 
-  pub IsIndexed-next : IsIndexed later (take (n + 1) (orders items))
+  pub IsIndexed-next : IsRowIndex later (take (n + 1) (orders items))
   IsIndexed-next =
-      subst (IsIndexed later) (sym more)
+      subst (IsRowIndex later) (sym more)
       (IsIndexed-added x later (take n (orders items)) i o put unlike (λ q other. not_same q i other) (number_tied i) indexed
       (λ k lt.
       let same : (nth (take n (orders items)) k).1 ≡ (nth (orders items) k).1 = ap (λ (e : ℕ × ℕ). e.1) (get_or-take n (orders items) k (0, 0) (omega (arith, cut, lt))) in
@@ -272,7 +272,7 @@ orders-insert (q ∷ qs) zero p = refl
 orders-insert (q ∷ qs) (suc k) p = ap (λ ps. order_of q ∷ ps) (orders-insert qs k p)
 
 module _ (x ks : Orders) (k i o : ℕ) (within : k ≤ length ks) (has_order : order_in x i ≡ Some o)
-    (low : 0 < k → (nth ks (k - 1)).1 < o) (high : k < length ks → o < (nth ks k).1) (indexed : IsIndexed x ks) where
+    (low : 0 < k → (nth ks (k - 1)).1 < o) (high : k < length ks → o < (nth ks k).1) (indexed : IsRowIndex x ks) where
   abbrev later : Orders
   later = insert ks k (i, o)
 
@@ -334,7 +334,7 @@ module _ (x ks : Orders) (k i o : ℕ) (within : k ≤ length ks) (has_order : o
       let p : (nth later a).1 ≡ (nth ks (a - 1)).1 = order_same _ _ (moved_after a on) in
       omega (arith, p, q, indexed.rising (a - 1) (b - 1) (omega (arith, on, lt)) (omega (arith, less, right)))))
 
-  pub IsIndexed-insert : IsIndexed x later
+  pub IsIndexed-insert : IsRowIndex x later
   IsIndexed-insert = record {
     finds = λ j less. finds_each j (omega (arith, one_more_long, less));
     rising = λ a b lt less. rises_on a b lt (omega (arith, one_more_long, less));

@@ -28,7 +28,7 @@ use Rattle.plist_state.specs.declared.error.ReadtableError.TheVariants.{NoReadta
 use Rattle.plist_state.specs.State.{Readtables, WorldState, standard_name}
 use Rattle.plist_state.specs.Views.{NumberedRest}
 use Rattle.plist_state.specs.Changes.{put_changed, with_changed, changed_readtable, with_sub_function, readtable_error_of, with_copy, with_syntax, AnswersReadtables}
-use Rattle.plist_state.specs.Sound.{IsSymbol, IsNamed, IsSoundWorldState}
+use Rattle.plist_state.specs.Sound.{IsSymbol, HasKeywordFunctions, IsSoundWorldState}
 use Rattle.plist_state.proofs.Orders.{name_total}
 use Rattle.plist_state.proofs.Soundness.{sound_table, symbol_from}
 
@@ -57,7 +57,7 @@ there_too m n u there count =
     omega (arith, same, count)
 
 pub sound_changed : (s : WorldState) (n : Name) (change : Table → Result Table ReadtableError) → IsSoundWorldState s
-    → ((t u : Table) → IsNamed s.packages t → change t ≡ Ok u → IsNamed s.packages u)
+    → ((t u : Table) → HasKeywordFunctions s.packages t → change t ≡ Ok u → HasKeywordFunctions s.packages u)
     → (v : Readtables) → changed_readtable s.readtables n change ≡ Ok v → IsSoundWorldState (record s { readtables = v })
 sound_changed s n change sound named v is =
     elim (finite.get s.readtables n) as (λ o. finite.get s.readtables n ≡ o
@@ -82,35 +82,35 @@ sound_changed s n change sound named v is =
     with_writable o = with_changed s.readtables n change (option_map_or (λ t. if bytes_eq n standard_name then Err StandardReadtable else Ok t) o (Err NoReadtable))
 
 -- ---- the readtables after each change
-pub named_case : (t : packages.Table) (letters : Case) (r u : Table) → IsNamed t r → ◌≡◌ {A = Result Table ReadtableError} (Ok (record r { letters = letters })) (Ok u) → IsNamed t u
-named_case t letters r u named is = subst (IsNamed t) (ok_same (record r { letters = letters }) u is) (record {
+pub named_case : (t : packages.Table) (letters : Case) (r u : Table) → HasKeywordFunctions t r → ◌≡◌ {A = Result Table ReadtableError} (Ok (record r { letters = letters })) (Ok u) → HasKeywordFunctions t u
+named_case t letters r u named is = subst (HasKeywordFunctions t) (ok_same (record r { letters = letters }) u is) (record {
   readtable = record { count = named.readtable.count; each = named.readtable.each };
   functions = named.functions;
 })
 
 pub named_macro : (t : packages.Table) (c : ℕ) (f : Name) (b : Bool) (r u : Table) → c < 128 → IsFalse (is_dispatch_name f) → IsTrue (is_function_name f) → IsSymbol t (keyword, f)
-    → IsNamed t r → ◌≡◌ {A = Result Table ReadtableError} (Ok (with_character_entry r c (macro_entry f b))) (Ok u) → IsNamed t u
-named_macro t c f b r u below other fits at_home named is = subst (IsNamed t) (ok_same (with_character_entry r c (macro_entry f b)) u is) (record {
+    → HasKeywordFunctions t r → ◌≡◌ {A = Result Table ReadtableError} (Ok (with_character_entry r c (macro_entry f b))) (Ok u) → HasKeywordFunctions t u
+named_macro t c f b r u below other fits at_home named is = subst (HasKeywordFunctions t) (ok_same (with_character_entry r c (macro_entry f b)) u is) (record {
   readtable = readtable_sound.kept r c (macro_entry f b) below named.readtable (readtable_sound.macro_sound f b other fits);
   functions = named_after (is_symbol t keyword) r c (macro_entry f b) named.functions (and_from (is_symbol t keyword f) true (symbol_from t keyword f at_home) refl);
 })
 
 pub named_dispatching : (t : packages.Table) (c : ℕ) (b : Bool) (r u : Table) → c < 128 → IsSymbol t (keyword, dispatch_name)
-    → IsNamed t r → ◌≡◌ {A = Result Table ReadtableError} (Ok (with_character_entry r c (dispatching_entry b))) (Ok u) → IsNamed t u
-named_dispatching t c b r u below at_home named is = subst (IsNamed t) (ok_same (with_character_entry r c (dispatching_entry b)) u is) (record {
+    → HasKeywordFunctions t r → ◌≡◌ {A = Result Table ReadtableError} (Ok (with_character_entry r c (dispatching_entry b))) (Ok u) → HasKeywordFunctions t u
+named_dispatching t c b r u below at_home named is = subst (HasKeywordFunctions t) (ok_same (with_character_entry r c (dispatching_entry b)) u is) (record {
   readtable = readtable_sound.kept r c (dispatching_entry b) below named.readtable (readtable_sound.dispatching_sound b);
   functions = named_after (is_symbol t keyword) r c (dispatching_entry b) named.functions (and_from (is_symbol t keyword dispatch_name) true (symbol_from t keyword dispatch_name at_home) refl);
 })
 
 pub named_dispatched : (t : packages.Table) (c sub : ℕ) (f : Name) (r u : Table) → c < 128 → sub < 128 → IsFalse (is_dispatch_name f) → IsTrue (is_function_name f) → IsSymbol t (keyword, f)
-    → IsNamed t r → with_sub_function r c sub f ≡ Ok u → IsNamed t u
+    → HasKeywordFunctions t r → with_sub_function r c sub f ≡ Ok u → HasKeywordFunctions t u
 named_dispatched t c sub f r u below low other fits at_home named is =
-    elim (is_dispatching (entry_at r c)) as (λ b. is_dispatching (entry_at r c) ≡ b → made (if not b then Some NoDispatch else (if is_digit sub then Some Digit else None)) ≡ Ok u → IsNamed t u) [
+    elim (is_dispatching (entry_at r c)) as (λ b. is_dispatching (entry_at r c) ≡ b → made (if not b then Some NoDispatch else (if is_digit sub then Some Digit else None)) ≡ Ok u → HasKeywordFunctions t u) [
       | false ↦ λ _ e. absurd (err_ok e)
       | true ↦ λ d e.
-          elim (is_digit sub) as (λ b. is_digit sub ≡ b → made (if b then Some Digit else None) ≡ Ok u → IsNamed t u) [
+          elim (is_digit sub) as (λ b. is_digit sub ≡ b → made (if b then Some Digit else None) ≡ Ok u → HasKeywordFunctions t u) [
             | true ↦ λ _ g. absurd (err_ok g)
-            | false ↦ λ digit g. subst (IsNamed t) (ok_same (with_character_entry r c (with_function (entry_at r c) sub f)) u g) (record {
+            | false ↦ λ digit g. subst (HasKeywordFunctions t) (ok_same (with_character_entry r c (with_function (entry_at r c) sub f)) u g) (record {
               readtable = readtable_sound.kept r c (with_function (entry_at r c) sub f) below named.readtable
                   (readtable_sound.function_sound (entry_at r c) sub f (named.readtable.each c) (readtable_sound.place_of (entry_at r c) sub (named.readtable.each c) d low) digit other fits);
               functions = named_after (is_symbol t keyword) r c (with_function (entry_at r c) sub f) named.functions
@@ -127,9 +127,9 @@ sound_syntax s n c m d sound below v is =
     elim (finite.get s.readtables m) as (λ o. finite.get s.readtables m ≡ o → option_map_or (λ z. changed_readtable s.readtables n (λ t. Ok (with_character_entry t c (entry_at z d)))) o (Err NoReadtable) ≡ Ok v → IsSoundWorldState (record s { readtables = v })) [
       | None ↦ λ _ e. absurd (err_ok e)
       | Some z ↦ λ there e.
-          let from : IsNamed s.packages z = sound.readtables.each m z there in
+          let from : HasKeywordFunctions s.packages z = sound.readtables.each m z there in
           sound_changed s n (λ t. Ok (with_character_entry t c (entry_at z d))) sound
-          (λ t u named made. subst (IsNamed s.packages) (ok_same (with_character_entry t c (entry_at z d)) u made) (record {
+          (λ t u named made. subst (HasKeywordFunctions s.packages) (ok_same (with_character_entry t c (entry_at z d)) u made) (record {
             readtable = readtable_sound.kept t c (entry_at z d) below named.readtable (from.readtable.each d);
             functions = named_after (is_symbol s.packages keyword) t c (entry_at z d) named.functions (named_at (is_symbol s.packages keyword) z d from.functions);
           }))

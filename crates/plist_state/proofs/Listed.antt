@@ -17,11 +17,11 @@ use Rattle.lisp_object.specs.Object.{Object}
 use Rattle.lisp_object.proofs.TreeEntries.{entries_in_order}
 use Rattle.package_table.specs.Lookup.{is_symbol}
 use Rattle.package_table.specs.Numbers.{Numbered, number_at, number_of}
-use Rattle.package_table.specs.Numbering.{IsNumbered, KeepsNumbers}
+use Rattle.package_table.specs.Numbering.{AreSymbolsNumbered, KeepsNumbers}
 use Rattle.package_table.specs.Growth.{Grows}
 use Rattle.package_table.proofs.Numbered.{number_there, number_apart, number_kept}
 use Rattle.plist_state.specs.Properties.{Symbol, Plist, symbol_cmp, list_at, with_list}
-use Rattle.plist_state.specs.Lists.{NumberedPlist, NumberedLists, plist_of_number, with_row, symbols, numbered_symbol, IsNumber, named_plist, property_list_of, lists, IsOwned}
+use Rattle.plist_state.specs.Lists.{NumberedPlist, NumberedLists, plist_of_number, with_row, symbols, numbered_symbol, IsNumber, named_plist, property_list_of, lists, AreListsOfSymbols}
 use Rattle.plist_state.proofs.Orders.{symbol_total, symbol_exact, one_symbol, symbol_tied}
 use Rattle.plist_state.proofs.Lists.{kept, unwrap_kept, get-with_list}
 use Rattle.plist_state.proofs.AllSymbols.{listed, symbol_among, found_listed, keys_listed, symbols_rise, listed_rise}
@@ -56,7 +56,7 @@ pub lists_none : (s : Numbered) (m : NumberedLists) (x : Symbol) → number_of s
 lists_none s m x is = ap (λ o. unwrap_or o []) (lists_get s m x ∙ ap (λ o. option_map (named_plist s) (option_and_then (finite.get m) o)) is)
 
 -- a number is that of one symbol alone
-apart : (s : Numbered) (count : ℕ) → IsNumbered s count → (m : NumberedLists) (x q : Symbol) (i : ℕ) (ps : NumberedPlist) → number_of s x.0 x.1 ≡ Some i
+apart : (s : Numbered) (count : ℕ) → AreSymbolsNumbered s count → (m : NumberedLists) (x q : Symbol) (i : ℕ) (ps : NumberedPlist) → number_of s x.0 x.1 ≡ Some i
     → eq_by_cmp symbol_cmp q x ≡ false → property_list_of s (with_row m i ps) q ≡ property_list_of s m q
 apart s count numbered m x q i ps is other =
     elim (number_of s q.0 q.1) as (λ o. number_of s q.0 q.1 ≡ o → option_map (named_plist s) (option_and_then (finite.get (with_row m i ps)) o) ≡ option_map (named_plist s) (option_and_then (finite.get m) o)) [
@@ -72,7 +72,7 @@ apart s count numbered m x q i ps is other =
           ] refl)
     ] refl
 
-pub lists_put : (s : Numbered) (count : ℕ) → IsNumbered s count → (m : NumberedLists) (x : Symbol) (i : ℕ) (ps : NumberedPlist) → number_of s x.0 x.1 ≡ Some i
+pub lists_put : (s : Numbered) (count : ℕ) → AreSymbolsNumbered s count → (m : NumberedLists) (x : Symbol) (i : ℕ) (ps : NumberedPlist) → number_of s x.0 x.1 ≡ Some i
     → lists s (with_row m i ps) ≡ with_list (lists s m) x (named_plist s ps)
 lists_put s count numbered m x i ps is = same_map symbol_total symbol_exact _ _ (λ q.
     lists_get s (with_row m i ps) q
@@ -85,7 +85,7 @@ lists_put s count numbered m x i ps is = same_map symbol_total symbol_exact _ _ 
     ∙ sym (get-with_list (lists s m) x (named_plist s ps) q))
 
 -- ---- packages in which no symbol is lost and each keeps its number
-module _ (s u : Numbered) (count : ℕ) (numbered : IsNumbered u count) (grows : Grows s.0 u.0) (keeps : KeepsNumbers s u) (m : NumberedLists) (owned : IsOwned s m) where
+module _ (s u : Numbered) (count : ℕ) (numbered : AreSymbolsNumbered u count) (grows : Grows s.0 u.0) (keeps : KeepsNumbers s u) (m : NumberedLists) (owned : AreListsOfSymbols s m) where
   -- the list of a number, by the symbols of its indicators
   same_list : (j : ℕ) → option_map (named_plist u) (finite.get m j) ≡ option_map (named_plist s) (finite.get m j)
   same_list j =
@@ -128,7 +128,7 @@ module _ (s u : Numbered) (count : ℕ) (numbered : IsNumbered u count) (grows :
           let there = number_there s q.0 q.1 j at in
           number_kept s u keeps q.0 q.1 there (grows.homes q.0 q.1 q.0 there) ∙ at
 
-  pub owned_grown : IsOwned u m
+  pub owned_grown : AreListsOfSymbols u m
   owned_grown = record {
     owners = λ i has. number_stays s u count numbered grows keeps i (owned.owners i has);
     indicators = λ i.
@@ -144,8 +144,8 @@ lists_empty s = same_map symbol_total symbol_exact _ _ (λ q.
     ]
     ∙ sym (get-empty symbol_cmp q))
 
-pub owned_put : (s : Numbered) (count : ℕ) → IsNumbered s count → (m : NumberedLists) (x : Symbol) (i : ℕ) (ps : NumberedPlist) → number_of s x.0 x.1 ≡ Some i
-    → All (λ p. IsNumber s p.0) ps → IsOwned s m → IsOwned s (with_row m i ps)
+pub owned_put : (s : Numbered) (count : ℕ) → AreSymbolsNumbered s count → (m : NumberedLists) (x : Symbol) (i : ℕ) (ps : NumberedPlist) → number_of s x.0 x.1 ≡ Some i
+    → All (λ p. IsNumber s p.0) ps → AreListsOfSymbols s m → AreListsOfSymbols s (with_row m i ps)
 owned_put s count numbered m x i ps is all owned = record {
   owners = λ j there.
       elim (eq_by_cmp nat_cmp j i) as (λ b. eq_by_cmp nat_cmp j i ≡ b → IsTrue (is_some (cond b (kept ps) (finite.get m j))) → IsNumber s j) [
@@ -159,7 +159,7 @@ owned_put s count numbered m x i ps is all owned = record {
       ]);
 }
 
-pub owned_empty : (s : Numbered) → IsOwned s finite.empty
+pub owned_empty : (s : Numbered) → AreListsOfSymbols s finite.empty
 owned_empty s = record {
   owners = λ i has. absurd (false≢true (sym (ap is_some (get-empty {X = NumberedPlist} nat_cmp i)) ∙ has));
   indicators = λ i. subst (λ (o : Option NumberedPlist). All (λ p. IsNumber s p.0) (unwrap_or o [])) (sym (get-empty nat_cmp i)) (All-nil (λ (p : ℕ × Object). IsNumber s p.0));

@@ -14,12 +14,12 @@ use Rattle.std.proofs.lemmas.List.Elements.{All-nil, All-push, All-take}
 use Rattle.package_table.specs.Numbers.{Numbered, Tables, table_now}
 use Rattle.plist_state.specs.declared.note.Note.{Note}
 use Rattle.plist_state.specs.State.{Readtables, WorldState, Worlds}
-use Rattle.plist_state.specs.Lists.{IsOwned}
+use Rattle.plist_state.specs.Lists.{AreListsOfSymbols}
 use Rattle.plist_state.specs.Views.{NumberedRest, Rows}
 use Rattle.plist_state.specs.KeptRows.{IsWider}
 use Rattle.plist_state.specs.Undoing.{rests_at}
 use Rattle.plist_state.specs.Journal.{marks_of, FitsRows, IsJournal, ContinuesJournal}
-use Rattle.plist_state.specs.MarkedWorlds.{state_in, marked_states, AreOwned, AreKept}
+use Rattle.plist_state.specs.MarkedWorlds.{state_in, marked_states, AreMarkedListsOfSymbols, AreMarksSound}
 use Rattle.plist_state.specs.Sound.{IsSoundWorldState}
 use Rattle.package_table.proofs.Names.{same_some}
 use Rattle.plist_state.proofs.Restored.{ends_with}
@@ -49,23 +49,23 @@ marked_get zero (u ∷ ts) (s ∷ rs) t r a b = cc
 marked_get (suc m) (u ∷ ts) (s ∷ rs) t r a b = marked_get m ts rs t r a b
 
 -- ---- each number with a list is that of a symbol
-owned_push : (ts : List Numbered) (rs : List NumberedRest) (t : Numbered) (r : NumberedRest) → length ts ≡ length rs → AreOwned ts rs → IsOwned t r.properties → AreOwned (ts ++ t ∷ []) (rs ++ r ∷ [])
+owned_push : (ts : List Numbered) (rs : List NumberedRest) (t : Numbered) (r : NumberedRest) → length ts ≡ length rs → AreMarkedListsOfSymbols ts rs → AreListsOfSymbols t r.properties → AreMarkedListsOfSymbols (ts ++ t ∷ []) (rs ++ r ∷ [])
 owned_push [] [] t r e all one = (one, tt)
 owned_push [] (s ∷ rs) t r e all one = absurd (omega (arith, e))
 owned_push (u ∷ ts) [] t r e all one = absurd (omega (arith, e))
 owned_push (u ∷ ts) (s ∷ rs) t r e all one = (all.0, owned_push ts rs t r (omega (arith, e)) all.1 one)
 
-owned_take : (m : ℕ) (ts : List Numbered) (rs : List NumberedRest) → AreOwned ts rs → AreOwned (take m ts) (take m rs)
+owned_take : (m : ℕ) (ts : List Numbered) (rs : List NumberedRest) → AreMarkedListsOfSymbols ts rs → AreMarkedListsOfSymbols (take m ts) (take m rs)
 owned_take zero ts rs all = tt
 owned_take (suc m) [] rs all = tt
 owned_take (suc m) (t ∷ ts) [] all = tt
 owned_take (suc m) (t ∷ ts) (r ∷ rs) all = (all.0, owned_take m ts rs all.1)
 
-owned_get : (m : ℕ) (ts : List Numbered) (rs : List NumberedRest) (t : Numbered) (r : NumberedRest) → slice_get ts m ≡ Some t → slice_get rs m ≡ Some r → AreOwned ts rs → IsOwned t r.properties
+owned_get : (m : ℕ) (ts : List Numbered) (rs : List NumberedRest) (t : Numbered) (r : NumberedRest) → slice_get ts m ≡ Some t → slice_get rs m ≡ Some r → AreMarkedListsOfSymbols ts rs → AreListsOfSymbols t r.properties
 owned_get m [] rs t r a b all = absurd (cc)
 owned_get m (u ∷ ts) [] t r a b all = absurd (cc)
 owned_get zero (u ∷ ts) (s ∷ rs) t r a b all =
-    subst (λ (v : Numbered). IsOwned v r.properties) (same_some u t a) (subst (λ (q : NumberedRest). IsOwned u q.properties) (same_some s r b) all.0)
+    subst (λ (v : Numbered). AreListsOfSymbols v r.properties) (same_some u t a) (subst (λ (q : NumberedRest). AreListsOfSymbols u q.properties) (same_some s r b) all.0)
 owned_get (suc m) (u ∷ ts) (s ∷ rs) t r a b all = owned_get m ts rs t r a b all.1
 
 -- ---- a world that was left as it was
@@ -95,15 +95,15 @@ as_many_take (suc m) (a ∷ xs) [] e = absurd (omega (arith, e))
 as_many_take (suc m) (a ∷ xs) (b ∷ ys) e = ap suc (as_many_take m xs ys (omega (arith, e)))
 
 -- no marks
-pub kept_none : (ts : List Numbered) (ms : List (List Note)) (r : NumberedRest) (rows : Rows) → ts ≡ [] → ms ≡ [] → AreKept ts ms r rows
-kept_none ts ms r rows no_table no_mark = subst (λ us. AreKept us ms r rows) (sym no_table) (subst (λ ks. AreKept [] ks r rows) (sym no_mark) (record {
+pub kept_none : (ts : List Numbered) (ms : List (List Note)) (r : NumberedRest) (rows : Rows) → ts ≡ [] → ms ≡ [] → AreMarksSound ts ms r rows
+kept_none ts ms r rows no_table no_mark = subst (λ us. AreMarksSound us ms r rows) (sym no_table) (subst (λ ks. AreMarksSound [] ks r rows) (sym no_mark) (record {
   as_many = refl;
   journal = tt;
   owned = tt;
   sound = All-nil IsSoundWorldState;
 }))
 
-module _ (ts : List Numbered) (ms : List (List Note)) (r : NumberedRest) (rows : Rows) (kept : AreKept ts ms r rows) where
+module _ (ts : List Numbered) (ms : List (List Note)) (r : NumberedRest) (rows : Rows) (kept : AreMarksSound ts ms r rows) where
   rests_many : length ts ≡ length (rests_at ms r)
   rests_many = kept.as_many ∙ sym (length-rests ms r)
 
@@ -112,11 +112,11 @@ module _ (ts : List Numbered) (ms : List (List Note)) (r : NumberedRest) (rows :
   states_many = length_marked ts (rests_at ms r) rests_many ∙ kept.as_many
 
   -- a change that was noted
-  pub kept_continued : (ns : List (List Note)) (u : NumberedRest) (later : Rows) → ContinuesJournal ms r ns u → FitsRows rows r → IsWider rows later → AreKept ts ns u later
+  pub kept_continued : (ns : List (List Note)) (u : NumberedRest) (later : Rows) → ContinuesJournal ms r ns u → FitsRows rows r → IsWider rows later → AreMarksSound ts ns u later
   kept_continued ns u later continues fits wider = record {
     as_many = rests_many ∙ ap length (sym continues.same) ∙ length-rests ns u;
     journal = journal_wider ns u rows later wider (continues.journal rows fits kept.journal);
-    owned = subst (AreOwned ts) (sym continues.same) kept.owned;
+    owned = subst (AreMarkedListsOfSymbols ts) (sym continues.same) kept.owned;
     sound = subst (λ rs. All IsSoundWorldState (marked_states ts rs)) (sym continues.same) kept.sound;
   }
 
@@ -124,11 +124,11 @@ module _ (ts : List Numbered) (ms : List (List Note)) (r : NumberedRest) (rows :
   pub states_push : (t : Numbered) → marked_states (ts ++ t ∷ []) (rests_at (ms ++ [] ∷ []) r) ≡ marked_states ts (rests_at ms r) ++ state_in t r ∷ []
   states_push t = ap (marked_states (ts ++ t ∷ [])) (rests_push ms [] r) ∙ marked_push ts (rests_at ms r) t r rests_many
 
-  pub kept_push : (t : Numbered) → IsOwned t r.properties → IsSoundWorldState (state_in t r) → AreKept (ts ++ t ∷ []) (ms ++ [] ∷ []) r rows
+  pub kept_push : (t : Numbered) → AreListsOfSymbols t r.properties → IsSoundWorldState (state_in t r) → AreMarksSound (ts ++ t ∷ []) (ms ++ [] ∷ []) r rows
   kept_push t owned sound = record {
     as_many = as_many_push ts ms t [] kept.as_many;
     journal = journal_put ms [] r rows tt kept.journal;
-    owned = subst (AreOwned (ts ++ t ∷ [])) (sym (rests_push ms [] r)) (owned_push ts (rests_at ms r) t r rests_many kept.owned owned);
+    owned = subst (AreMarkedListsOfSymbols (ts ++ t ∷ [])) (sym (rests_push ms [] r)) (owned_push ts (rests_at ms r) t r rests_many kept.owned owned);
     sound = subst (All IsSoundWorldState) (sym (states_push t)) (All-push IsSoundWorldState (marked_states ts (rests_at ms r)) (state_in t r) kept.sound sound);
   }
 
@@ -137,11 +137,11 @@ module _ (ts : List Numbered) (ms : List (List Note)) (r : NumberedRest) (rows :
     pub states_take : marked_states (take n ts) (rests_at ns u) ≡ take n (marked_states ts (rests_at ms r))
     states_take = ap (marked_states (take n ts)) past ∙ marked_take n ts (rests_at ms r)
 
-    pub kept_back : (later : Rows) → IsJournal ns u later → AreKept (take n ts) ns u later
+    pub kept_back : (later : Rows) → IsJournal ns u later → AreMarksSound (take n ts) ns u later
     kept_back later journal = record {
       as_many = as_many_take n ts (rests_at ms r) rests_many ∙ ap length (sym past) ∙ length-rests ns u;
       journal = journal;
-      owned = subst (AreOwned (take n ts)) (sym past) (owned_take n ts (rests_at ms r) kept.owned);
+      owned = subst (AreMarkedListsOfSymbols (take n ts)) (sym past) (owned_take n ts (rests_at ms r) kept.owned);
       sound = subst (All IsSoundWorldState) (sym states_take) (All-take IsSoundWorldState n (marked_states ts (rests_at ms r)) kept.sound);
     }
 
@@ -156,7 +156,7 @@ module _ (ts : List Numbered) (ms : List (List Note)) (r : NumberedRest) (rows :
         let s : WorldState = state_in t u in
         subst IsSoundWorldState (get_or_from_slice_get all n s s state_at) (kept.sound n s (slice_get_within all n s state_at))
 
-    pub owned_at : IsOwned t u.properties
+    pub owned_at : AreListsOfSymbols t u.properties
     owned_at = owned_get n ts (rests_at ms r) t u table rest kept.owned
 
 -- the world that was marked

@@ -13,7 +13,7 @@ use Rattle.std.proofs.lemmas.Bool.{false≢true, eqb-true, eqb-false, eq-eqb}
 use Rattle.std.proofs.lemmas.List.Elements.{All-head, All-tail}
 use Rattle.lisp_object.specs.Object.{Object}
 use Rattle.package_table.specs.Numbers.{Numbered, number_of}
-use Rattle.package_table.specs.Numbering.{IsNumbered, KeepsNumbers}
+use Rattle.package_table.specs.Numbering.{AreSymbolsNumbered, KeepsNumbers}
 use Rattle.package_table.specs.Growth.{Grows}
 use Rattle.package_table.proofs.Names.{same_some}
 use Rattle.package_table.proofs.Numbered.{number_there, number_apart, number_kept}
@@ -114,7 +114,7 @@ module _ (s : Numbered) where
   some_named None = refl
   some_named (Some ps) = refl
 
-  module _ (count : ℕ) (numbered : IsNumbered s count) where
+  module _ (count : ℕ) (numbered : AreSymbolsNumbered s count) where
     found_at : (x : Symbol) (i : ℕ) → number_of s x.0 x.1 ≡ Some i → (xs : List Symbol) → list_any (eq_by_cmp symbol_cmp x) xs ≡ true → find (has_number s i) xs ≡ Some x
     found_at x i is [] among = absurd (false≢true among)
     found_at x i is (y ∷ ys) among =
@@ -159,7 +159,7 @@ module _ (s : Numbered) where
           ∙ ap (without_value (named_plist s ps)) (symbol_numbered x i is)
 
 -- ---- packages that grow
-module _ (s u : Numbered) (count : ℕ) (numbered : IsNumbered u count) (grows : Grows s.0 u.0) (keeps : KeepsNumbers s u) where
+module _ (s u : Numbered) (count : ℕ) (numbered : AreSymbolsNumbered u count) (grows : Grows s.0 u.0) (keeps : KeepsNumbers s u) where
   pub number_grown : (i : ℕ) → IsNumber s i → number_of u (numbered_symbol s i).0 (numbered_symbol s i).1 ≡ Some i
   number_grown i is =
       let x : Symbol = numbered_symbol s i in

@@ -10,7 +10,7 @@ use Rattle.std.specs.BTreeMap.{insert_entry, is_at}
 use Rattle.std.proofs.lemmas.List.{length-map, map-append}
 use Rattle.lisp_object.specs.declared.datum.Datum.{Datum}
 use Rattle.property_rows.specs.declared.property.NumberedProperty.{NumberedProperty}
-use Rattle.plist_state.specs.RowIndexes.{Index, Indexes, order_of, orders, nth, order_in, index_at, HasRisingOrders, IsIndexed, IsIndexedIn}
+use Rattle.plist_state.specs.RowIndexes.{Index, Indexes, order_of, orders, nth, order_in, index_at, HasRisingOrders, IsRowIndex, IsIndexedIn}
 use Rattle.plist_state.proofs.Indices.{has}
 use Rattle.plist_state.proofs.ListRows.{number_tied}
 use Rattle.plist_state.proofs.Placing.{inserted, written_at, not_same, index_put, same_some}
@@ -34,7 +34,7 @@ module _ (old new : Indexes) (n : ℕ) (items : List NumberedProperty) (i o : �
 
   pub still : IsIndexedIn new n items
   still y e =
-      subst (λ (z : Index). IsIndexed z.entries (orders items)) (at y e)
+      subst (λ (z : Index). IsRowIndex z.entries (orders items)) (at y e)
       (IsIndexed-noted x.entries later.entries (orders items) i o (inserted x.entries later.entries i o put) unlike (λ q other. not_same q i other) (number_tied i) (indexed x there))
 
   pub next : (HasRisingOrders (orders items) → (k : ℕ) → k < length items → (nth (orders items) k).1 < o)
@@ -42,8 +42,8 @@ module _ (old new : Indexes) (n : ℕ) (items : List NumberedProperty) (i o : �
   next above p is_i is_o y e =
       let one : order_of p ≡ (i, o) = λ t. (is_i t, is_o t) in
       let both : orders (items ++ p ∷ []) ≡ orders items ++ (i, o) ∷ [] = map-append order_of items (p ∷ []) ∙ ap (λ q. orders items ++ q ∷ []) one in
-      subst (λ (z : Index). IsIndexed z.entries (orders (items ++ p ∷ []))) (at y e)
-      (subst (IsIndexed later.entries) (sym both)
+      subst (λ (z : Index). IsRowIndex z.entries (orders (items ++ p ∷ []))) (at y e)
+      (subst (IsRowIndex later.entries) (sym both)
       (IsIndexed-added x.entries later.entries (orders items) i o (inserted x.entries later.entries i o put) unlike (λ q other. not_same q i other) (number_tied i) (indexed x there)
       (λ k lt. above (indexed x there).rising k (omega (arith, long, lt)))))
 
@@ -62,14 +62,14 @@ module _ (old new : Indexes) (n : ℕ) (items : List NumberedProperty) (p : Numb
   known : order_in later.entries p.indicator ≡ Some p.order
   known = put p.indicator ∙ ap (λ b. cond b (Some p.order) (order_in x.entries p.indicator)) (number_tied p.indicator)
 
-  learnt : IsIndexed later.entries (orders items)
+  learnt : IsRowIndex later.entries (orders items)
   learnt = IsIndexed-noted x.entries later.entries (orders items) p.indicator p.order put none (λ q other. not_same q p.indicator other) (number_tied p.indicator) (indexed x there)
 
   pub back : IsIndexedIn new n (insert items k p)
   back y e =
       let same : later ≡ y = same_some later y (sym (index_put old new n (Some later) (written_at old new n x later there is) (number_tied n)) ∙ e) in
-      subst (λ (z : Index). IsIndexed z.entries (orders (insert items k p))) same
-      (subst (IsIndexed later.entries) (sym (orders-insert items k p))
+      subst (λ (z : Index). IsRowIndex z.entries (orders (insert items k p))) same
+      (subst (IsRowIndex later.entries) (sym (orders-insert items k p))
       (IsIndexed-insert later.entries (orders items) k p.indicator p.order (omega (arith, as_long, within)) known low
       (λ lt. high (omega (arith, as_long, lt))) learnt))
 
@@ -79,16 +79,16 @@ module _ (indexes : Indexes) (n : ℕ) (items : List NumberedProperty) (indexed 
   indexed_same later is = subst (IsIndexedIn indexes n) (sym is) indexed
 
   pub indexed_set : (k : ℕ) (p : NumberedProperty) (v : Datum) → p ≡ get_or items k p → IsIndexedIn indexes n (set items k (record { indicator = p.indicator; order = p.order; value = v }))
-  indexed_set k p v is y e = subst (IsIndexed y.entries) (sym (orders-set items k p v is)) (indexed y e)
+  indexed_set k p v is y e = subst (IsRowIndex y.entries) (sym (orders-set items k p v is)) (indexed y e)
 
   pub indexed_removed : (k : ℕ) (later : List NumberedProperty) → k < length items → later ≡ remove items k → IsIndexedIn indexes n later
   indexed_removed k later less is y e =
-      subst (λ xs. IsIndexed y.entries (orders xs)) (sym is)
-      (subst (IsIndexed y.entries) (sym (orders-remove items k))
+      subst (λ xs. IsRowIndex y.entries (orders xs)) (sym is)
+      (subst (IsRowIndex y.entries) (sym (orders-remove items k))
       (IsIndexed-remove y.entries (orders items) k (let long : length (orders items) ≡ length items = length-map items order_of in omega (arith, long, less)) (indexed y e)))
 
   pub indexed_taken : (k : ℕ) (later : List NumberedProperty) → k ≤ length items → later ≡ take k items → IsIndexedIn indexes n later
   indexed_taken k later less is y e =
-      subst (λ xs. IsIndexed y.entries (orders xs)) (sym is)
-      (subst (IsIndexed y.entries) (sym (orders-take k items))
+      subst (λ xs. IsRowIndex y.entries (orders xs)) (sym is)
+      (subst (IsRowIndex y.entries) (sym (orders-take k items))
       (IsIndexed-take y.entries (orders items) k (let long : length (orders items) ≡ length items = length-map items order_of in omega (arith, long, less)) (indexed y e)))

@@ -22,7 +22,7 @@ use Rattle.plist_state.specs.Lists.{NumberedPlist, NumberedLists, plist_of_numbe
 use Rattle.plist_state.specs.Views.{Rows, lists_in, plist_of, numbered_property, row_at, room_at, NumberedRest}
 use Rattle.plist_state.specs.KeptRows.{IsProperChange, IsWider}
 use Rattle.plist_state.specs.Undoing.{list_before, rest_before, all_undone, undone_since, rests_at}
-use Rattle.plist_state.specs.Journal.{marks_of, has_room, IsNoted, FitsRows, LeadsBack, IsJournal, ContinuesJournal}
+use Rattle.plist_state.specs.Journal.{marks_of, has_room, CanBeUndone, FitsRows, LeadsBack, IsJournal, ContinuesJournal}
 use Rattle.plist_state.proofs.ListRows.{row-lists_in, property_back}
 
 -- ---- what is led back to
@@ -49,15 +49,15 @@ fits_wider r rows later wider fits x =
     let more : room_at rows x ≤ room_at later x = wider.rooms x in
     omega (arith, held, more)
 
-leads_push : (ns : List Note) (n : Note) (u : NumberedRest) (rows : Rows) → IsNoted n → FitsRows rows (rest_before n u) → LeadsBack ns (rest_before n u) rows → LeadsBack (ns ++ n ∷ []) u rows
+leads_push : (ns : List Note) (n : Note) (u : NumberedRest) (rows : Rows) → CanBeUndone n → FitsRows rows (rest_before n u) → LeadsBack ns (rest_before n u) rows → LeadsBack (ns ++ n ∷ []) u rows
 leads_push [] n u rows noted fits leads = (noted, fits, tt)
 leads_push (m ∷ ns) n u rows noted fits leads =
     (leads.0, subst (FitsRows rows) (sym (ap (rest_before m) (all_push ns n u))) leads.1, leads_push ns n u rows noted fits leads.2)
 
-pub leads_pop : (ns : List Note) (n : Note) (u : NumberedRest) (rows : Rows) → LeadsBack (ns ++ n ∷ []) u rows → IsNoted n × FitsRows rows (rest_before n u) × LeadsBack ns (rest_before n u) rows
+pub leads_pop : (ns : List Note) (n : Note) (u : NumberedRest) (rows : Rows) → LeadsBack (ns ++ n ∷ []) u rows → CanBeUndone n × FitsRows rows (rest_before n u) × LeadsBack ns (rest_before n u) rows
 leads_pop [] n u rows leads = (leads.0, leads.1, tt)
 leads_pop (m ∷ ns) n u rows leads =
-    let left : IsNoted n × FitsRows rows (rest_before n u) × LeadsBack ns (rest_before n u) rows = leads_pop ns n u rows leads.2 in
+    let left : CanBeUndone n × FitsRows rows (rest_before n u) × LeadsBack ns (rest_before n u) rows = leads_pop ns n u rows leads.2 in
     (left.0, left.1, (leads.0, subst (FitsRows rows) (ap (rest_before m) (all_push ns n u)) leads.1, left.2))
 
 pub leads_wider : (ns : List Note) (r : NumberedRest) (rows later : Rows) → IsWider rows later → LeadsBack ns r rows → LeadsBack ns r later
@@ -113,12 +113,12 @@ continues_same ms ns t u marks rest = record {
 }
 
 -- a note that was pushed where room for it was made
-pub continues_noted : (ms ks ns : List (List Note)) (note : Note) (t u : NumberedRest) → ks ≡ ms → ((t u : NumberedRest) → IsNoted note → rest_before note u ≡ t → ContinuesJournal ks t ns u) → IsNoted note → rest_before note u ≡ t → ContinuesJournal ms t ns u
+pub continues_noted : (ms ks ns : List (List Note)) (note : Note) (t u : NumberedRest) → ks ≡ ms → ((t u : NumberedRest) → CanBeUndone note → rest_before note u ≡ t → ContinuesJournal ks t ns u) → CanBeUndone note → rest_before note u ≡ t → ContinuesJournal ms t ns u
 continues_noted ms ks ns note t u same pushed proper undoes = subst (λ k. ContinuesJournal k t ns u) same (pushed t u proper undoes)
 
 -- the same of a change of the property list of a number
 pub property_noted : (ms ks ns : List (List Note)) → ks ≡ ms → (x : ℕ) (change : PropertyChange)
-    → ((t u : NumberedRest) → IsNoted (OfList x change) → rest_before (OfList x change) u ≡ t → ContinuesJournal ks t ns u) → IsProperChange change
+    → ((t u : NumberedRest) → CanBeUndone (OfList x change) → rest_before (OfList x change) u ≡ t → ContinuesJournal ks t ns u) → IsProperChange change
     → (t : NumberedRest) (rows later : Rows) (ps : NumberedPlist)
     → lists_in later ≡ with_row (lists_in rows) x ps → list_before change (plist_of_number (lists_in later) x) ≡ plist_of_number (lists_in rows) x
     → ContinuesJournal ms (record t { properties = lists_in rows }) ns (record t { properties = lists_in later })
@@ -127,7 +127,7 @@ property_noted ms ks ns same x change pushed proper t rows later ps put back =
     (ap (λ (m : NumberedLists). record t { properties = m }) (property_back rows later x ps change put back))
 
 -- one note more under the newest mark
-continues_push : (ms : List (List Note)) (m : List Note) (n : Note) (t u : NumberedRest) → IsNoted n → rest_before n u ≡ t → ContinuesJournal (ms ++ m ∷ []) t (ms ++ (m ++ n ∷ []) ∷ []) u
+continues_push : (ms : List (List Note)) (m : List Note) (n : Note) (t u : NumberedRest) → CanBeUndone n → rest_before n u ≡ t → ContinuesJournal (ms ++ m ∷ []) t (ms ++ (m ++ n ∷ []) ∷ []) u
 continues_push ms m n t u noted undoes =
     let back : all_undone (m ++ n ∷ []) u ≡ all_undone m t = all_push m n u ∙ ap (all_undone m) undoes in
     record {
@@ -159,7 +159,7 @@ module _ (ms : List (Vec Note)) (n : ℕ) (m w : Vec Note) (is_length : length m
   pub had_room : has_room ms → vec_len m < vec_capacity m
   had_room room = room_of_end last.0 m (subst has_room last.1 room)
 
-  pub noted : (note : Note) → w.items ≡ m.items ++ note ∷ [] → (t u : NumberedRest) → IsNoted note → rest_before note u ≡ t → ContinuesJournal (marks_of ms) t (marks_of (slice_set ms (n - 1) w)) u
+  pub noted : (note : Note) → w.items ≡ m.items ++ note ∷ [] → (t u : NumberedRest) → CanBeUndone note → rest_before note u ≡ t → ContinuesJournal (marks_of ms) t (marks_of (slice_set ms (n - 1) w)) u
   noted note is t u proper undoes =
       subst (λ ks. ContinuesJournal ks t (marks_of (slice_set ms (n - 1) w)) u) (sym marks_before)
       (subst (λ ks. ContinuesJournal (marks_of last.0 ++ m.items ∷ []) t ks u) (sym (marks_after ∙ ap (λ x. marks_of last.0 ++ x ∷ []) is))

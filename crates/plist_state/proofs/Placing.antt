@@ -14,7 +14,7 @@ use Rattle.std.proofs.lemmas.Cmp.{nat_cmp_total}
 use Rattle.lisp_object.proofs.Tree as tree
 use Rattle.property_rows.specs.Rows.{PropertyRow}
 use Rattle.plist_state.specs.Views.{Rows, row_at}
-use Rattle.plist_state.specs.RowIndexes.{Index, Indexes, index_at, orders, IsIndexed, IsIndexedIn, AreIndexed, KeepsOthers}
+use Rattle.plist_state.specs.RowIndexes.{Index, Indexes, index_at, orders, IsRowIndex, IsIndexedIn, AreRowIndexes, KeepsOthers}
 use Rattle.plist_state.proofs.ListRows.{one_number, IsPut}
 
 module _ {V : Type 0} where
@@ -75,17 +75,17 @@ same_some a b e = ap (λ o. unwrap_or o a) e
 
 -- one row is written, and the indexes of the other numbers stay
 pub are_indexed : (rows later : Rows) (old new : Indexes) (x : ℕ) (row : PropertyRow)
-    → AreIndexed rows old → IsPut rows later x row → IsIndexedIn new x row.items → KeepsOthers old new x → AreIndexed later new
+    → AreRowIndexes rows old → IsPut rows later x row → IsIndexedIn new x row.items → KeepsOthers old new x → AreRowIndexes later new
 are_indexed rows later old new x row all put here others n v there i is =
-    elim (eq_by_cmp nat_cmp n x) as (λ b. eq_by_cmp nat_cmp n x ≡ b → IsIndexed i.entries (orders v.items)) [
+    elim (eq_by_cmp nat_cmp n x) as (λ b. eq_by_cmp nat_cmp n x ≡ b → IsRowIndex i.entries (orders v.items)) [
       | true ↦ λ t.
           let same : n ≡ x = one_number n x t in
           let v_is : row ≡ v = same_some row v (sym (put n ∙ ap (λ b. cond b (Some row) (row_at rows n)) t) ∙ there) in
-          subst (λ (r : PropertyRow). IsIndexed i.entries (orders r.items)) v_is (here i (ap (index_at new) (sym same) ∙ is))
+          subst (λ (r : PropertyRow). IsRowIndex i.entries (orders r.items)) v_is (here i (ap (index_at new) (sym same) ∙ is))
       | false ↦ λ t.
           all n v (sym (put n ∙ ap (λ b. cond b (Some row) (row_at rows n)) t) ∙ there) i (sym (others n t) ∙ is)
     ] refl
 
 -- the rows are as they were
-pub still_indexed : (rows later : Rows) (indexes : Indexes) → later ≡ rows → AreIndexed rows indexes → AreIndexed later indexes
-still_indexed rows later indexes is all = subst (λ es. AreIndexed es indexes) (sym is) all
+pub still_indexed : (rows later : Rows) (indexes : Indexes) → later ≡ rows → AreRowIndexes rows indexes → AreRowIndexes later indexes
+still_indexed rows later indexes is all = subst (λ es. AreRowIndexes es indexes) (sym is) all

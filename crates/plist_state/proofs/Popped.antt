@@ -22,7 +22,7 @@ use Rattle.lisp_object.proofs.ProperLists.{items_of_proper, end_of_proper, no_li
 use Rattle.lisp_object.proofs.Lists.{object_of-joined, is_proper-joined}
 use Rattle.package_table.specs.Table as packages
 use Rattle.package_table.specs.Numbers.{Numbered, number_of}
-use Rattle.package_table.specs.Numbering.{IsNumbered}
+use Rattle.package_table.specs.Numbering.{AreSymbolsNumbered}
 use Rattle.plist_state.specs.Properties.{Symbol, same_symbol, value_beside, with_value}
 use Rattle.plist_state.specs.State.{WorldState, Worlds}
 use Rattle.plist_state.specs.Changes.{property, with_property}
@@ -100,7 +100,7 @@ joined_proper [] others tail true all proper = proper
 joined_proper (x ∷ xs) others tail true all proper = is_proper-joined (x ∷ xs) others tail (omega arith) (all_of (x ∷ xs) all) proper
 
 -- ---- by numbers and by symbols
-pub popped_named : (s : Numbered) (count : ℕ) (counted : IsNumbered s count) (x : Symbol) (i : ℕ) (is : number_of s x.0 x.1 ≡ Some i)
+pub popped_named : (s : Numbered) (count : ℕ) (counted : AreSymbolsNumbered s count) (x : Symbol) (i : ℕ) (is : number_of s x.0 x.1 ≡ Some i)
     (ps : NumberedPlist) (all : All (λ p. IsNumber s p.0) ps)
     → named_plist s (with_popped_by same_number ps i) ≡ with_popped_by same_symbol (named_plist s ps) x
 popped_named s count counted x i is ps all =

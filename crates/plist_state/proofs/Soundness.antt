@@ -25,13 +25,13 @@ use Rattle.package_table.specs.Growth.{Grows}
 use Rattle.plist_state.specs.Properties.{Symbol, Plist, Properties, symbol_cmp, same_symbol, value_at, with_value, without_value, with_list}
 use Rattle.plist_state.specs.State.{WorldState, standard_name, user_name}
 use Rattle.plist_state.specs.Changes.{plist, property, with_property, without_property, with_packages, with_base}
-use Rattle.plist_state.specs.Sound.{IsSymbol, IsKnown, IsValue, IsApart, IsPlist, IsNamed, IsSoundWorldState}
+use Rattle.plist_state.specs.Sound.{IsSymbol, IsSymbolStorable, IsValue, IsApart, IsPlist, HasKeywordFunctions, IsSoundWorldState}
 use Rattle.package_table.proofs.Names.{same_some}
 use Rattle.plist_state.proofs.Orders.{one_symbol, one_name, name_total, symbol_total}
 use Rattle.plist_state.proofs.Lists.{kept, AreSome, all_with, all_without, without-absent, get-with_list, with_list_same}
 
 -- ---- packages that grow
-known_grown : (t u : packages.Table) → Grows t u → (x : Object) → IsKnown t x → IsKnown u x
+known_grown : (t u : packages.Table) → Grows t u → (x : Object) → IsSymbolStorable t x → IsSymbolStorable u x
 known_grown t u grows (integer n) k = tt
 known_grown t u grows (rational n d) k = tt
 known_grown t u grows (character c) k = tt
@@ -41,7 +41,7 @@ known_grown t u grows (uninterned n) k = k
 known_grown t u grows (pair a b) k = tt
 known_grown t u grows (vector xs) k = tt
 
-atoms_grown : (t u : packages.Table) → Grows t u → (x : Object) → AllAtoms (IsKnown t) x → AllAtoms (IsKnown u) x
+atoms_grown : (t u : packages.Table) → Grows t u → (x : Object) → AllAtoms (IsSymbolStorable t) x → AllAtoms (IsSymbolStorable u) x
 atoms_grown t u grows (integer n) k = tt
 atoms_grown t u grows (rational n d) k = tt
 atoms_grown t u grows (character c) k = tt
@@ -294,7 +294,7 @@ sound_base s base sound lowest highest = record {
 -- ---- readtables
 -- a readtable that is put at a name, not that of the standard one
 pub sound_table : (s : WorldState) (n : Name) (r : readtable.Table) → IsSoundWorldState s → (n ≡ standard_name → ⊥) → IsSymbol s.packages (keyword, n)
-    → finite.len (finite.insert s.readtables n r) ≤ 64 → IsNamed s.packages r → IsSoundWorldState (record s { readtables = finite.insert s.readtables n r })
+    → finite.len (finite.insert s.readtables n r) ≤ 64 → HasKeywordFunctions s.packages r → IsSoundWorldState (record s { readtables = finite.insert s.readtables n r })
 sound_table s n r sound other at_home count named = record {
   packages = sound.packages;
   symbols = sound.symbols;
@@ -309,8 +309,8 @@ sound_table s n r sound other at_home count named = record {
           | false ↦ λ t e. sound.readtables.names m e
         ] refl (subst (λ (o : Option readtable.Table). IsTrue (is_some o)) (get-insert name_total s.readtables n r m) there);
     each = λ m u there.
-        elim (eq_by_cmp name_cmp m n) as (λ b. cond b (Some r) (finite.get s.readtables m) ≡ Some u → IsNamed s.packages u) [
-          | true ↦ λ e. subst (IsNamed s.packages) (ap (λ o. unwrap_or o r) e) named
+        elim (eq_by_cmp name_cmp m n) as (λ b. cond b (Some r) (finite.get s.readtables m) ≡ Some u → HasKeywordFunctions s.packages u) [
+          | true ↦ λ e. subst (HasKeywordFunctions s.packages) (ap (λ o. unwrap_or o r) e) named
           | false ↦ λ e. sound.readtables.each m u e
         ] (sym (get-insert name_total s.readtables n r m) ∙ there);
   };

@@ -29,8 +29,8 @@ use Rattle.plist_state.specs.Lists.{NumberedPlist, NumberedLists, plist_of_numbe
 use Rattle.plist_state.specs.Views.{Rows, room_at, lists_in, NumberedRest}
 use Rattle.plist_state.specs.Undoing.{with_value_at, with_changed_at, with_items, with_inserted, without_first, list_before, rest_before, all_undone, rests_at}
 use Rattle.plist_state.specs.KeptRows.{IsProperChange}
-use Rattle.plist_state.specs.Journal.{marks_of, IsNoted, FitsRows, LeadsBack, IsJournal, ContinuesJournal}
-use Rattle.plist_state.specs.OverwrittenValues.{before_change, before_note, before_notes, with_at, IsOverwritten, LeadsBackAs}
+use Rattle.plist_state.specs.Journal.{marks_of, CanBeUndone, FitsRows, LeadsBack, IsJournal, ContinuesJournal}
+use Rattle.plist_state.specs.OverwrittenValues.{before_change, before_note, before_notes, with_at, IsPlaceOverwritten, LeadsBackAs}
 use Rattle.plist_state.proofs.Indices.{with_value_at-past, with_value_at-twice, length-inserted}
 use Rattle.plist_state.proofs.ListRows.{one_number, get-with_row, row-with_row, with_row_twice, property_back}
 use Rattle.plist_state.proofs.Lists.{kept}
@@ -297,7 +297,7 @@ back_the_same ms ns t u back leads = record {
       journal_put ms ns u rows (leads rows left.0) (subst (λ r. IsJournal ms r rows) (sym back) left.1);
 }
 
-overwritten : (ms : List (List Note)) (ns : List Note) (x : ℕ) (p : PropertyPlace) → before_notes x ns p ≡ None → p.index < p.length → IsOverwritten (ms ++ ns ∷ []) x p
+overwritten : (ms : List (List Note)) (ns : List Note) (x : ℕ) (p : PropertyPlace) → before_notes x ns p ≡ None → p.index < p.length → IsPlaceOverwritten (ms ++ ns ∷ []) x p
 overwritten ms ns x p none within = record {
   within = within;
   same = λ r v long.
@@ -334,16 +334,16 @@ length-dropped (suc k) (n ∷ ns) = let less = length-dropped k ns in omega (ari
 
 -- the notes of the newest mark, from one of them on
 pub overwritten_since : (ms : List (Vec Note)) (newest : Vec Note) → Some newest ≡ slice_get ms (length ms - 1) → (x : ℕ) (p : PropertyPlace) (k : ℕ)
-    → before_notes x (slice_range newest.items k (length newest.items)) p ≡ None → p.index < p.length → IsOverwritten (marks_of ms) x p
+    → before_notes x (slice_range newest.items k (length newest.items)) p ≡ None → p.index < p.length → IsPlaceOverwritten (marks_of ms) x p
 overwritten_since ms newest is x p k none within =
     let split : (before : List (Vec Note)) × (ms ≡ before ++ newest ∷ []) = ends_with ms newest is in
     let marks : marks_of ms ≡ marks_of split.0 ++ newest.items ∷ [] = ap marks_of split.1 ∙ map_push (λ (v : Vec Note). v.items) split.0 newest in
     let whole : slice_range newest.items k (length newest.items) ≡ drop k newest.items = all_taken (length newest.items - k) (drop k newest.items) (length-dropped k newest.items) in
-    subst (λ ks. IsOverwritten ks x p) (sym marks)
+    subst (λ ks. IsPlaceOverwritten ks x p) (sym marks)
     (overwritten (marks_of split.0) newest.items x p (earlier_notes x k newest.items p (ap (λ ns. before_notes x ns p) (sym whole) ∙ none)) within)
 
 -- a value that was set, and is overwritten
-pub not_noted : (ms : List (List Note)) (x : ℕ) (p : PropertyPlace) (k : ℕ) (d : Datum) → p.index ≡ k → IsOverwritten ms x p → (t u : NumberedRest)
+pub not_noted : (ms : List (List Note)) (x : ℕ) (p : PropertyPlace) (k : ℕ) (d : Datum) → p.index ≡ k → IsPlaceOverwritten ms x p → (t u : NumberedRest)
     → length (plist_of_number u.properties x) ≡ p.length → rest_before (Property x (Set k d)) u ≡ t → ContinuesJournal ms t ms u
 not_noted ms x p k d here gone t u long undoes =
     subst (λ (r : NumberedRest). ContinuesJournal ms r ms u) (ap (λ j. with_at u x j (object_of d)) here ∙ undoes) (gone.same u (object_of d) long).1
@@ -366,7 +366,7 @@ continues_both ms ks ns t s u room former latter = record {
 }
 
 -- the list without the property is shorter, and with it and another value it is the one before with that value
-pub removed_noted : (ms : List (List Note)) (x k count : ℕ) (p q : NumberedProperty) → q.indicator ≡ p.indicator → IsOverwritten ms x (record { index = k; length = count })
+pub removed_noted : (ms : List (List Note)) (x k count : ℕ) (p q : NumberedProperty) → q.indicator ≡ p.indicator → IsPlaceOverwritten ms x (record { index = k; length = count })
     → LeadsBackAs ms x count (Removed k p) (Removed k q)
 removed_noted ms x k count p q same gone ns t u long undoes continues =
     let ps : NumberedPlist = plist_of_number u.properties x in
@@ -382,7 +382,7 @@ removed_noted ms x k count p q same gone ns t u long undoes continues =
 
 -- the same where a call made the rows
 pub property_noted_as : (ms ks ns : List (List Note)) → ks ≡ ms → (x count : ℕ) (change other : PropertyChange) → LeadsBackAs ks x count change other
-    → ((t u : NumberedRest) → IsNoted (Property x other) → rest_before (Property x other) u ≡ t → ContinuesJournal ks t ns u) → IsProperChange other
+    → ((t u : NumberedRest) → CanBeUndone (Property x other) → rest_before (Property x other) u ≡ t → ContinuesJournal ks t ns u) → IsProperChange other
     → (t : NumberedRest) (rows later : Rows) (ps : NumberedPlist) → count ≡ length (plist_of_number (lists_in rows) x)
     → lists_in later ≡ with_row (lists_in rows) x ps → list_before change (plist_of_number (lists_in later) x) ≡ plist_of_number (lists_in rows) x
     → ContinuesJournal ms (record t { properties = lists_in rows }) ns (record t { properties = lists_in later })

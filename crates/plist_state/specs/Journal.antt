@@ -40,13 +40,13 @@ pub record IsEntryNote (m : Readtables) (n : Name) (c : ℕ) (note : Note) : Typ
   pub was : (t : Table) → finite.get m n ≡ Some t → entry ≡ entry_at t c
 
 -- what was overwritten can be put back
-abbrev pub IsNoted : Note → Type 0
-IsNoted (Property number change) = IsProperChange change
-IsNoted (Made name) = Unit {0}
-IsNoted (Changed name change) = IsTableChange change
-IsNoted (InPackage name) = Unit {0}
-IsNoted (InReadtable name) = Unit {0}
-IsNoted (InBase base) = Unit {0}
+abbrev pub CanBeUndone : Note → Type 0
+CanBeUndone (Property number change) = IsProperChange change
+CanBeUndone (Made name) = Unit {0}
+CanBeUndone (Changed name change) = IsTableChange change
+CanBeUndone (InPackage name) = Unit {0}
+CanBeUndone (InReadtable name) = Unit {0}
+CanBeUndone (InBase base) = Unit {0}
 
 -- the rows have memory for these property lists
 abbrev pub FitsRows : Rows → NumberedRest → Type 0
@@ -55,7 +55,7 @@ FitsRows rows r = (i : ℕ) → length (plist_of_number r.properties i) ≤ room
 -- each rest on the way back over these notes can be put back, and the rows have memory for it
 abbrev pub LeadsBack : List Note → NumberedRest → Rows → Type 0
 LeadsBack [] r rows = Unit {0}
-LeadsBack (n ∷ ns) r rows = IsNoted n × FitsRows rows (all_undone (n ∷ ns) r) × LeadsBack ns r rows
+LeadsBack (n ∷ ns) r rows = CanBeUndone n × FitsRows rows (all_undone (n ∷ ns) r) × LeadsBack ns r rows
 
 -- the notes of each mark lead back, from the newest mark to the first
 abbrev pub IsJournal : List (List Note) → NumberedRest → Rows → Type 0

@@ -72,6 +72,6 @@ abbrev pub lists : Numbered → NumberedLists → Properties
 lists s m = finite.from_entries (filter_map (λ x. option_map (λ ps. (x, ps)) (property_list_of s m x)) (symbols s.0))
 
 -- each number that has a list is that of a symbol, and so is each indicator in it
-pub record IsOwned (s : Numbered) (m : NumberedLists) : Type 0 where
+pub record AreListsOfSymbols (s : Numbered) (m : NumberedLists) : Type 0 where
   pub owners : (i : ℕ) → IsTrue (finite.contains_key m i) → IsNumber s i
   pub indicators : (i : ℕ) → All (λ p. IsNumber s p.0) (plist_of_number m i)

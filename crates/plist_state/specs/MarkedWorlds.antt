@@ -8,10 +8,10 @@ use Rattle.plist_state.specs.declared.stored.Stored.{Stored}
 use Rattle.plist_state.specs.declared.world.World.TheInside.{Inside}
 use Rattle.plist_state.specs.State.{Rest, WorldState, Worlds, state_with}
 use Rattle.plist_state.specs.Sound.{IsSoundWorldState}
-use Rattle.plist_state.specs.Lists.{lists, IsOwned}
+use Rattle.plist_state.specs.Lists.{lists, AreListsOfSymbols}
 use Rattle.plist_state.specs.Views.{NumberedRest, Rows, rest_of}
 use Rattle.plist_state.specs.KeptRows.{IsProperRows}
-use Rattle.plist_state.specs.RowIndexes.{AreIndexed}
+use Rattle.plist_state.specs.RowIndexes.{AreRowIndexes}
 use Rattle.plist_state.specs.Sizes.{Sizes, AreSizes}
 use Rattle.plist_state.specs.Undoing.{rests_at}
 use Rattle.plist_state.specs.Journal.{marks_of, IsJournal}
@@ -52,41 +52,41 @@ worlds_of a =
     (state_in (table_now a.packages) (rest_of a.stored), earlier_states a.earlier.items ++ marked_states a.packages.1.marked (rests_at (marks_of a.marks.items) (rest_of a.stored)))
 
 -- at each mark, each number that has a list is that of a symbol
-abbrev pub AreOwned : List Numbered → List NumberedRest → Type 0
-AreOwned [] rests = Unit {0}
-AreOwned (s ∷ ss) [] = Unit {0}
-AreOwned (s ∷ ss) (r ∷ rests) = IsOwned s r.properties × AreOwned ss rests
+abbrev pub AreMarkedListsOfSymbols : List Numbered → List NumberedRest → Type 0
+AreMarkedListsOfSymbols [] rests = Unit {0}
+AreMarkedListsOfSymbols (s ∷ ss) [] = Unit {0}
+AreMarkedListsOfSymbols (s ∷ ss) (r ∷ rests) = AreListsOfSymbols s r.properties × AreMarkedListsOfSymbols ss rests
 
 -- The packages have as many marks as the rest. One can go back to each, and each marked state is sound.
-pub record AreKept (ss : List Numbered) (ms : List (List Note)) (r : NumberedRest) (rows : Rows) : Type 0 where
+pub record AreMarksSound (ss : List Numbered) (ms : List (List Note)) (r : NumberedRest) (rows : Rows) : Type 0 where
   pub as_many : length ss ≡ length ms
   pub journal : IsJournal ms r rows
-  pub owned : AreOwned ss (rests_at ms r)
+  pub owned : AreMarkedListsOfSymbols ss (rests_at ms r)
   pub sound : All IsSoundWorldState (marked_states ss (rests_at ms r))
 
 -- each value is proper, each index is that of its row, each size that of its list, each list has its symbol, and the state is sound, now and at each mark
 pub record IsKeptPart (packages : Tables) (stored : Stored) (notes : List (Vec Note)) (noted : Sizes) : Type 0 where
   pub values : IsProperRows stored.properties.items
-  pub indexed : AreIndexed stored.properties.items stored.indexes.entries
+  pub indexed : AreRowIndexes stored.properties.items stored.indexes.entries
   pub sizes : AreSizes (rest_of stored).properties noted
-  pub owned : IsOwned (table_now packages) (rest_of stored).properties
+  pub owned : AreListsOfSymbols (table_now packages) (rest_of stored).properties
   pub sound : IsSoundWorldState (state_in (table_now packages) (rest_of stored))
-  pub marked : AreKept packages.1.marked (marks_of notes) (rest_of stored) stored.properties.items
+  pub marked : AreMarksSound packages.1.marked (marks_of notes) (rest_of stored) stored.properties.items
 
 -- what was replaced can be put back
-abbrev pub IsReplaced : Replaced → Type 0
-IsReplaced e = IsKeptPart e.packages e.stored e.marks.items e.sizes.entries
+abbrev pub CanBePutBack : Replaced → Type 0
+CanBePutBack e = IsKeptPart e.packages e.stored e.marks.items e.sizes.entries
 
 -- what was replaced, which has so many marks
-pub record AreReplaced (es : List Replaced) (marks : ℕ) : Type 0 where
-  pub each : All IsReplaced es
+pub record AreReplacedParts (es : List Replaced) (marks : ℕ) : Type 0 where
+  pub each : All CanBePutBack es
   pub count : marks ≡ length (earlier_states es)
   pub below : marks < 2 ^ 62
 
 -- what a world keeps now is as it has to be, and so is each thing that was replaced and may come back
 pub record HasKeptWorld (a : Inside) : Type 0 where
   pub now : IsKeptPart a.packages a.stored a.marks.items a.sizes.entries
-  pub earlier : AreReplaced a.earlier.items a.earlier_marks
+  pub earlier : AreReplacedParts a.earlier.items a.earlier_marks
 
 -- On the way back to a mark of the world before, this world is nearer: it was marked there, at that mark or a later one.
 abbrev pub IsWayBack : ℕ → Worlds → Worlds → Type 0

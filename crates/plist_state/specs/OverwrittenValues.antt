@@ -40,7 +40,7 @@ abbrev pub with_at : NumberedRest → ℕ → ℕ → Object → NumberedRest
 with_at r x index v = record r { properties = with_row r.properties x (with_value_at (plist_of_number r.properties x) index v) }
 
 -- There is a property at this place, and whatever it has, one gets back to the same.
-pub record IsOverwritten (ms : List (List Note)) (x : ℕ) (p : PropertyPlace) : Type 0 where
+pub record IsPlaceOverwritten (ms : List (List Note)) (x : ℕ) (p : PropertyPlace) : Type 0 where
   pub within : p.index < p.length
   pub same : (r : NumberedRest) (v : Object) → length (plist_of_number r.properties x) ≡ p.length
       → ContinuesJournal ms r ms (with_at r x p.index v) × ContinuesJournal ms (with_at r x p.index v) ms r

@@ -32,7 +32,7 @@ abbrev pub HasRisingOrders : Orders → Type 0
 HasRisingOrders ks = (i j : ℕ) → i < j → j < length ks → (nth ks i).1 < (nth ks j).1
 
 -- The index has the order of each property of the row, and the orders rise. It may have other indicators.
-pub record IsIndexed (x ks : Orders) : Type 0 where
+pub record IsRowIndex (x ks : Orders) : Type 0 where
   pub finds : (k : ℕ) → k < length ks → order_in x (nth ks k).0 ≡ Some (nth ks k).1
   pub rising : HasRisingOrders ks
 
@@ -50,11 +50,11 @@ index_at indexes n = lookup (is_at (nat_cmp n)) indexes
 
 -- the index of a number, if there is one, is that of these properties
 abbrev pub IsIndexedIn : Indexes → ℕ → List NumberedProperty → Type 0
-IsIndexedIn indexes n items = (x : Index) → index_at indexes n ≡ Some x → IsIndexed x.entries (orders items)
+IsIndexedIn indexes n items = (x : Index) → index_at indexes n ≡ Some x → IsRowIndex x.entries (orders items)
 
 -- each index is that of the row of its number
-abbrev pub AreIndexed : Rows → Indexes → Type 0
-AreIndexed rows indexes = (n : ℕ) (row : PropertyRow) → row_at rows n ≡ Some row → IsIndexedIn indexes n row.items
+abbrev pub AreRowIndexes : Rows → Indexes → Type 0
+AreRowIndexes rows indexes = (n : ℕ) (row : PropertyRow) → row_at rows n ≡ Some row → IsIndexedIn indexes n row.items
 
 -- the indexes of other numbers are as they were
 abbrev pub KeepsOthers : Indexes → Indexes → ℕ → Type 0

@@ -18,16 +18,16 @@ abbrev pub IsSymbol : packages.Table → Symbol → Type 0
 IsSymbol t x = IsPresent t x.0 x.1 x.0
 
 -- an interned symbol is present in its home, and the name of an uninterned one has at most 4,096 characters
-abbrev pub IsKnown : packages.Table → Object → Type 0
-IsKnown t (symbol home name) = IsPresent t home name home
-IsKnown t (uninterned name) = length name ≤ 4096
-IsKnown t _ = Unit {0}
+abbrev pub IsSymbolStorable : packages.Table → Object → Type 0
+IsSymbolStorable t (symbol home name) = IsPresent t home name home
+IsSymbolStorable t (uninterned name) = length name ≤ 4096
+IsSymbolStorable t _ = Unit {0}
 
 -- a value that may be stored: an object of depth at most 100 whose symbols are there
 pub record IsValue (t : packages.Table) (x : Object) : Type 0 where
   pub object : object.IsSound x
   pub depth : object_depth x ≤ 100
-  pub symbols : AllAtoms (IsKnown t) x
+  pub symbols : AllAtoms (IsSymbolStorable t) x
 
 -- no indicator stands twice
 abbrev pub IsApart : Plist → Type 0
@@ -42,7 +42,7 @@ pub record IsPlist (t : packages.Table) (ps : Plist) : Type 0 where
   pub values : All (λ p. IsValue t p.1) ps
 
 -- a readtable whose functions are named by keywords
-pub record IsNamed (t : packages.Table) (r : readtable.Table) : Type 0 where
+pub record HasKeywordFunctions (t : packages.Table) (r : readtable.Table) : Type 0 where
   pub readtable : IsReadtable r
   pub functions : list_all (is_symbol t keyword) (functions_of r) ≡ true
 
@@ -52,7 +52,7 @@ pub record IsReadtables (t : packages.Table) (m : Readtables) : Type 0 where
   pub user : IsTrue (finite.contains_key m user_name)
   pub count : finite.len m ≤ 64
   pub names : (n : Name) → IsTrue (finite.contains_key m n) → IsSymbol t (keyword, n)
-  pub each : (n : Name) (r : readtable.Table) → finite.get m n ≡ Some r → IsNamed t r
+  pub each : (n : Name) (r : readtable.Table) → finite.get m n ≡ Some r → HasKeywordFunctions t r
 
 -- The packages are sound, the symbols that have properties are there, the current names name something, and numbers are
 -- read in a base from 2 to 36.

@@ -6,7 +6,7 @@ ghost use Rattle.readtable_core.specs.Tables.{Table};
 ghost use Rattle.plist_state.specs.State.{Readtables};
 ghost use Rattle.plist_state.specs.Views.{NumberedRest};
 ghost use Rattle.plist_state.specs.Undoing.{rest_before, restores};
-ghost use Rattle.plist_state.specs.Journal.{marks_of, has_room, IsNoted, ContinuesJournal, ContinuesTables};
+ghost use Rattle.plist_state.specs.Journal.{marks_of, has_room, CanBeUndone, ContinuesJournal, ContinuesTables};
 
 use crate::note::Note;
 use std::alloc::{AllocError, Global};
@@ -43,7 +43,7 @@ pub(crate) fn reserve_named(
 /// Notes a change under the newest mark, if there is one.
 pub(crate) fn push_note(marks: &mut Vec<Vec<Note>>, note: Note)
     requires { has_room marks.old.items }
-    ensures { (t u : NumberedRest) → IsNoted note → rest_before note u ≡ t
+    ensures { (t u : NumberedRest) → CanBeUndone note → rest_before note u ≡ t
         → ContinuesJournal (marks_of marks.old.items) t (marks_of marks.new.items) u }
 {
     if let Some(newest) = marks.last_mut() {

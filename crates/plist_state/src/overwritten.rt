@@ -2,7 +2,7 @@
 ghost use Rattle.std.specs.Prelude.{◌≡◌, ◌<◌, ◌≤◌, ◌-◌, ◌^◌, None, true, length};
 ghost use Rattle.plist_state.specs.Journal.{marks_of};
 ghost use Rattle.plist_state.specs.KeptRows.{IsProperChange};
-ghost use Rattle.plist_state.specs.OverwrittenValues.{before_change, before_note, before_notes, IsOverwritten, LeadsBackAs};
+ghost use Rattle.plist_state.specs.OverwrittenValues.{before_change, before_note, before_notes, IsPlaceOverwritten, LeadsBackAs};
 
 use crate::note::{Note, PropertyChange};
 use lisp_object::Datum;
@@ -117,7 +117,7 @@ pub(crate) fn is_overwritten(
     place: PropertyPlace,
     value: &Datum,
 ) -> bool
-    ensures { result ≡ true → IsOverwritten (marks_of marks.now) number place }
+    ensures { result ≡ true → IsPlaceOverwritten (marks_of marks.now) number place }
 {
     let Some(notes) = marks.last() else {
         return false;

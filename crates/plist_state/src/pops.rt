@@ -8,7 +8,7 @@ ghost use Rattle.plist_state.specs.PoppedLists.{with_popped_by, with_popped_in};
 ghost use Rattle.plist_state.specs.Lists.{same_number, plist_of_number, value_in};
 ghost use Rattle.plist_state.specs.Views.{plist_of, lists_of};
 ghost use Rattle.plist_state.specs.Undoing.{GoesBack, element_count, with_changed_at, with_items};
-ghost use Rattle.plist_state.specs.RowIndexes.{IsIndexedIn, AreIndexed};
+ghost use Rattle.plist_state.specs.RowIndexes.{IsIndexedIn, AreRowIndexes};
 ghost use Rattle.plist_state.specs.KeptRows.{IsProperRow, IsProperRows, IsProperChange, IsWider};
 
 use crate::first_items::{pop_first, put_items};
@@ -64,7 +64,7 @@ pub(crate) fn pop(
     space: Vec<Datum>,
 ) -> PropertyChange
     requires values { IsProperRows rows.old.items }
-    requires indexed { AreIndexed rows.old.items indexes.now.entries }
+    requires indexed { AreRowIndexes rows.old.items indexes.now.entries }
 
     // The list has more, and `space` has room for it.
     requires more { let list = unwrap_or (value_in (lists_of rows.old) number indicator) nil in
@@ -81,7 +81,7 @@ pub(crate) fn pop(
 
     // No row has less room, and each index fits its row.
     ensures wider { IsWider rows.old.items rows.new.items }
-    ensures indexed { AreIndexed rows.new.items indexes.now.entries }
+    ensures indexed { AreRowIndexes rows.new.items indexes.now.entries }
 {
     let Some(row) = rows.get_mut(number as usize) else {
         unreachable!()

@@ -4,7 +4,7 @@ ghost use Rattle.std.specs.List.{position, insert};
 ghost use Rattle.std.specs.Ordering.{nat_cmp, eq_by_cmp};
 ghost use Rattle.property_rows.specs.declared.property.NumberedProperty.{NumberedProperty as Numbered};
 ghost use Rattle.plist_state.specs.Lists.{same_number};
-ghost use Rattle.plist_state.specs.RowIndexes.{Orders, orders, nth, order_in, HasRisingOrders, IsIndexed, IsIndexedIn, KeepsOthers};
+ghost use Rattle.plist_state.specs.RowIndexes.{Orders, orders, nth, order_in, HasRisingOrders, IsRowIndex, IsIndexedIn, KeepsOthers};
 
 use property_rows::{NumberedProperty, Row};
 use std::alloc::{AllocError, Global};
@@ -53,7 +53,7 @@ fn by_order(row: &Row, order: u64) -> Option<usize>
 
 // The place of the indicator in a row with an index.
 fn indexed(index: &Index, row: &Row, indicator: u32) -> Option<usize>
-    requires { IsIndexed index.now.entries (orders row.now.items) }
+    requires { IsRowIndex index.now.entries (orders row.now.items) }
     ensures { result ≡ position (λ p. same_number indicator p.indicator) row.now.items }
 {
     let Some(order) = index.get(&indicator) else {
@@ -96,7 +96,7 @@ fn next_order(row: &Row) -> Result<u64, AllocError>
 
 // The index of a row, if its orders rise and no indicator comes twice.
 fn index_of(alloc: Global, row: &Row) -> Result<Option<Index>, AllocError>
-    ensures { IfOk result (λ index. IfSome index (λ x. IsIndexed x.entries (orders row.now.items))) }
+    ensures { IfOk result (λ index. IfSome index (λ x. IsRowIndex x.entries (orders row.now.items))) }
 {
     let mut index = BTreeMap::new(alloc);
     let mut next = 0;

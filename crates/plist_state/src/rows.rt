@@ -9,7 +9,7 @@ ghost use Rattle.plist_state.specs.PushedLists.{holds_pair, with_pushed_by, with
 ghost use Rattle.plist_state.specs.Lists.{same_number, plist_of_number, value_in, with_row, with_value_in, without_value_in};
 ghost use Rattle.plist_state.specs.Views.{items_in, numbered_property, plist_of, lists_of, row_at, room_at};
 ghost use Rattle.plist_state.specs.Undoing.{list_before, GoesBack};
-ghost use Rattle.plist_state.specs.RowIndexes.{IsIndexedIn, AreIndexed, KeepsOthers};
+ghost use Rattle.plist_state.specs.RowIndexes.{IsIndexedIn, AreRowIndexes, KeepsOthers};
 ghost use Rattle.plist_state.specs.KeptRows.{IsProperRow, IsProperRows, IsProperChange, IsEmptyList, IsWider};
 
 use crate::first_items::{put_first, take_first};
@@ -25,7 +25,7 @@ pub(crate) fn row<'a>(rows: &'a Vec<Row>, number: u32) -> Option<&'a Row>
     requires { IsProperRows rows.now.items }
     ensures list { map numbered_property (items_in result) ≡ plist_of_number (lists_of rows.now) number }
     ensures proper { All (λ p. is_proper p.value ≡ true) (items_in result) }
-    ensures indexed { (indexes : _) → AreIndexed rows.now.items indexes
+    ensures indexed { (indexes : _) → AreRowIndexes rows.now.items indexes
         → IsIndexedIn indexes number (items_in result) }
 {
     rows.get(number as usize)
@@ -49,7 +49,7 @@ pub(crate) fn value<'a>(
     indicator: u32,
 ) -> Option<&'a Datum>
     requires values { IsProperRows rows.now.items }
-    requires indexed { AreIndexed rows.now.items indexes.now.entries }
+    requires indexed { AreRowIndexes rows.now.items indexes.now.entries }
     ensures value { option_map (λ d. object_of d.now) result
         ≡ value_in (lists_of rows.now) number indicator }
     ensures proper { IfSome result (λ d. is_proper d.now ≡ true) }
@@ -209,8 +209,8 @@ fn add_row(alloc: Global, rows: &mut Vec<Row>, number: u32) -> Result<(), AllocE
     ensures there { OnOk result (IsSome (row_at rows.new.items number)) }
     ensures same { lists_of rows.new ≡ lists_of rows.old }
     ensures wider { IsWider rows.old.items rows.new.items }
-    ensures indexed { (indexes : _) → AreIndexed rows.old.items indexes
-        → AreIndexed rows.new.items indexes }
+    ensures indexed { (indexes : _) → AreRowIndexes rows.old.items indexes
+        → AreRowIndexes rows.new.items indexes }
 {
     while rows.len() <= number as usize {
         rows.push(Row::new(alloc))?;
@@ -236,7 +236,7 @@ fn write_at(
     requires proper { is_proper value ≡ true }
     requires row { IsSome (row_at rows.old.items number) }
     requires values { IsProperRows rows.old.items }
-    requires indexed { AreIndexed rows.old.items indexes.old.entries }
+    requires indexed { AreRowIndexes rows.old.items indexes.old.entries }
     ensures ok { IfOk result (λ _. lists_of rows.new
         ≡ with_value_in (lists_of rows.old) number indicator (object_of value)) }
     ensures back { IfOk result
@@ -246,7 +246,7 @@ fn write_at(
     // No row has less room, and each index fits its row; out of memory leaves all properties as they were.
     ensures wider { IsWider rows.old.items rows.new.items }
     ensures err { OnErr result (lists_of rows.new ≡ lists_of rows.old) }
-    ensures indexed { AreIndexed rows.new.items indexes.new.entries }
+    ensures indexed { AreRowIndexes rows.new.items indexes.new.entries }
 {
     let Some(row) = rows.get_mut(number as usize) else {
         unreachable!()
@@ -269,7 +269,7 @@ pub(crate) fn put(
 ) -> Result<PropertyChange, AllocError>
     requires proper { is_proper value ≡ true }
     requires values { IsProperRows rows.old.items }
-    requires indexed { AreIndexed rows.old.items indexes.old.entries }
+    requires indexed { AreRowIndexes rows.old.items indexes.old.entries }
     ensures ok { IfOk result (λ _. lists_of rows.new
         ≡ with_value_in (lists_of rows.old) number indicator (object_of value)) }
     ensures back { IfOk result
@@ -279,7 +279,7 @@ pub(crate) fn put(
     // No row has less room, and each index fits its row; out of memory leaves all properties as they were.
     ensures wider { IsWider rows.old.items rows.new.items }
     ensures err { OnErr result (lists_of rows.new ≡ lists_of rows.old) }
-    ensures indexed { AreIndexed rows.new.items indexes.new.entries }
+    ensures indexed { AreRowIndexes rows.new.items indexes.new.entries }
 {
     add_row(alloc, rows, number)?;
     write_at(alloc, rows, indexes, number, indicator, value)
@@ -298,7 +298,7 @@ pub(crate) fn push(
     requires first { is_proper first ≡ true }
     requires empty { IsEmptyList empty }
     requires values { IsProperRows rows.old.items }
-    requires indexed { AreIndexed rows.old.items indexes.now.entries }
+    requires indexed { AreRowIndexes rows.old.items indexes.now.entries }
     requires list { holds_pair (value_in (lists_of rows.old) number indicator) ≡ true }
     ensures ok { IfOk result (λ _. lists_of rows.new
         ≡ with_pushed_in (lists_of rows.old) number indicator (object_of first)) }
@@ -309,7 +309,7 @@ pub(crate) fn push(
     // No row has less room, and each index fits its row; out of memory leaves all properties as they were.
     ensures wider { IsWider rows.old.items rows.new.items }
     ensures err { OnErr result (lists_of rows.new ≡ lists_of rows.old) }
-    ensures indexed { AreIndexed rows.new.items indexes.now.entries }
+    ensures indexed { AreRowIndexes rows.new.items indexes.now.entries }
 {
     let Some(row) = rows.get_mut(number as usize) else {
         unreachable!()
@@ -328,7 +328,7 @@ pub(crate) fn remove(
     indicator: u32,
 ) -> Option<PropertyChange>
     requires values { IsProperRows rows.old.items }
-    requires indexed { AreIndexed rows.old.items indexes.now.entries }
+    requires indexed { AreRowIndexes rows.old.items indexes.now.entries }
     ensures after { lists_of rows.new
         ≡ without_value_in (lists_of rows.old) number indicator }
     ensures had { is_some result
@@ -337,7 +337,7 @@ pub(crate) fn remove(
         (GoesBack (plist_of_number (lists_of rows.old) number) (plist_of_number (lists_of rows.new) number)) }
     ensures former { IfSome result IsProperChange }
     ensures wider { IsWider rows.old.items rows.new.items }
-    ensures indexed { AreIndexed rows.new.items indexes.now.entries }
+    ensures indexed { AreRowIndexes rows.new.items indexes.now.entries }
 {
     match rows.get_mut(number as usize) {
         Some(row) => cut(row, indexes, number, indicator),
@@ -354,13 +354,13 @@ pub(crate) fn take_back(
 )
     requires former { IsProperChange change }
     requires values { IsProperRows rows.old.items }
-    requires indexed { AreIndexed rows.old.items indexes.old.entries }
+    requires indexed { AreRowIndexes rows.old.items indexes.old.entries }
     requires room { length (list_before change (plist_of_number (lists_of rows.old) number))
         ≤ room_at rows.old.items number }
     ensures after { lists_of rows.new
         ≡ with_row (lists_of rows.old) number (list_before change (plist_of_number (lists_of rows.old) number)) }
     ensures wider { IsWider rows.old.items rows.new.items }
-    ensures indexed { AreIndexed rows.new.items indexes.new.entries }
+    ensures indexed { AreRowIndexes rows.new.items indexes.new.entries }
 {
     if let Some(row) = rows.get_mut(number as usize) {
         revert(row, indexes, number, change);
@@ -372,8 +372,8 @@ pub(crate) fn take_back(
 pub(crate) fn tidy(rows: &mut Vec<Row>, number: u32)
     ensures same { lists_of rows.new ≡ lists_of rows.old }
     ensures wider { IsWider rows.old.items rows.new.items }
-    ensures indexed { (indexes : _) → AreIndexed rows.old.items indexes
-        → AreIndexed rows.new.items indexes }
+    ensures indexed { (indexes : _) → AreRowIndexes rows.old.items indexes
+        → AreRowIndexes rows.new.items indexes }
 {
     if let Some(row) = rows.get_mut(number as usize) {
         row.tidy();

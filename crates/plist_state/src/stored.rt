@@ -8,7 +8,7 @@ ghost use Rattle.plist_state.specs.PoppedLists.{with_popped_in};
 ghost use Rattle.plist_state.specs.State.{first_readtables};
 ghost use Rattle.plist_state.specs.Lists.{value_in, with_value_in, without_value_in};
 ghost use Rattle.plist_state.specs.Views.{NumberedRest, first_numbered, rest_of, lists_of, readtables_of};
-ghost use Rattle.plist_state.specs.RowIndexes.{AreIndexed};
+ghost use Rattle.plist_state.specs.RowIndexes.{AreRowIndexes};
 ghost use Rattle.plist_state.specs.KeptRows.{IsProperRows, IsWider};
 ghost use Rattle.plist_state.specs.Undoing.{rest_before, element_count};
 ghost use Rattle.plist_state.specs.declared.note.Note.TheVariants.{Property};
@@ -60,7 +60,7 @@ fn first_readtables(alloc: Global) -> Result<BTreeMap<Vec<u8>, Readtable>, Alloc
 pub(crate) fn first_stored(alloc: Global) -> Result<Stored, AllocError>
     ensures first { IfOk result (λ stored. rest_of stored ≡ first_numbered) }
     ensures values { IfOk result (λ stored. IsProperRows stored.properties.items) }
-    ensures indexed { IfOk result (λ stored. AreIndexed stored.properties.items stored.indexes.entries) }
+    ensures indexed { IfOk result (λ stored. AreRowIndexes stored.properties.items stored.indexes.entries) }
 {
     let readtables = first_readtables(alloc)?;
     Ok(Stored {
@@ -107,14 +107,14 @@ pub(crate) fn put(
 ) -> Result<(), AllocError>
     requires proper { is_proper value ≡ true }
     requires values { IsProperRows stored.old.properties.items }
-    requires indexed { AreIndexed stored.old.properties.items stored.old.indexes.entries }
+    requires indexed { AreRowIndexes stored.old.properties.items stored.old.indexes.entries }
     ensures ok { let r = rest_of stored.old in
         OnOk result (rest_of stored.new ≡ record r {
           properties = with_value_in r.properties number indicator (object_of value);
         }) }
     ensures err { OnErr result (rest_of stored.new ≡ rest_of stored.old) }
     ensures wider { IsWider stored.old.properties.items stored.new.properties.items }
-    ensures indexed { AreIndexed stored.new.properties.items stored.new.indexes.entries }
+    ensures indexed { AreRowIndexes stored.new.properties.items stored.new.indexes.entries }
     ensures marked { ContinuesJournal (marks_of marks.old.items) (rest_of stored.old)
         (marks_of marks.new.items) (rest_of stored.new) }
 {
@@ -148,7 +148,7 @@ pub(crate) fn push(
 ) -> Result<(), AllocError>
     requires first { is_proper first ≡ true }
     requires values { IsProperRows stored.old.properties.items }
-    requires indexed { AreIndexed stored.old.properties.items stored.old.indexes.entries }
+    requires indexed { AreRowIndexes stored.old.properties.items stored.old.indexes.entries }
     requires list { holds_pair (value_in (rest_of stored.old).properties number indicator) ≡ true }
 
     // The property has the item first; or memory ran out, and it is as it was.
@@ -160,7 +160,7 @@ pub(crate) fn push(
 
     // No row has less room, each index fits its row, and the marks lead back to what they led back to.
     ensures wider { IsWider stored.old.properties.items stored.new.properties.items }
-    ensures indexed { AreIndexed stored.new.properties.items stored.new.indexes.entries }
+    ensures indexed { AreRowIndexes stored.new.properties.items stored.new.indexes.entries }
     ensures marked { ContinuesJournal (marks_of marks.old.items) (rest_of stored.old)
         (marks_of marks.new.items) (rest_of stored.new) }
 {
@@ -190,7 +190,7 @@ fn shorten(
     count: usize,
 ) -> Result<(), AllocError>
     requires values { IsProperRows stored.old.properties.items }
-    requires indexed { AreIndexed stored.old.properties.items stored.old.indexes.entries }
+    requires indexed { AreRowIndexes stored.old.properties.items stored.old.indexes.entries }
     requires count { let old = value_in (rest_of stored.old).properties number indicator in
         element_count (unwrap_or old nil) ≡ count }
     requires more { 1 < count }
@@ -204,7 +204,7 @@ fn shorten(
 
     // No row has less room, each index fits its row, and the marks lead back to what they led back to.
     ensures wider { IsWider stored.old.properties.items stored.new.properties.items }
-    ensures indexed { AreIndexed stored.new.properties.items stored.new.indexes.entries }
+    ensures indexed { AreRowIndexes stored.new.properties.items stored.new.indexes.entries }
     ensures marked { ContinuesJournal (marks_of marks.old.items) (rest_of stored.old)
         (marks_of marks.new.items) (rest_of stored.new) }
 {
@@ -231,7 +231,7 @@ pub(crate) fn pop(
     indicator: u32,
 ) -> Result<(), AllocError>
     requires values { IsProperRows stored.old.properties.items }
-    requires indexed { AreIndexed stored.old.properties.items stored.old.indexes.entries }
+    requires indexed { AreRowIndexes stored.old.properties.items stored.old.indexes.entries }
     requires list { holds_pair (value_in (rest_of stored.old).properties number indicator) ≡ true }
 
     // The property has the rest; or memory ran out, and it is as it was.
@@ -243,7 +243,7 @@ pub(crate) fn pop(
 
     // No row has less room, each index fits its row, and the marks lead back to what they led back to.
     ensures wider { IsWider stored.old.properties.items stored.new.properties.items }
-    ensures indexed { AreIndexed stored.new.properties.items stored.new.indexes.entries }
+    ensures indexed { AreRowIndexes stored.new.properties.items stored.new.indexes.entries }
     ensures marked { ContinuesJournal (marks_of marks.old.items) (rest_of stored.old)
         (marks_of marks.new.items) (rest_of stored.new) }
 {
@@ -260,10 +260,10 @@ pub(crate) fn pop(
 
 // Moves the properties of the symbol of a number together, if there is no mark: then nothing that was taken out comes back.
 fn tidy_unmarked(stored: &mut Stored, marks: &[Vec<Note>], number: u32)
-    requires { AreIndexed stored.old.properties.items stored.old.indexes.entries }
+    requires { AreRowIndexes stored.old.properties.items stored.old.indexes.entries }
     ensures same { rest_of stored.new ≡ rest_of stored.old }
     ensures wider { IsWider stored.old.properties.items stored.new.properties.items }
-    ensures indexed { AreIndexed stored.new.properties.items stored.new.indexes.entries }
+    ensures indexed { AreRowIndexes stored.new.properties.items stored.new.indexes.entries }
 {
     if marks.is_empty() {
         rows::tidy(&mut stored.properties, number);
@@ -279,7 +279,7 @@ pub(crate) fn remove(
     indicator: u32,
 ) -> Result<bool, AllocError>
     requires values { IsProperRows stored.old.properties.items }
-    requires indexed { AreIndexed stored.old.properties.items stored.old.indexes.entries }
+    requires indexed { AreRowIndexes stored.old.properties.items stored.old.indexes.entries }
 
     // The property is gone, and whether it was there; or memory ran out, and it is as it was.
     ensures ok { let r = rest_of stored.old in
@@ -294,7 +294,7 @@ pub(crate) fn remove(
 
     // No row has less room, each index fits its row, and the marks lead back to what they led back to.
     ensures wider { IsWider stored.old.properties.items stored.new.properties.items }
-    ensures indexed { AreIndexed stored.new.properties.items stored.new.indexes.entries }
+    ensures indexed { AreRowIndexes stored.new.properties.items stored.new.indexes.entries }
     ensures marked { ContinuesJournal (marks_of marks.old.items) (rest_of stored.old)
         (marks_of marks.new.items) (rest_of stored.new) }
 {
@@ -315,10 +315,10 @@ pub(crate) fn remove(
 
 // Moves what is left of the property lists together from which these notes took properties out.
 fn tidy_noted(stored: &mut Stored, notes: &[Note])
-    requires { AreIndexed stored.old.properties.items stored.old.indexes.entries }
+    requires { AreRowIndexes stored.old.properties.items stored.old.indexes.entries }
     ensures same { rest_of stored.new ≡ rest_of stored.old }
     ensures wider { IsWider stored.old.properties.items stored.new.properties.items }
-    ensures indexed { AreIndexed stored.new.properties.items stored.new.indexes.entries }
+    ensures indexed { AreRowIndexes stored.new.properties.items stored.new.indexes.entries }
 {
     for note in notes {
         if let Some(number) = note.shortens() {
@@ -329,10 +329,10 @@ fn tidy_noted(stored: &mut Stored, notes: &[Note])
 
 /// Moves what is left of the property lists together from which properties were taken out since these marks.
 pub(crate) fn tidy(stored: &mut Stored, marks: &[Vec<Note>])
-    requires { AreIndexed stored.old.properties.items stored.old.indexes.entries }
+    requires { AreRowIndexes stored.old.properties.items stored.old.indexes.entries }
     ensures same { rest_of stored.new ≡ rest_of stored.old }
     ensures wider { IsWider stored.old.properties.items stored.new.properties.items }
-    ensures indexed { AreIndexed stored.new.properties.items stored.new.indexes.entries }
+    ensures indexed { AreRowIndexes stored.new.properties.items stored.new.indexes.entries }
 {
     for notes in marks {
         tidy_noted(stored, notes.as_slice());

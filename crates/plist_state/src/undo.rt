@@ -3,23 +3,23 @@
 ghost use Rattle.std.specs.Prelude.{◌≡◌, ◌<◌, length, take, Some};
 ghost use Rattle.std.specs.List.{slice_get};
 ghost use Rattle.plist_state.specs.Views.{rest_of};
-ghost use Rattle.plist_state.specs.RowIndexes.{AreIndexed};
+ghost use Rattle.plist_state.specs.RowIndexes.{AreRowIndexes};
 ghost use Rattle.plist_state.specs.KeptRows.{IsProperRows, IsWider};
 ghost use Rattle.plist_state.specs.Undoing.{rest_before, all_undone, rests_at};
-ghost use Rattle.plist_state.specs.Journal.{marks_of, IsNoted, IsJournal, FitsRows, LeadsBack};
+ghost use Rattle.plist_state.specs.Journal.{marks_of, CanBeUndone, IsJournal, FitsRows, LeadsBack};
 
 use crate::note::Note;
 use crate::stored::Stored;
 use crate::{rows, tables};
 
 fn undo(stored: &mut Stored, note: Note)
-    requires note { IsNoted note }
+    requires note { CanBeUndone note }
     requires values { IsProperRows stored.old.properties.items }
-    requires indexed { AreIndexed stored.old.properties.items stored.old.indexes.entries }
+    requires indexed { AreRowIndexes stored.old.properties.items stored.old.indexes.entries }
     requires room { FitsRows stored.old.properties.items (rest_before note (rest_of stored.old)) }
     ensures after { rest_of stored.new ≡ rest_before note (rest_of stored.old) }
     ensures wider { IsWider stored.old.properties.items stored.new.properties.items }
-    ensures indexed { AreIndexed stored.new.properties.items stored.new.indexes.entries }
+    ensures indexed { AreRowIndexes stored.new.properties.items stored.new.indexes.entries }
 {
     match note {
         Note::Property { number, change } => {
@@ -38,10 +38,10 @@ fn undo(stored: &mut Stored, note: Note)
 fn undo_all(stored: &mut Stored, notes: Vec<Note>)
     requires leads { LeadsBack notes.items (rest_of stored.old) stored.old.properties.items }
     requires values { IsProperRows stored.old.properties.items }
-    requires indexed { AreIndexed stored.old.properties.items stored.old.indexes.entries }
+    requires indexed { AreRowIndexes stored.old.properties.items stored.old.indexes.entries }
     ensures after { rest_of stored.new ≡ all_undone notes.items (rest_of stored.old) }
     ensures wider { IsWider stored.old.properties.items stored.new.properties.items }
-    ensures indexed { AreIndexed stored.new.properties.items stored.new.indexes.entries }
+    ensures indexed { AreRowIndexes stored.new.properties.items stored.new.indexes.entries }
 {
     let mut notes = notes;
     while let Some(note) = notes.pop() {
@@ -55,7 +55,7 @@ pub(crate) fn undo_to(stored: &mut Stored, marks: &mut Vec<Vec<Note>>, mark: usi
     requires journal { IsJournal (marks_of marks.old.items) (rest_of stored.old)
         stored.old.properties.items }
     requires values { IsProperRows stored.old.properties.items }
-    requires indexed { AreIndexed stored.old.properties.items stored.old.indexes.entries }
+    requires indexed { AreRowIndexes stored.old.properties.items stored.old.indexes.entries }
 
     // The state is that of the mark, and the marks before it stay.
     ensures past { rests_at (marks_of marks.new.items) (rest_of stored.new)
@@ -68,7 +68,7 @@ pub(crate) fn undo_to(stored: &mut Stored, marks: &mut Vec<Vec<Note>>, mark: usi
     ensures journal { IsJournal (marks_of marks.new.items) (rest_of stored.new)
         stored.new.properties.items }
     ensures wider { IsWider stored.old.properties.items stored.new.properties.items }
-    ensures indexed { AreIndexed stored.new.properties.items stored.new.indexes.entries }
+    ensures indexed { AreRowIndexes stored.new.properties.items stored.new.indexes.entries }
 {
     loop {
         let Some(newest) = marks.pop() else {

@@ -4,7 +4,7 @@ ghost use Rattle.std.specs.Option.{option_map};
 ghost use Rattle.std.specs.FinMap as finite;
 ghost use Rattle.lisp_object.specs.Datum.{object_of, is_proper};
 ghost use Rattle.plist_state.specs.Changes.{plist, property};
-ghost use Rattle.plist_state.specs.MarkedWorlds.{worlds_in, IsReplaced};
+ghost use Rattle.plist_state.specs.MarkedWorlds.{worlds_in, CanBePutBack};
 ghost use Rattle.plist_state.specs.PushedLists.{pair_size};
 ghost use Rattle.plist_state.specs.Views.{symbol_of, symbol_named};
 ghost use Rattle.plist_state.specs.Sound.{IsSoundWorld};
@@ -100,7 +100,7 @@ impl World {
     // What it keeps, where no state is marked.
     pub(crate) fn into_parts(self) -> Replaced
         requires { self.1 ≡ [] }
-        ensures kept { IsReplaced result }
+        ensures kept { CanBePutBack result }
         ensures same { worlds_in result ≡ self }
     {
         let World {

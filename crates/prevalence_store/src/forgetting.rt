@@ -5,7 +5,7 @@ ghost use Rattle.lisp_object.specs.Datum.{is_proper, object_of};
 ghost use Rattle.lisp_object.specs.Object.{integer};
 ghost use Rattle.package_table.specs.Table.{Table};
 ghost use Rattle.lisp_operators.specs.EvaluationAnswers.{Answers, IsArgument, done};
-ghost use Rattle.forgotten_names.specs.WorldsWithoutNames.{forgotten};
+ghost use Rattle.forgotten_names.specs.WorldsWithoutNames.{without_unneeded_symbols};
 ghost use Rattle.prevalence_store.specs.meaning.Forgetting.{counting, forgettable_count, forgetting, held_symbols, is_forget_names, is_forgetting};
 
 use crate::whole_macros::WholeMacros;
@@ -116,7 +116,7 @@ fn leave_out<R: MacroFunctions>(
     count: usize,
 ) -> Result<(), AllocError>
     requires count { count ≡ forgettable_count world.old.0 }
-    ensures left { OnOk result (world.new.0 ≡ forgotten held_symbols world.old.0) }
+    ensures left { OnOk result (world.new.0 ≡ without_unneeded_symbols held_symbols world.old.0) }
     ensures marked { OnOk result (world.new.1 ≡ world.old.1 ++ world.old.0 ∷ []) }
     ensures unchanged { OnErr result (world.new ≡ world.old) }
 {

@@ -4,7 +4,7 @@ ghost use Rattle.std.specs.List.{AllByRecursion};
 ghost use Rattle.gate_log.specs.Layout.{IsLogRecord, LogRecord};
 ghost use Rattle.plist_state.specs.State.{WorldState, Worlds};
 ghost use Rattle.prevalence_store.specs.meaning.Acceptance.{after};
-ghost use Rattle.prevalence_store.specs.steps.Batch.{IsEmpty, IsMarked, entries_in};
+ghost use Rattle.prevalence_store.specs.steps.Batch.{IsEmpty, IsWorldMarked, entries_in};
 
 use crate::batch::Batch;
 use crate::whole_macros::WholeMacros;
@@ -36,6 +36,6 @@ pub trait Turn<R: MacroFunctions> {
         ensures made { IfOk result (makes self.now world.old.0 world.new.0 (entries_in batch.new)) }
         ensures again { OnOk result (after R.Meaning.functions world.old.0 (entries_in batch.new) ≡ Some world.new.0) }
         ensures fit { OnOk result (AllByRecursion IsLogRecord (entries_in batch.new)) }
-        ensures marks { (worlds : Worlds) → IsMarked worlds world.old.1
-            → IsMarked worlds world.new.1 };
+        ensures marks { (worlds : Worlds) → IsWorldMarked worlds world.old.1
+            → IsWorldMarked worlds world.new.1 };
 }

@@ -9,7 +9,7 @@ ghost use Rattle.messages.specs.Position.{position};
 
 use disk_trait::{Disk, MemoryDisk};
 use feeding_laws::{fed_sessions, feeding_on};
-use message_session::{Ended, serve_messages};
+use message_session::{MessagesEnd, serve_messages};
 use prevalence_store::Store;
 use std::alloc::{AllocError, Global};
 use std::io::{Read, Write};
@@ -28,19 +28,19 @@ fn feed_again<D: Disk, M: MacroFunctions, I: Read, O: Write>(
     store: &mut Store<D, M>,
     input: &mut I,
     output: &mut O,
-) -> Ended
+) -> MessagesEnd
     ensures again { (last p : ℕ) (first now : WorldState) (frames : List Sent)
         → store.old.world ≡ Some now → FeedsAgain M.Meaning.functions last first frames now → position now ≡ Some p
         → AllByRecursion (IsFrame text_limit) frames
         → I.remaining input.old ≡ Some (flat_map frame_bytes (over p frames))
-        → result ≡ Ended.End
+        → result ≡ MessagesEnd.End
         → AreAnsweredAgain M.Meaning.functions store.new last first frames p (O.contents output.old) (O.contents output.new) }
     ensures twice { (last p : ℕ) (first middle now : WorldState) (frames : List Sent)
         → store.old.world ≡ Some now → FeedsAgain M.Meaning.functions last first frames middle
         → FeedsAgain M.Meaning.functions (told_position middle) middle (over (told_position middle) frames) now
         → position now ≡ Some p → AllByRecursion (IsFrame text_limit) frames
         → I.remaining input.old ≡ Some (flat_map frame_bytes (over p frames))
-        → result ≡ Ended.End
+        → result ≡ MessagesEnd.End
         → AreAnsweredAgain M.Meaning.functions store.new last first frames p (O.contents output.old) (O.contents output.new) }
     ensures macros { store.new.macros ≡ store.old.macros }
 {

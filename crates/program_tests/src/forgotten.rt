@@ -1,6 +1,6 @@
 //! A world from which the symbols went that it does not need.
 ghost use Rattle.std.specs.Prelude.{◌≡◌, ◌+◌, IfOk, Some};
-ghost use Rattle.forgotten_names.specs.WorldsWithoutNames.{forgotten};
+ghost use Rattle.forgotten_names.specs.WorldsWithoutNames.{without_unneeded_symbols};
 ghost use Rattle.package_table.specs.Lookup.{home_by_name, is_used};
 ghost use Rattle.package_table.specs.Readers.{imports};
 ghost use Rattle.package_table.specs.Table.{Name, symbol_count};
@@ -31,7 +31,7 @@ fn without_unneeded<M: MacroFunctions>(
 ) -> Result<(World, usize), AllocError>
     requires answers { M.answers macros.now }
     ensures sound { IfOk result (λ left. IsSoundWorldState left.0.0) }
-    ensures again { IfOk result (λ left. forgotten (borrowed_symbols held.now) left.0.0 ≡ left.0.0) }
+    ensures again { IfOk result (λ left. without_unneeded_symbols (borrowed_symbols held.now) left.0.0 ≡ left.0.0) }
     ensures count { IfOk result (λ left. symbol_count left.0.0.packages + left.1 ≡ symbol_count world.now.0.packages) }
     ensures none { IfOk result (λ left. left.1 ≡ 0 → left.0.0 ≡ world.now.0) }
     ensures kept { IfOk result (λ left. (p n h : Name) → home_by_name left.0.0.packages p n ≡ Some h → home_by_name world.now.0.packages p n ≡ Some h) }

@@ -15,7 +15,7 @@ use Rattle.std.proofs.Math.Seq.{take-append_seam, drop-append_seam, take-append-
 use Rattle.std.proofs.lemmas.List.{take-append-drop, length-append, length-take-le, length-drop, length_push, append_assoc}
 use Rattle.std.specs.List.{slice_index_or}
 use Rattle.property_rows.specs.declared.slot.Slot.{Slot}
-use Rattle.property_rows.specs.Slots.{is_gone, property_in, there, gone_in, slot_at, full, IsNode, IsCounted, IsTree, IsTreeSize, IsSlots}
+use Rattle.property_rows.specs.Slots.{is_gone, property_in, there, gone_in, slot_at, full, IsNode, AreSlotsCounted, IsTree, IsTreeSize, IsSlots}
 
 pub there-append : (a b : List Slot) → there (a ++ b) ≡ there a ++ there b
 there-append [] b = refl
@@ -39,11 +39,11 @@ there_and_gone (s ∷ ss) =
     ] refl
 
 -- ---- trees of another depth
-short_node : (d : ℕ) (before rest : List Slot) → ((slots : List Slot) → IsCounted d slots → length slots ≤ full d) → IsNode (IsCounted d) before rest → length rest ≤ suc (full d)
+short_node : (d : ℕ) (before rest : List Slot) → ((slots : List Slot) → AreSlotsCounted d slots → length slots ≤ full d) → IsNode (AreSlotsCounted d) before rest → length rest ≤ suc (full d)
 short_node d before [] short node = omega arith
 short_node d before (s ∷ ss) short node = let e = short ss node.1 in omega (arith, e)
 
-pub counted-short : (d : ℕ) (slots : List Slot) → IsCounted d slots → length slots ≤ full d
+pub counted-short : (d : ℕ) (slots : List Slot) → AreSlotsCounted d slots → length slots ≤ full d
 counted-short zero slots counted = let e = ap length counted in omega (arith, e)
 counted-short (suc d) slots counted =
     let front = counted-short d (take (full d) slots) counted.0 in
@@ -59,32 +59,32 @@ take_all zero (s ∷ ss) le = absurd (omega (arith, le))
 take_all (suc n) [] le = refl
 take_all (suc n) (s ∷ ss) le = ap (λ ts. s ∷ ts) (take_all n ss (omega (arith, le)))
 
-pub counted-lower : (d : ℕ) (slots : List Slot) → length slots ≤ full d → IsCounted (suc d) slots → IsCounted d slots
-counted-lower d slots le counted = subst (IsCounted d) (take_all (full d) slots le) counted.0
+pub counted-lower : (d : ℕ) (slots : List Slot) → length slots ≤ full d → AreSlotsCounted (suc d) slots → AreSlotsCounted d slots
+counted-lower d slots le counted = subst (AreSlotsCounted d) (take_all (full d) slots le) counted.0
 
-pub counted-higher : (d : ℕ) (slots : List Slot) → IsCounted d slots → IsCounted (suc d) slots
+pub counted-higher : (d : ℕ) (slots : List Slot) → AreSlotsCounted d slots → AreSlotsCounted (suc d) slots
 counted-higher d slots counted =
     let le = counted-short d slots counted in (
-      subst (IsCounted d) (sym (take_all (full d) slots le)) counted,
-      subst (IsNode (IsCounted d) (take (full d) slots)) (sym (drop_of_length-le slots le)) tt,
+      subst (AreSlotsCounted d) (sym (take_all (full d) slots le)) counted,
+      subst (IsNode (AreSlotsCounted d) (take (full d) slots)) (sym (drop_of_length-le slots le)) tt,
     )
 
 -- ---- a slot, and the trees beside it
-pub node : (d : ℕ) (l : List Slot) (s : Slot) (r : List Slot) → length l ≡ full d → IsCounted (suc d) (l ++ s ∷ r)
-    → IsCounted d l × (s.gone / 2 ≡ gone_in l) × IsCounted d r
+pub node : (d : ℕ) (l : List Slot) (s : Slot) (r : List Slot) → length l ≡ full d → AreSlotsCounted (suc d) (l ++ s ∷ r)
+    → AreSlotsCounted d l × (s.gone / 2 ≡ gone_in l) × AreSlotsCounted d r
 node d l s r long counted =
     let front : take (full d) (l ++ s ∷ r) ≡ l = subst (λ n. take n (l ++ s ∷ r) ≡ l) long (take-append_seam l (s ∷ r)) in
     let back : drop (full d) (l ++ s ∷ r) ≡ s ∷ r = subst (λ n. drop n (l ++ s ∷ r) ≡ s ∷ r) long (drop-append_seam l (s ∷ r)) in
-    let here : (s.gone / 2 ≡ gone_in l) × IsCounted d r = subst (λ (ts : List Slot × List Slot). IsNode (IsCounted d) ts.0 ts.1) (λ i. (front i, back i)) counted.1 in
-    (subst (IsCounted d) front counted.0, here.0, here.1)
+    let here : (s.gone / 2 ≡ gone_in l) × AreSlotsCounted d r = subst (λ (ts : List Slot × List Slot). IsNode (AreSlotsCounted d) ts.0 ts.1) (λ i. (front i, back i)) counted.1 in
+    (subst (AreSlotsCounted d) front counted.0, here.0, here.1)
 
-pub node-back : (d : ℕ) (l : List Slot) (s : Slot) (r : List Slot) → length l ≡ full d → IsCounted d l → s.gone / 2 ≡ gone_in l → IsCounted d r
-    → IsCounted (suc d) (l ++ s ∷ r)
+pub node-back : (d : ℕ) (l : List Slot) (s : Slot) (r : List Slot) → length l ≡ full d → AreSlotsCounted d l → s.gone / 2 ≡ gone_in l → AreSlotsCounted d r
+    → AreSlotsCounted (suc d) (l ++ s ∷ r)
 node-back d l s r long before count after =
     let front : take (full d) (l ++ s ∷ r) ≡ l = subst (λ n. take n (l ++ s ∷ r) ≡ l) long (take-append_seam l (s ∷ r)) in
     let back : drop (full d) (l ++ s ∷ r) ≡ s ∷ r = subst (λ n. drop n (l ++ s ∷ r) ≡ s ∷ r) long (drop-append_seam l (s ∷ r)) in (
-      subst (IsCounted d) (sym front) before,
-      subst (λ (ts : List Slot × List Slot). IsNode (IsCounted d) ts.0 ts.1) (λ i. (sym front i, sym back i)) (count, after),
+      subst (AreSlotsCounted d) (sym front) before,
+      subst (λ (ts : List Slot × List Slot). IsNode (AreSlotsCounted d) ts.0 ts.1) (λ i. (sym front i, sym back i)) (count, after),
     )
 
 -- ---- where a property is
@@ -114,11 +114,11 @@ pub record Parts (size : ℕ) (slots : List Slot) (s : Slot) (after : List Slot)
   pub later : IsTree size after
   pub whole : take size slots ++ s ∷ after ≡ slots
 
-parts_of : (d size : ℕ) (slots : List Slot) (s : Slot) (after : List Slot) → size ≡ full d → suc size ≤ length slots → take size slots ++ s ∷ after ≡ slots → IsCounted (suc d) slots
+parts_of : (d size : ℕ) (slots : List Slot) (s : Slot) (after : List Slot) → size ≡ full d → suc size ≤ length slots → take size slots ++ s ∷ after ≡ slots → AreSlotsCounted (suc d) slots
     → Parts size slots s after
 parts_of d size slots s after is le whole counted =
     let long : length (take size slots) ≡ full d = length-take-le size slots (omega (arith, le)) ∙ is in
-    let at = node d (take size slots) s after long (subst (IsCounted (suc d)) (sym whole) counted) in
+    let at = node d (take size slots) s after long (subst (AreSlotsCounted (suc d)) (sym whole) counted) in
     record {
       before = record { depth = d; whole = is; counted = at.0 };
       count = at.1;
@@ -129,7 +129,7 @@ parts_of d size slots s after is le whole counted =
 pub parts : (size : ℕ) (slots : List Slot) (s : Slot) (after : List Slot) → (size ≡ 0 → ⊥) → suc (size / 2) ≤ length slots → take (size / 2) slots ++ s ∷ after ≡ slots → IsTree size slots
     → Parts (size / 2) slots s after
 parts size slots s after some le whole tree =
-    elim tree.depth as (λ d. size ≡ full d → IsCounted d slots → Parts (size / 2) slots s after) [
+    elim tree.depth as (λ d. size ≡ full d → AreSlotsCounted d slots → Parts (size / 2) slots s after) [
       | zero ↦ λ is counted. absurd (some is)
       | suc d ↦ λ is counted. parts_of d (size / 2) slots s after (omega (arith, is)) le whole counted
     ] tree.whole tree.counted
@@ -261,22 +261,22 @@ full_grows : (k d : ℕ) → full d ≤ full (raise k d)
 full_grows zero d = omega arith
 full_grows (suc k) d = let e = full_grows k d in omega (arith, e)
 
-higher : (k d : ℕ) (slots : List Slot) → IsCounted d slots → IsCounted (raise k d) slots
+higher : (k d : ℕ) (slots : List Slot) → AreSlotsCounted d slots → AreSlotsCounted (raise k d) slots
 higher zero d slots counted = counted
 higher (suc k) d slots counted = counted-higher (raise k d) slots (higher k d slots counted)
 
-lower : (k d : ℕ) (slots : List Slot) → length slots ≤ full d → IsCounted (raise k d) slots → IsCounted d slots
+lower : (k d : ℕ) (slots : List Slot) → length slots ≤ full d → AreSlotsCounted (raise k d) slots → AreSlotsCounted d slots
 lower zero d slots le counted = counted
 lower (suc k) d slots le counted =
     let more = full_grows k d in
     lower k d slots le (counted-lower (raise k d) slots (omega (arith, le, more)) counted)
 
-pub counted-any : (d e : ℕ) (slots : List Slot) → length slots ≤ full e → IsCounted d slots → IsCounted e slots
+pub counted-any : (d e : ℕ) (slots : List Slot) → length slots ≤ full e → AreSlotsCounted d slots → AreSlotsCounted e slots
 counted-any d e slots le counted =
     let one = raise_is e d in
     let two = raise_is d e in
     let both : raise e d ≡ raise d e = omega (arith, one, two) in
-    lower d e slots le (subst (λ n. IsCounted n slots) both (higher e d slots counted))
+    lower d e slots le (subst (λ n. AreSlotsCounted n slots) both (higher e d slots counted))
 
 pub tree-any : (size other : ℕ) (slots : List Slot) → IsTreeSize other → length slots ≤ other → IsTree size slots → IsTree other slots
 tree-any size other slots whole le tree =
@@ -372,8 +372,8 @@ cut (suc n) (s ∷ a) b =
     let c = cut n a b in
     record { more = c.more; rest = c.rest; take_is = ap (λ ts. s ∷ ts) c.take_is; drop_is = c.drop_is; none = c.none }
 
-node_front : (d : ℕ) (before more rest b : List Slot) → ((x y : List Slot) → IsCounted d (x ++ y) → IsCounted d x) → ((length rest ≡ 0 → ⊥) → more ≡ [])
-    → IsNode (IsCounted d) (before ++ more) (rest ++ b) → IsNode (IsCounted d) before rest
+node_front : (d : ℕ) (before more rest b : List Slot) → ((x y : List Slot) → AreSlotsCounted d (x ++ y) → AreSlotsCounted d x) → ((length rest ≡ 0 → ⊥) → more ≡ [])
+    → IsNode (AreSlotsCounted d) (before ++ more) (rest ++ b) → IsNode (AreSlotsCounted d) before rest
 node_front d before more [] b each none node = tt
 node_front d before more (s ∷ ss) b each none node =
     let empty = ap gone_in (none (λ e. omega (arith, e))) in
@@ -381,14 +381,14 @@ node_front d before more (s ∷ ss) b each none node =
     let sum = gone-append before more in
     (omega (arith, count, sum, empty), each ss b node.1)
 
-counted-front : (d : ℕ) (a b : List Slot) → IsCounted d (a ++ b) → IsCounted d a
+counted-front : (d : ℕ) (a b : List Slot) → AreSlotsCounted d (a ++ b) → AreSlotsCounted d a
 counted-front zero [] b counted = refl
 counted-front zero (s ∷ a) b counted = absurd (let e = ap length counted in omega (arith, e))
 counted-front (suc d) a b counted =
     let c = cut (full d) a b in (
-      counted-front d (take (full d) a) c.more (subst (IsCounted d) c.take_is counted.0),
+      counted-front d (take (full d) a) c.more (subst (AreSlotsCounted d) c.take_is counted.0),
       node_front d (take (full d) a) c.more (drop (full d) a) c.rest (counted-front d) c.none
-          (subst (λ (ts : List Slot × List Slot). IsNode (IsCounted d) ts.0 ts.1) (λ i. (c.take_is i, c.drop_is i)) counted.1),
+          (subst (λ (ts : List Slot × List Slot). IsNode (AreSlotsCounted d) ts.0 ts.1) (λ i. (c.take_is i, c.drop_is i)) counted.1),
     )
 
 full_over : (d : ℕ) → d ≤ full d

@@ -13,7 +13,7 @@ use Rattle.std.proofs.lemmas.Iterator.Adapters.{position_from-zero}
 use Rattle.std.proofs.lemmas.List.{length-map, length-take, length-drop, length-append}
 use Rattle.property_rows.specs.declared.slot.Slot.{Slot}
 use Rattle.property_rows.specs.declared.property.NumberedProperty.{NumberedProperty}
-use Rattle.property_rows.specs.Slots.{is_gone, property_in, there, gone_in, full, most_slots, IsNode, IsCounted, IsTree, IsTreeSize, IsSlots, uncounted_slot, slots_there, has, no_property}
+use Rattle.property_rows.specs.Slots.{is_gone, property_in, there, gone_in, full, most_slots, IsNode, AreSlotsCounted, IsTree, IsTreeSize, IsSlots, uncounted_slot, slots_there, has, no_property}
 use Rattle.property_rows.proofs.Counted.{counted-any}
 
 pub packed-there : (slots : List Slot) → there (slots_there slots) ≡ there slots
@@ -50,20 +50,20 @@ drop-uncounted zero slots = refl
 drop-uncounted (suc n) [] = refl
 drop-uncounted (suc n) (s ∷ ss) = drop-uncounted n ss
 
-uncounted_node : (d : ℕ) (before rest : List Slot) → ((slots : List Slot) → length slots ≤ full d → IsCounted d (map uncounted_slot slots)) → gone_in before ≡ 0 → length rest ≤ suc (full d)
-    → IsNode (IsCounted d) before (map uncounted_slot rest)
+uncounted_node : (d : ℕ) (before rest : List Slot) → ((slots : List Slot) → length slots ≤ full d → AreSlotsCounted d (map uncounted_slot slots)) → gone_in before ≡ 0 → length rest ≤ suc (full d)
+    → IsNode (AreSlotsCounted d) before (map uncounted_slot rest)
 uncounted_node d before [] each none le = tt
 uncounted_node d before (s ∷ ss) each none le = (sym none, each ss (omega (arith, le)))
 
-pub uncounted-counted : (d : ℕ) (slots : List Slot) → length slots ≤ full d → IsCounted d (map uncounted_slot slots)
+pub uncounted-counted : (d : ℕ) (slots : List Slot) → length slots ≤ full d → AreSlotsCounted d (map uncounted_slot slots)
 uncounted-counted zero [] le = refl
 uncounted-counted zero (s ∷ ss) le = absurd (omega (arith, le))
 uncounted-counted (suc d) slots le =
     let front = length-take (full d) slots in
     let back = length-drop (full d) slots in
     let none : gone_in (take (full d) (map uncounted_slot slots)) ≡ 0 = ap gone_in (sym (take-uncounted (full d) slots)) ∙ uncounted-none (take (full d) slots) in (
-      subst (IsCounted d) (take-uncounted (full d) slots) (uncounted-counted d (take (full d) slots) (grind (arith, front))),
-      subst (IsNode (IsCounted d) (take (full d) (map uncounted_slot slots))) (drop-uncounted (full d) slots)
+      subst (AreSlotsCounted d) (take-uncounted (full d) slots) (uncounted-counted d (take (full d) slots) (grind (arith, front))),
+      subst (IsNode (AreSlotsCounted d) (take (full d) (map uncounted_slot slots))) (drop-uncounted (full d) slots)
           (uncounted_node d (take (full d) (map uncounted_slot slots)) (drop (full d) slots) (uncounted-counted d) none (omega (arith, back, le))),
     )
 
@@ -107,7 +107,7 @@ pub gone-same : (a b : List Slot) → counts a ≡ counts b → gone_in a ≡ go
 gone-same a b e = gone_sum-is a ∙ ap gone_sum e ∙ sym (gone_sum-is b)
 
 node-same : (d : ℕ) (before before_too rest rest_too : List Slot) → gone_in before ≡ gone_in before_too → counts rest ≡ counts rest_too
-    → ((x y : List Slot) → counts x ≡ counts y → IsCounted d x → IsCounted d y) → IsNode (IsCounted d) before rest → IsNode (IsCounted d) before_too rest_too
+    → ((x y : List Slot) → counts x ≡ counts y → AreSlotsCounted d x → AreSlotsCounted d y) → IsNode (AreSlotsCounted d) before rest → IsNode (AreSlotsCounted d) before_too rest_too
 node-same d before before_too [] [] gone e each node = tt
 node-same d before before_too [] (t ∷ ts) gone e each node = absurd (let l = ap length e in omega (arith, l))
 node-same d before before_too (s ∷ ss) [] gone e each node = tt
@@ -116,7 +116,7 @@ node-same d before before_too (s ∷ ss) (t ∷ ts) gone e each node =
     let count : s.gone / 2 ≡ gone_in before = node.0 in
     (omega (arith, first, count, gone), each ss ts (ap (drop (suc zero)) e) node.1)
 
-pub counted-same : (d : ℕ) (a b : List Slot) → counts a ≡ counts b → IsCounted d a → IsCounted d b
+pub counted-same : (d : ℕ) (a b : List Slot) → counts a ≡ counts b → AreSlotsCounted d a → AreSlotsCounted d b
 counted-same zero a [] e counted = refl
 counted-same zero a (t ∷ ts) e counted = absurd (let l : length (counts []) ≡ length (counts (t ∷ ts)) = ap (λ ss. length (counts ss)) (sym counted) ∙ ap length e in omega (arith, l))
 counted-same (suc d) a b e counted =

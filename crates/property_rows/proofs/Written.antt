@@ -14,7 +14,7 @@ use Rattle.std.proofs.lemmas.List.{length-map, length_push}
 use Rattle.property_rows.specs.declared.slot.Slot.{Slot}
 use Rattle.property_rows.specs.declared.property.NumberedProperty.{NumberedProperty}
 use Rattle.property_rows.specs.Slots.{is_gone, property_in, there, slot_at, slot_shown, blank, no_property, most_slots, IsTree, IsSlots, uncounted_slot, slots_there}
-use Rattle.property_rows.specs.Vacant.{IsVacant}
+use Rattle.property_rows.specs.Vacant.{IsVacantSlot}
 use Rattle.property_rows.proofs.Counted.{there-append}
 use Rattle.property_rows.proofs.Turned.{Shown, there_of, there_shown, shown-length}
 use Rattle.property_rows.proofs.Holding.{slot_at-within, slot_at-shown, removed, replaced, inserted, shown-set, shown-written, shown-turned, got_same}
@@ -75,7 +75,7 @@ turned_slots size slots turned at x shows are tree =
     tree-slots size turned (omega (arith, same, few)) tree
 
 -- a slot came back, and was filled
-pub back_there : (slots turned : List Slot) (index at : ℕ) (x : Shown) (s t : Slot) → IsVacant slots at index → map slot_shown turned ≡ set (map slot_shown slots) at x → x.0 ≡ false
+pub back_there : (slots turned : List Slot) (index at : ℕ) (x : Shown) (s t : Slot) → IsVacantSlot slots at index → map slot_shown turned ≡ set (map slot_shown slots) at x → x.0 ≡ false
     → s ≡ get_or turned at s → t.gone ≡ s.gone → there (set turned at t) ≡ insert (there slots) index (property_in t)
 back_there slots turned index at x s t is shows here read same =
     let within = is.place in

@@ -41,15 +41,15 @@ IsNode after before [] = Unit {0}
 IsNode after before (s ∷ ss) = (s.gone / 2 ≡ gone_in before) × after ss
 
 -- The slots are those of a tree of this depth, from its front on, and each knows how many are gone in the tree before it.
-abbrev pub IsCounted : ℕ → List Slot → Type 0
-IsCounted zero slots = slots ≡ []
-IsCounted (suc d) slots = IsCounted d (take (full d) slots) × IsNode (IsCounted d) (take (full d) slots) (drop (full d) slots)
+abbrev pub AreSlotsCounted : ℕ → List Slot → Type 0
+AreSlotsCounted zero slots = slots ≡ []
+AreSlotsCounted (suc d) slots = AreSlotsCounted d (take (full d) slots) × IsNode (AreSlotsCounted d) (take (full d) slots) (drop (full d) slots)
 
 -- they are those of a tree of this size
 pub record IsTree (size : ℕ) (slots : List Slot) : Type 0 where
   pub depth : ℕ
   pub whole : size ≡ full depth
-  pub counted : IsCounted depth slots
+  pub counted : AreSlotsCounted depth slots
 
 -- a size that such a tree has
 pub record IsTreeSize (size : ℕ) : Type 0 where
@@ -74,7 +74,7 @@ most_slots = 2147483647
 
 -- the slots are counted, in each tree that they fit, and not too many
 pub record IsSlots (slots : List Slot) : Type 0 where
-  pub counted : (d : ℕ) → length slots ≤ full d → IsCounted d slots
+  pub counted : (d : ℕ) → length slots ≤ full d → AreSlotsCounted d slots
   pub few : length slots ≤ most_slots
 
 -- a slot that is there, and counts nothing

@@ -5,7 +5,7 @@ use Rattle.property_rows.specs.declared.slot.Slot.{Slot}
 use Rattle.property_rows.specs.Slots.{is_gone, there, blank}
 
 -- It is gone, and so many properties are there before it.
-pub record IsVacant (slots : List Slot) (at index : ℕ) : Type 0 where
+pub record IsVacantSlot (slots : List Slot) (at index : ℕ) : Type 0 where
   pub place : at < length slots
   pub gone : is_gone (slice_index_or slots at blank) ≡ true
   pub before : length (there (take at slots)) ≡ index

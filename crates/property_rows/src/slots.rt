@@ -1,7 +1,7 @@
 //! Slots, as a row keeps them.
 ghost use Rattle.std.specs.Prelude.{◌≡◌, ◌+◌, ◌-◌, ◌<◌, ◌≤◌, ◌==◌, true, false, not, [], ◌∷◌, ◌++◌, map, length, take, is_ok, if◌then◌else◌, IfSome, IsOk, slice_index_or, slice_set, vec_capacity};
 ghost use Rattle.std.specs.List.{filter, position, insert, remove};
-ghost use Rattle.property_rows.specs.Vacant.{IsVacant};
+ghost use Rattle.property_rows.specs.Vacant.{IsVacantSlot};
 ghost use Rattle.property_rows.specs.Slots.{IsSlots, gone_in, slot_at, is_gone, property_in, there, uncounted_slot, slots_there, blank, no_property, has, with_value, most_slots};
 
 use crate::NumberedProperty;
@@ -135,7 +135,7 @@ fn first_from(slots: &[Slot], order: u64) -> usize
 // Whether a slot is gone, and so many properties are there before it.
 fn is_vacant(slots: &[Slot], at: usize, index: usize) -> bool
     requires { IsSlots slots.now }
-    ensures { result ≡ true → IsVacant slots.now at index }
+    ensures { result ≡ true → IsVacantSlot slots.now at index }
 {
     if at >= slots.len() || slots[at].gone % 2 != 1 {
         return false;
@@ -147,7 +147,7 @@ fn is_vacant(slots: &[Slot], at: usize, index: usize) -> bool
 /// says nothing of the row: the property is put in as a new one then.
 pub(crate) fn vacant(slots: &[Slot], index: usize, order: u64) -> Option<usize>
     requires { IsSlots slots.now }
-    ensures { IfSome result (λ at. IsVacant slots.now at index) }
+    ensures { IfSome result (λ at. IsVacantSlot slots.now at index) }
 {
     let at = first_from(slots, order);
     if is_vacant(slots, at, index) {
@@ -159,7 +159,7 @@ pub(crate) fn vacant(slots: &[Slot], index: usize, order: u64) -> Option<usize>
 /// A property comes to an index, in a slot that is gone.
 pub(crate) fn bring_back(slots: &mut [Slot], index: usize, at: usize, property: NumberedProperty)
     requires slots { IsSlots slots.old }
-    requires vacant { IsVacant slots.old at index }
+    requires vacant { IsVacantSlot slots.old at index }
     ensures slots { IsSlots slots.new }
     ensures items { there slots.new ≡ insert (there slots.old) index property }
 {

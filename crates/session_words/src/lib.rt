@@ -12,4 +12,4 @@ mod wanted;
 
 pub use content::Content;
 pub use mode::Mode;
-pub use wanted::Wanted;
+pub use wanted::SessionOptions;

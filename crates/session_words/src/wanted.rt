@@ -3,7 +3,7 @@ use crate::mode::Mode;
 
 /// What a session is asked to do.
 #[derive(Clone, Copy, Debug, PartialEq, Eq)]
-pub struct Wanted {
+pub struct SessionOptions {
     /// How its forms are read.
     pub mode: Mode,
     /// After so many forms that were logged it takes a snapshot; never if this is 0.

@@ -11,7 +11,7 @@ use Rattle.session_words.specs.declared.mode.Mode.{Mode}
 use Rattle.sessions.specs.declared.ending.Ended.{Ended}
 use Rattle.sessions.specs.declared.ending.Ended.TheVariants as ways
 use Rattle.sessions.specs.declared.ending.Place.{Place}
-use Rattle.session_words.specs.declared.wanted.Wanted.{Wanted}
+use Rattle.session_words.specs.declared.wanted.SessionOptions.{SessionOptions}
 use Rattle.sessions.specs.declared.ending.Ending.{Ending}
 use Rattle.sessions.specs.declared.ending.Ending.TheVariants.{End, Reader, Store}
 use Rattle.prevalence_store.specs.meaning.Acceptance.{read_in}
@@ -19,7 +19,7 @@ use Rattle.user_macros.specs.Functions.{Functions}
 use Rattle.sessions.specs.Answers.{Progress, after_forms, first_progress, onward}
 use Rattle.sessions.specs.steps.Input.{HasForm, IsPending}
 use Rattle.sessions.specs.Pace.{EndsInPace, Paces, fill_of}
-use Rattle.sessions.specs.Serve.{Advances, AreAccepted, IsAfter, IsPlace, Serves, ServesInPace, StaysAnswered, StaysRefused, StopsStrict}
+use Rattle.sessions.specs.Serve.{Advances, AreFormsAccepted, IsAfter, IsPlace, Serves, ServesInPace, StaysAnswered, StaysRefused, StopsStrict}
 use Rattle.prevalence_store.specs.calls.Store.{StoreView}
 use Rattle.sessions.specs.steps.Serve.{AnswersPiece, PieceComesTo, EndsAt, GoesOn, HasEndedAt, ServesStrict}
 use Rattle.sessions.specs.steps.Course.{Course}
@@ -93,7 +93,7 @@ module _ (functions : Functions) {D R : Type 0} (state : D → State) where
 
   -- a form that a piece decides was answered, and so many bytes of the piece were taken
   pub form_answered : (w : WorldState) (mode : Mode) (pending : Pending) (bytes piece : List ℕ) (n count : ℕ) (x : Object) (own : List ℕ) (left : Bool)
-      → (has : HasForm functions w mode pending (bytes ++ take n piece) x own left) → n ≤ length piece → count + cond left 1 0 ≡ n → (wanted : Wanted) → wanted.mode ≡ mode → (course later : Course) (old new : StoreView D R)
+      → (has : HasForm functions w mode pending (bytes ++ take n piece) x own left) → n ≤ length piece → count + cond left 1 0 ≡ n → (wanted : SessionOptions) → wanted.mode ≡ mode → (course later : Course) (old new : StoreView D R)
       (a b : Option (List ℕ)) (refusals : List ℕ) → PassesForm functions state course later old new w wanted (bytes ++ take n piece) a b has.start has.next refusals → (wanted.strict ≡ true → refusals ≡ [])
       → GoesOn functions state wanted.strict course later old new w mode (bytes ++ piece) a b pending (drop count piece)
   form_answered w mode pending bytes piece n count x own left has within taken wanted same_mode course later old new a b refusals passes accepted =
@@ -111,7 +111,7 @@ module _ (functions : Functions) {D R : Type 0} (state : D → State) where
 
   -- ---- one after the other
 
-  module _ (sound : (d : D) → IsHonest (state d) → IsSoundDisk (state d)) (wanted : Wanted) (course later last : Course) (old mid new : StoreView D R) (w : WorldState) (mode : Mode) (a b c : Option (List ℕ)) (pending : Pending)
+  module _ (sound : (d : D) → IsHonest (state d) → IsSoundDisk (state d)) (wanted : SessionOptions) (course later last : Course) (old mid new : StoreView D R) (w : WorldState) (mode : Mode) (a b c : Option (List ℕ)) (pending : Pending)
       (honest : (state mid.disk).honest ≡ (state old.disk).honest) where
     module _ (text : List ℕ) (left : List ℕ) (first : GoesOn functions state wanted.strict course later old mid w mode text a b pending left) where
       abbrev p : Progress
@@ -123,8 +123,8 @@ module _ (functions : Functions) {D R : Type 0} (state : D → State) where
       none_of : (refusals : List ℕ) → (wanted.strict ≡ true → refusals ≡ []) → wanted.strict ≡ true → p.refused ++ refusals ≡ []
       none_of refusals second is = ap (λ l. l ++ refusals) (first.accepted is) ∙ second is
 
-      all_of : (forms lines : ℕ) (far answered : Progress) → (wanted.strict ≡ true → AreAccepted forms lines far answered) → wanted.strict ≡ true
-          → AreAccepted (forms + first.forms) (lines + first.forms) (onward p far) (onward p answered)
+      all_of : (forms lines : ℕ) (far answered : Progress) → (wanted.strict ≡ true → AreFormsAccepted forms lines far answered) → wanted.strict ≡ true
+          → AreFormsAccepted (forms + first.forms) (lines + first.forms) (onward p far) (onward p answered)
       all_of forms lines far answered second is =
           (none_of answered.refused (λ strict. (second strict).0) is, λ more. none_of far.refused (λ strict. (second strict).1 (omega (arith, more))) is)
 
@@ -287,7 +287,7 @@ module _ (functions : Functions) {D R : Type 0} (state : D → State) where
         ends_both_at text [] first ended (subst (λ t. EndsAt functions state wanted later mid new first.far.world mode t b c ended) (sym (first.rest ∙ append-nil first.bytes)) second)
 
   -- the session ended within a piece
-  pub ended_within : (wanted : Wanted) (course later : Course) (old new : StoreView D R) (w : WorldState) (mode : Mode) (a b : Option (List ℕ)) (after : Pending) (bytes piece : List ℕ) (n : ℕ) (ended : Ended)
+  pub ended_within : (wanted : SessionOptions) (course later : Course) (old new : StoreView D R) (w : WorldState) (mode : Mode) (a b : Option (List ℕ)) (after : Pending) (bytes piece : List ℕ) (n : ℕ) (ended : Ended)
       → AnswersPiece functions state wanted course later old new w mode (bytes ++ take n piece) a b after (Some ended) → AnswersPiece functions state wanted course later old new w mode (bytes ++ piece) a b after (Some ended)
   ended_within wanted course later old new w mode a b after bytes piece n ended is more =
       subst (λ t. HasEndedAt functions state wanted course old new w mode t a b ended)
@@ -295,7 +295,7 @@ module _ (functions : Functions) {D R : Type 0} (state : D → State) where
       ∙ sym (append_assoc bytes piece more)) (is (drop n piece ++ more))
 
   -- a read failed after it
-  pub unread_after : (wanted : Wanted) (course later : Course) (old new : StoreView D R) (w : WorldState) (mode : Mode) (text : List ℕ) (a b : Option (List ℕ)) (pending : Pending)
+  pub unread_after : (wanted : SessionOptions) (course later : Course) (old new : StoreView D R) (w : WorldState) (mode : Mode) (text : List ℕ) (a b : Option (List ℕ)) (pending : Pending)
       → GoesOn functions state wanted.strict course later old new w mode text a b pending []
       → (served : ServesStrict functions state wanted course old new w mode text a b (Store INPUT)) × StaysAnswered functions w mode text served.0.forms served.0.far
   unread_after wanted course later old new w mode text a b pending goes =

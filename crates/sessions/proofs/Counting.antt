@@ -4,7 +4,7 @@ use Rattle.std.specs.List.{flat_map}
 use Rattle.std.proofs.lemmas.List.Sums.{sum_by-append}
 use Rattle.gate_log.specs.Layout.{LogRecord, open_record}
 use Rattle.plist_state.specs.State.{WorldState}
-use Rattle.sessions.specs.Pace.{Fill, HasGrown, IsDue, IsDueByCount, Pace, Paces, longer_by}
+use Rattle.sessions.specs.Pace.{Fill, HasHalfGrown, IsDue, IsDueByCount, Pace, Paces, fill_with_record}
 use Rattle.sessions.specs.Serve.{room_of}
 use Rattle.prevalence_store.specs.meaning.Acceptance.{Acceptance, accepts, after, mode_of}
 use Rattle.sessions.specs.steps.Schedule.{CountsAll, IsBeforeDue, IsBeforeGrown}
@@ -46,7 +46,7 @@ never_counted (suc count) pace later few never every ratio still left =
 
 -- records that take no more bytes than there are before a half has grown enough leave it too small
 pub before_grown : (ratio room : ℕ) (fill now : Fill) (es : List LogRecord) → IsBeforeGrown ratio fill room → room_of es ≤ room → now.size ≡ fill.size + room_of es → now.first_size ≡ fill.first_size
-    → 0 < length es → HasGrown ratio now.size now.first_size → ⊥
+    → 0 < length es → HasHalfGrown ratio now.size now.first_size → ⊥
 before_grown ratio room fill now [] before within size first some grown = absurd (omega (arith, some))
 before_grown ratio room fill now (e ∷ es) before within size first some grown =
     before (omega (arith, within, room_first e es)) (grown.0, omega (arith, grown.1, size, within), subst (λ n. ratio * n ≤ fill.size + room) first (omega (arith, grown.2, size, within)))
@@ -90,13 +90,13 @@ module _ (functions : Functions) (limit : ℕ) where
   first_of w v es (Err number) is = absurd (cc)
 
   -- no snapshot is due after one of them, if the half has not grown enough with all of them
-  none_due : (pace : Pace) (fill now : Fill) → (IsDueByCount pace → ⊥) → (HasGrown pace.ratio now.size now.first_size → ⊥) → now.first_size ≡ fill.first_size → fill.size ≤ now.size → IsDue pace fill → ⊥
+  none_due : (pace : Pace) (fill now : Fill) → (IsDueByCount pace → ⊥) → (HasHalfGrown pace.ratio now.size now.first_size → ⊥) → now.first_size ≡ fill.first_size → fill.size ≤ now.size → IsDue pace fill → ⊥
   none_due pace fill now few small first less (inl due) = few due
   none_due pace fill now few small first less (inr grown) =
       small (grown.0, omega (arith, grown.1, less), subst (λ n. pace.ratio * n ≤ now.size) (sym first) (omega (arith, grown.2, less)))
 
   pub all_paced : (w v : WorldState) (es : List LogRecord) (pace later : Pace) (fill now : Fill) → after functions w es ≡ Some v → CountsAll (length es) pace later
-      → (0 < length es → HasGrown pace.ratio now.size now.first_size → ⊥) → (0 < length es → fill.size + room_of es ≤ limit)
+      → (0 < length es → HasHalfGrown pace.ratio now.size now.first_size → ⊥) → (0 < length es → fill.size + room_of es ≤ limit)
       → now.generation ≡ fill.generation → now.record_count ≡ fill.record_count + length es → now.size ≡ fill.size + room_of es → now.first_size ≡ fill.first_size
       → Paces functions limit w es pace later fill now
   all_paced w v [] pace later fill now there counts small fits generation records size start =
@@ -111,14 +111,14 @@ module _ (functions : Functions) (limit : ℕ) where
       let room = fits (omega arith) in (
         given.world,
         counted,
-        longer_by e fill,
+        fill_with_record e fill,
         record {
           given_is = ap (stepped functions []) is.1;
-          logged = longer_by e fill;
+          logged = fill_with_record e fill;
           logs = record { room = fill; made = inl refl; fits = omega (arith, first, room); now_is = refl };
           counts = one;
-          followed = inl (none_due pace (longer_by e fill) now not_due grown_not start (omega (arith, first, size)), refl);
+          followed = inl (none_due pace (fill_with_record e fill) now not_due grown_not start (omega (arith, first, size)), refl);
         },
-        all_paced given.world v es counted later (longer_by e fill) now is.2 others (λ some. subst (λ r. HasGrown r now.size now.first_size → ⊥) (sym one.ratio) grown_not) (λ some. omega (arith, first, room))
+        all_paced given.world v es counted later (fill_with_record e fill) now is.2 others (λ some. subst (λ r. HasHalfGrown r now.size now.first_size → ⊥) (sym one.ratio) grown_not) (λ some. omega (arith, first, room))
             generation (omega (arith, records)) (omega (arith, first, size)) start,
       )

@@ -13,14 +13,14 @@ use Rattle.sessions.specs.declared.ending.Ended.TheVariants as ways
 use Rattle.sessions.specs.declared.ending.Ending.{Ending}
 use Rattle.sessions.specs.declared.ending.Ending.TheVariants.{End, Reader, Store}
 use Rattle.sessions.specs.declared.ending.Place.{Place}
-use Rattle.session_words.specs.declared.wanted.Wanted.{Wanted}
+use Rattle.session_words.specs.declared.wanted.SessionOptions.{SessionOptions}
 use Rattle.sessions.specs.declared.answer.Answered.{Answered}
 use Rattle.sessions.specs.declared.answer.Answered.TheVariants.{Accepted, Refused}
 use Rattle.sessions.specs.declared.input.Pending.{Pending}
 use Rattle.prevalence_store.specs.meaning.Acceptance.{read_in, setting_in}
 use Rattle.sessions.specs.Answers.{Progress, after_forms, first_progress}
 use Rattle.sessions.specs.Pace.{Paces, fill_of}
-use Rattle.sessions.specs.Serve.{IsRefusedFrom, IsUnaccepted, ServesInPace, StaysAnswered, StopsStrict}
+use Rattle.sessions.specs.Serve.{IsRefusedFrom, IsFormUnaccepted, ServesInPace, StaysAnswered, StopsStrict}
 use Rattle.prevalence_store.specs.calls.Store.{StoreView}
 use Rattle.sessions.specs.steps.Answer.{AnswersFault, AnswersForm, AnswersRead, BeginsWith, PassesForm, StopsInForm, TellsForm}
 use Rattle.sessions.specs.steps.Course.{Course, pass}
@@ -45,7 +45,7 @@ few_stay functions w mode text (suc (suc forms)) far few is stays = absurd (omeg
 
 module _ (functions : Functions) {D R : Type 0} (state : D → State) where
   -- the session ended before any answer, whatever follows the text
-  pub ends_at_once : (wanted : Wanted) (course : Course) (old new : StoreView D R) (w : WorldState) (mode : Mode) (text : List ℕ) (a b : Option (List ℕ)) (number : ℕ)
+  pub ends_at_once : (wanted : SessionOptions) (course : Course) (old new : StoreView D R) (w : WorldState) (mode : Mode) (text : List ℕ) (a b : Option (List ℕ)) (number : ℕ)
       → (stops : StopsInForm functions state old new w mode text a b number) × ServesInPace functions state course.pace old new w mode text a b (Store number) stops.serves
       → ((far : Progress) → after_forms functions 1 w mode text ≡ Some far → StaysAnswered functions w mode text 1 far)
       → HasEndedAt functions state wanted course old new w mode text a b (ways.Store number)
@@ -60,7 +60,7 @@ module _ (functions : Functions) {D R : Type 0} (state : D → State) where
   )
 
   -- the reader refused the text, whatever follows it
-  pub fault_ended : (sound : (d : D) → IsHonest (state d) → IsSoundDisk (state d)) (wanted : Wanted) (course later : Course) (old new : StoreView D R) (w : WorldState) (mode : Mode) (text : List ℕ) (a b : Option (List ℕ)) (pending : Pending)
+  pub fault_ended : (sound : (d : D) → IsHonest (state d) → IsSoundDisk (state d)) (wanted : SessionOptions) (course later : Course) (old new : StoreView D R) (w : WorldState) (mode : Mode) (text : List ℕ) (a b : Option (List ℕ)) (pending : Pending)
       (number : ℕ) → old.world ≡ Some w → (refuses : HasRefusal functions w mode text number) → new ≡ old → (start : ℕ) (place : Place) → place.forms ≡ course.forms → place.start ≡ course.bytes + start
       → place.at ≡ course.bytes + refuses.at → BeginsAt (setting_in functions w mode) text start × IsDecidedFrom (setting_in functions w mode) text start → (ending : Ending) → AnswersFault number a b ending
       → AnswersPiece functions state wanted course later old new w mode text a b pending (Some (ended_at place ending))
@@ -113,7 +113,7 @@ module _ (functions : Functions) {D R : Type 0} (state : D → State) where
     )
 
   -- there is no memory for what was read
-  pub memory_ended : (sound : (d : D) → IsHonest (state d) → IsSoundDisk (state d)) (wanted : Wanted) (course : Course) (old : StoreView D R) (w : WorldState) (mode : Mode) (text : List ℕ) (held : Option (List ℕ)) → old.world ≡ Some w
+  pub memory_ended : (sound : (d : D) → IsHonest (state d) → IsSoundDisk (state d)) (wanted : SessionOptions) (course : Course) (old : StoreView D R) (w : WorldState) (mode : Mode) (text : List ℕ) (held : Option (List ℕ)) → old.world ≡ Some w
       → HasEndedAt functions state wanted course old old w mode text held held (ways.Store NO_MEMORY)
   unfolding no_memory nothing
   memory_ended sound wanted course old w mode text held known = (
@@ -125,7 +125,7 @@ module _ (functions : Functions) {D R : Type 0} (state : D → State) where
     λ is_strict. (refl, λ more. absurd (omega (arith, more))),
   )
 
-  pub memory_at_end : (sound : (d : D) → IsHonest (state d) → IsSoundDisk (state d)) (wanted : Wanted) (course : Course) (old : StoreView D R) (w : WorldState) (mode : Mode) (text : List ℕ) (held : Option (List ℕ)) → old.world ≡ Some w
+  pub memory_at_end : (sound : (d : D) → IsHonest (state d) → IsSoundDisk (state d)) (wanted : SessionOptions) (course : Course) (old : StoreView D R) (w : WorldState) (mode : Mode) (text : List ℕ) (held : Option (List ℕ)) → old.world ≡ Some w
       → EndsAt functions state wanted course old old w mode text held held (ways.Store NO_MEMORY)
   unfolding no_memory nothing
   memory_at_end sound wanted course old w mode text held known = (
@@ -138,7 +138,7 @@ module _ (functions : Functions) {D R : Type 0} (state : D → State) where
   )
 
   -- nothing is left at the end of the input
-  pub done_at_end : (sound : (d : D) → IsHonest (state d) → IsSoundDisk (state d)) (wanted : Wanted) (course : Course) (old : StoreView D R) (w : WorldState) (mode : Mode) (text : List ℕ) (held : Option (List ℕ)) → old.world ≡ Some w
+  pub done_at_end : (sound : (d : D) → IsHonest (state d) → IsSoundDisk (state d)) (wanted : SessionOptions) (course : Course) (old : StoreView D R) (w : WorldState) (mode : Mode) (text : List ℕ) (held : Option (List ℕ)) → old.world ≡ Some w
       → empty ≡ read_in functions w mode text → EndsAt functions state wanted course old old w mode text held held ways.End
   unfolding done nothing
   done_at_end sound wanted course old w mode text held known none = (
@@ -148,7 +148,7 @@ module _ (functions : Functions) {D R : Type 0} (state : D → State) where
   )
 
   -- the reader refuses the text at the end of the input
-  pub fault_at_end : (sound : (d : D) → IsHonest (state d) → IsSoundDisk (state d)) (wanted : Wanted) (course : Course) (old new : StoreView D R) (w : WorldState) (mode : Mode) (text : List ℕ) (a b : Option (List ℕ)) (number at : ℕ)
+  pub fault_at_end : (sound : (d : D) → IsHonest (state d) → IsSoundDisk (state d)) (wanted : SessionOptions) (course : Course) (old new : StoreView D R) (w : WorldState) (mode : Mode) (text : List ℕ) (a b : Option (List ℕ)) (number at : ℕ)
       → old.world ≡ Some w → (reads : read_in functions w mode text ≡ refused number at) → new ≡ old → (start : ℕ) (place : Place) → place.forms ≡ course.forms → place.start ≡ course.bytes + start → place.at ≡ course.bytes + at
       → BeginsAt (setting_in functions w mode) text start × (decided_from (setting_in functions w mode) text ≡ start) → (ending : Ending) → AnswersFault number a b ending → EndsAt functions state wanted course old new w mode text a b (ended_at place ending)
   unfolding fault_answered nothing
@@ -186,7 +186,7 @@ module _ (functions : Functions) {D R : Type 0} (state : D → State) where
   )
 
   -- the form that the text begins with was refused, and the session is strict
-  strict_stops : (wanted : Wanted) (course later : Course) (old new : StoreView D R) (w : WorldState) (text : List ℕ) (a b : Option (List ℕ)) (start next number : ℕ) (place : Place)
+  strict_stops : (wanted : SessionOptions) (course later : Course) (old new : StoreView D R) (w : WorldState) (text : List ℕ) (a b : Option (List ℕ)) (start next number : ℕ) (place : Place)
       → AnswersRead functions state course later old new w wanted text a b start next (Err (ways.Unaccepted number place)) → start ≤ length text
       → StopsStrict functions state old new w wanted.mode text a b course.pace course.forms course.bytes number place
   strict_stops wanted course later old new w text a b start next number place (is_strict, passes, refuses, forms_is, start_is, at_is) within = record {
@@ -207,7 +207,7 @@ module _ (functions : Functions) {D R : Type 0} (state : D → State) where
   }
 
   -- the session ended in the form that the text begins with
-  pub read_ended : (wanted : Wanted) (course later : Course) (old new : StoreView D R) (w : WorldState) (text : List ℕ) (a b : Option (List ℕ)) (start next : ℕ) (ended : Ended)
+  pub read_ended : (wanted : SessionOptions) (course later : Course) (old new : StoreView D R) (w : WorldState) (text : List ℕ) (a b : Option (List ℕ)) (start next : ℕ) (ended : Ended)
       → AnswersRead functions state course later old new w wanted text a b start next (Err ended) → start ≤ length text
       → ((far : Progress) → after_forms functions 1 w wanted.mode text ≡ Some far → StaysAnswered functions w wanted.mode text 1 far) → HasEndedAt functions state wanted course old new w wanted.mode text a b ended
   unfolding strict_stops
@@ -217,7 +217,7 @@ module _ (functions : Functions) {D R : Type 0} (state : D → State) where
       (is.0, strict_stops wanted course later old new w text a b start next number place is within, (stays is.1.far is.1.advances.far_is, λ more. refl))
   read_ended wanted course later old new w text a b start next (ways.Store number) is within stays = ends_at_once wanted course old new w wanted.mode text a b number is stays
 
-  pub read_at_end : (wanted : Wanted) (course later : Course) (old new : StoreView D R) (w : WorldState) (text : List ℕ) (a b : Option (List ℕ)) (start next : ℕ) (ended : Ended)
+  pub read_at_end : (wanted : SessionOptions) (course later : Course) (old new : StoreView D R) (w : WorldState) (text : List ℕ) (a b : Option (List ℕ)) (start next : ℕ) (ended : Ended)
       → AnswersRead functions state course later old new w wanted text a b start next (Err ended) → start ≤ length text → EndsAt functions state wanted course old new w wanted.mode text a b ended
   unfolding any_group
   read_at_end wanted course later old new w text a b start next ways.End is within = absurd is
@@ -227,7 +227,7 @@ module _ (functions : Functions) {D R : Type 0} (state : D → State) where
       ((any_group functions state old new w wanted.mode text a b wanted.group (Store number) is.0.serves, is.1, λ is_strict. (is.0.accepted, λ more. let one = is.0.serves.in_turn refl in absurd (omega (arith, more, one)))), is.0.no_input)
 
   -- the same where nothing was done before
-  pub read_from : (course mid later : Course) (old between new : StoreView D R) (w : WorldState) (wanted : Wanted) (text : List ℕ) (a b c : Option (List ℕ)) (start next : ℕ) (result : Result Unit Ended) → between ≡ old → b ≡ a → mid ≡ course
+  pub read_from : (course mid later : Course) (old between new : StoreView D R) (w : WorldState) (wanted : SessionOptions) (text : List ℕ) (a b c : Option (List ℕ)) (start next : ℕ) (result : Result Unit Ended) → between ≡ old → b ≡ a → mid ≡ course
       → AnswersRead functions state mid later between new w wanted text b c start next result → AnswersRead functions state course later old new w wanted text a c start next result
   read_from course mid later old between new w wanted text a b c start next result same quiet stays answered =
       subst (λ (k : Course). AnswersRead functions state k later old new w wanted text a c start next result) stays
@@ -235,7 +235,7 @@ module _ (functions : Functions) {D R : Type 0} (state : D → State) where
       (subst (λ t. AnswersRead functions state mid later between new w wanted text t c start next result) quiet answered))
 
   -- a form that was passed, by its offsets in the text
-  pub at_starts : (course later : Course) (old new : StoreView D R) (w : WorldState) (wanted : Wanted) (text : List ℕ) (a b : Option (List ℕ)) (start next from to : ℕ) (refusals : List ℕ) → from ≡ start → to ≡ next
+  pub at_starts : (course later : Course) (old new : StoreView D R) (w : WorldState) (wanted : SessionOptions) (text : List ℕ) (a b : Option (List ℕ)) (start next from to : ℕ) (refusals : List ℕ) → from ≡ start → to ≡ next
       → PassesForm functions state course later old new w wanted text a b start next refusals → PassesForm functions state course later old new w wanted text a b from to refusals
   at_starts course later old new w wanted text a b start next from to refusals start_is next_is passes = record {
     far = passes.far;
@@ -247,7 +247,7 @@ module _ (functions : Functions) {D R : Type 0} (state : D → State) where
   }
 
   -- a form that was answered, and whose bytes were passed
-  pub passes_form : (course mid later : Course) (old new : StoreView D R) (w : WorldState) (wanted : Wanted) (text : List ℕ) (a b : Option (List ℕ)) (start next : ℕ) (answered : Answered)
+  pub passes_form : (course mid later : Course) (old new : StoreView D R) (w : WorldState) (wanted : SessionOptions) (text : List ℕ) (a b : Option (List ℕ)) (start next : ℕ) (answered : Answered)
       → AnswersForm functions state old new w wanted.mode course.pace mid.pace text a b (Ok answered) → mid.forms ≡ course.forms → mid.bytes ≡ course.bytes → later ≡ pass next mid
       → (far : Progress) × PassesForm functions state course later old new w wanted text a b start next far.refused × TellsForm functions w wanted.mode text far answered
   passes_form course mid later old new w wanted text a b start next answered is forms bytes passed = (
@@ -264,7 +264,7 @@ module _ (functions : Functions) {D R : Type 0} (state : D → State) where
   )
 
   -- it was refused where it begins
-  pub refused_there : (course later : Course) (old new : StoreView D R) (w : WorldState) (wanted : Wanted) (text : List ℕ) (a b : Option (List ℕ)) (x : Object) (own : List ℕ) (start next number : ℕ) (far : Progress) (place : Place)
+  pub refused_there : (course later : Course) (old new : StoreView D R) (w : WorldState) (wanted : SessionOptions) (text : List ℕ) (a b : Option (List ℕ)) (x : Object) (own : List ℕ) (start next number : ℕ) (far : Progress) (place : Place)
       → wanted.strict ≡ true → (passes : PassesForm functions state course later old new w wanted text a b start next far.refused) → TellsForm functions w wanted.mode text far (Refused number)
       → (n : ℕ) (begins : BeginsWith functions w wanted.mode text x own n) → begins.start ≡ start → place.forms ≡ course.forms → place.start ≡ course.bytes + start → place.at ≡ course.bytes + start
       → AnswersRead functions state course later old new w wanted text a b start next (Err (ways.Unaccepted number place))
@@ -273,7 +273,7 @@ module _ (functions : Functions) {D R : Type 0} (state : D → State) where
       let same : told.0 ≡ begins.start = let one = sym told.1.reads ∙ begins.reads in cc in (
         strict,
         subst (λ l. PassesForm functions state course later old new w wanted text a b start next l) tells.0 passes,
-        subst (λ k. IsUnaccepted functions w wanted.mode text number k) (same ∙ start_is) told.1,
+        subst (λ k. IsFormUnaccepted functions w wanted.mode text number k) (same ∙ start_is) told.1,
         forms_is,
         first_is,
         at_is,

@@ -33,7 +33,7 @@ use Rattle.prevalence_store.proofs.calls.Running.{stores_left}
 use Rattle.prevalence_store.proofs.meaning.Replaying.{stepped}
 use Rattle.prevalence_store.proofs.meaning.Transactions.{refused_alike}
 use Rattle.sessions.specs.Streams.{Writes, WritesPart}
-use Rattle.sessions.specs.steps.Answer.{EndsTry, IsLeft, LeavesRecord, LogsAtOnce, MayBeHeard, StopsInForm, TriesForm, answered_of}
+use Rattle.sessions.specs.steps.Answer.{EndsTry, IsFormLeft, LeavesRecord, LogsAtOnce, MayBeHeard, StopsInForm, TriesForm, answered_of}
 use Rattle.sessions.specs.steps.Output.{IsAnswerLine}
 use Rattle.prevalence_store.proofs.Surviving.{all_or_none_of_one, fewer_survive, unchanged_survives}
 use Rattle.user_macros.specs.Functions.{Functions}
@@ -239,7 +239,7 @@ module _ (functions : Functions) where
     records_written : (wrote : Bool) → wrote ≡ true → records_of wrote mode own ≡ accepted_record mode own ∷ []
     records_written wrote wrote_is = ap (λ b. records_of b mode own) wrote_is
 
-    stops_in : (cause : Unlogged) (number : ℕ) → IsLeft functions state old new mode own x cause → number ≡ failure_number cause → number ≢ LOG_FULL → written ≡ held
+    stops_in : (cause : Unlogged) (number : ℕ) → IsFormLeft functions state old new mode own x cause → number ≡ failure_number cause → number ≢ LOG_FULL → written ≡ held
         → Stops number
     unfolding taken_only
     stops_in unlogged.OutOfMemory number of stop other quiet = out_of_memory number stop (of.unchanged refl) quiet
@@ -269,7 +269,7 @@ module _ (functions : Functions) where
           inr (inr (stop, refl, refl, λ i. record { generation = failed.generation i; record_count = failed.record_count i; size = failed.size i; first_size = failed.first_size i })),
         )
 
-    over_in : (cause : Unlogged) (number : ℕ) → IsLeft functions state old new mode own x cause → number ≡ failure_number cause → number ≡ LOG_FULL → IsOver functions old w mode text
+    over_in : (cause : Unlogged) (number : ℕ) → IsFormLeft functions state old new mode own x cause → number ≡ failure_number cause → number ≡ LOG_FULL → IsOver functions old w mode text
     over_in unlogged.OutOfMemory number of stop full = absurd (omega arith)
     over_in unlogged.DeviceFault number of stop full = absurd (omega arith)
     over_in unlogged.Full number of stop full =
@@ -283,7 +283,7 @@ module _ (functions : Functions) where
         }
 
     -- there is no line: the form has no room, or it has ended the session
-    pub form_stops : (cause : Unlogged) (number : ℕ) → IsLeft functions state old new mode own x cause → number ≡ failure_number cause → written ≡ held
+    pub form_stops : (cause : Unlogged) (number : ℕ) → IsFormLeft functions state old new mode own x cause → number ≡ failure_number cause → written ≡ held
         → TriesForm functions state old new w mode text held written (Err number)
     form_stops cause number left stop quiet = (over_in cause number left stop, λ other. stops_in cause number left stop other quiet)
 

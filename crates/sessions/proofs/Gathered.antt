@@ -8,12 +8,12 @@ use Rattle.gate_log.specs.Layout.{LogRecord, open_record}
 use Rattle.lisp_object.specs.Object.{Object}
 use Rattle.lisp_object.specs.declared.refusal.TheConstants.{DEVICE, OUTPUT}
 use Rattle.lisp_operators.specs.Evaluation.{Evaluation}
-use Rattle.lisp_reading.specs.Reading.{Outcome as Reading, form, empty, refused}
+use Rattle.lisp_reading.specs.Reading.{ReadingResult as Reading, form, empty, refused}
 use Rattle.canon_printer.specs.Printed.{printed}
 use Rattle.plist_state.specs.State.{WorldState}
 use Rattle.session_words.specs.declared.mode.Mode.{Mode}
 use Rattle.sessions.specs.declared.ending.Ended.TheVariants as ways
-use Rattle.session_words.specs.declared.wanted.Wanted.{Wanted}
+use Rattle.session_words.specs.declared.wanted.SessionOptions.{SessionOptions}
 use Rattle.sessions.specs.declared.gather.GatheredForms.{GatheredForms}
 use Rattle.sessions.specs.declared.group.Grouped.TheVariants as grouped
 use Rattle.prevalence_store.specs.meaning.Acceptance.{after, between, read_in, transaction_value}
@@ -25,7 +25,7 @@ use Rattle.prevalence_store.specs.calls.Store.{StoreView}
 use Rattle.sessions.specs.Streams.{Writes, WritesPart}
 use Rattle.prevalence_store.specs.steps.Batch.{StoresBatch}
 use Rattle.sessions.specs.steps.Course.{Course}
-use Rattle.sessions.specs.steps.Gather.{AnswersGroup, FailsForms, IsGathered, TakesForms}
+use Rattle.sessions.specs.steps.Gather.{AnswersGroup, FailsForms, AreFormsGathered, TakesForms}
 use Rattle.sessions.specs.steps.Schedule.{CountsAll, IsBeforeDue, IsBeforeGrown}
 use Rattle.sessions.specs.steps.Serve.{HasEndedAt}
 use Rattle.sessions.proofs.Progressing.{step_back}
@@ -180,7 +180,7 @@ module _ (functions : Functions) where
 
   -- ---- how a session goes on, or has ended
 
-  module _ {D R : Type 0} (state : D → State) (sound : (d : D) → IsHonest (state d) → IsSoundDisk (state d)) (wanted : Wanted) (course later : Course) (old new : StoreView D R) (w : WorldState) (text rest : List ℕ)
+  module _ {D R : Type 0} (state : D → State) (sound : (d : D) → IsHonest (state d) → IsSoundDisk (state d)) (wanted : SessionOptions) (course later : Course) (old new : StoreView D R) (w : WorldState) (text rest : List ℕ)
       (held written : Option (List ℕ)) (known : old.world ≡ Some w) where
     -- the forms were answered
     pub group_answered : (gathered : GatheredForms) (next count : ℕ) → TakesForms functions wanted state old new w text gathered → Writes held written gathered.lines.items → drop next text ≡ rest
@@ -266,7 +266,7 @@ module _ (functions : Functions) where
         → IsBeforeDue course.pace gathered.records → (room : ℕ) → IsBeforeGrown course.pace.ratio (fill_of old) room → gathered.record_bytes ≤ room
         → AnswersGroup functions wanted state course later old new w text rest held written (grouped.Ended (ways.Store OUTPUT))
     group_unwritten grouped gathered some took writes before room small within more = by_part (part_of held written far.lines (some_lines gathered.forms some far_is) (subst (WritesPart held written) is.lines writes)) where
-      is : IsGathered functions wanted w text took.left took.records gathered
+      is : AreFormsGathered functions wanted w text took.left took.records gathered
       is = took.makes
 
       stores : StoresBatch functions state old new w is.far.world is.far.taken

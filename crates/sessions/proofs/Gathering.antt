@@ -15,7 +15,7 @@ use Rattle.plist_state.specs.Sound as world
 use Rattle.plist_state.specs.State.{WorldState}
 use Rattle.prevalence_store.specs.declared.batch.Batch.{Batch}
 use Rattle.session_words.specs.declared.mode.Mode.{Mode}
-use Rattle.session_words.specs.declared.wanted.Wanted.{Wanted}
+use Rattle.session_words.specs.declared.wanted.SessionOptions.{SessionOptions}
 use Rattle.sessions.specs.declared.gather.GatheredForms.{GatheredForms}
 use Rattle.sessions.specs.declared.gather.GroupLimit.{GroupLimit}
 use Rattle.sessions.specs.declared.input.Pending.{Pending}
@@ -25,7 +25,7 @@ use Rattle.sessions.specs.steps.Answer.{BeginsWith}
 use Rattle.form_eval.specs.Laws.{MayEvaluate}
 use Rattle.prevalence_store.specs.steps.Batch.{entries_in, IsEmpty}
 use Rattle.sessions.specs.steps.Input.{HasForm}
-use Rattle.sessions.specs.steps.Gather.{BeginsWhole, HoldsNone, IsAdded, AreWithinLimit, IsGathered, AddsNextForm}
+use Rattle.sessions.specs.steps.Gather.{BeginsWhole, HoldsNone, IsFormAdded, AreWithinLimit, AreFormsGathered, AddsNextForm}
 use Rattle.prevalence_store.proofs.calls.Executing.{form_places, own_whole}
 use Rattle.sessions.proofs.Progressing.{forms_onward}
 use Rattle.sessions.proofs.Endings.{after_one_form}
@@ -90,9 +90,9 @@ pub piece_begins : (functions : Functions) (w : WorldState) (mode : Mode) (pendi
 piece_begins functions w mode pending piece n x own left some within has next is =
     (whole_begins functions w mode pending (take n piece) x own left has [] piece n (n - cond left 1 0) refl within (but_left left n some) next is).0
 
-module _ (functions : Functions) (wanted : Wanted) (w : WorldState) (text : List ℕ) where
+module _ (functions : Functions) (wanted : SessionOptions) (w : WorldState) (text : List ℕ) where
   -- before the first form
-  pub none_gathered : (none : GatheredForms) → HoldsNone none → IsGathered functions wanted w text w [] none
+  pub none_gathered : (none : GatheredForms) → HoldsNone none → AreFormsGathered functions wanted w text w [] none
   none_gathered none is = record {
     far = first_progress w text;
     stays = λ more. ap (λ n. after_forms functions n w wanted.mode (text ++ more)) is.forms;
@@ -109,8 +109,8 @@ module _ (functions : Functions) (wanted : Wanted) (w : WorldState) (text : List
   }
 
   -- one form more
-  pub more_gathered : (u v : WorldState) (had has : Batch) (old new : GatheredForms) (piece : List ℕ) (count : ℕ) → IsGathered functions wanted w text u (entries_in had) old → drop old.bytes text ≡ piece
-      → AddsNextForm functions wanted piece u v had has old new count → IsGathered functions wanted w text v (entries_in has) new
+  pub more_gathered : (u v : WorldState) (had has : Batch) (old new : GatheredForms) (piece : List ℕ) (count : ℕ) → AreFormsGathered functions wanted w text u (entries_in had) old → drop old.bytes text ≡ piece
+      → AddsNextForm functions wanted piece u v had has old new count → AreFormsGathered functions wanted w text v (entries_in has) new
   more_gathered u v had has old new piece count is piece_is after_it =
       let p : Progress = is.far in
       let begins = after_it.begins in
@@ -141,9 +141,9 @@ module _ (functions : Functions) (wanted : Wanted) (w : WorldState) (text : List
 
   -- the first form
   pub first_gathered : (v : WorldState) (had has : Batch) (none new : GatheredForms) (x : Object) (own : List ℕ) (next : ℕ) → IsEmpty had → HoldsNone none
-      → BeginsWhole functions w wanted.mode text x own next → IsAdded functions wanted x own next w v had has none new → IsGathered functions wanted w text v (entries_in has) new
+      → BeginsWhole functions w wanted.mode text x own next → IsFormAdded functions wanted x own next w v had has none new → AreFormsGathered functions wanted w text v (entries_in has) new
   first_gathered v had has none new x own next empty is begins added =
-      more_gathered w v had has none new text next (subst (λ (es : List LogRecord). IsGathered functions wanted w text w es none) (sym (none_in had empty)) (none_gathered none is)) (ap (λ n. drop n text) is.bytes)
+      more_gathered w v had has none new text next (subst (λ (es : List LogRecord). AreFormsGathered functions wanted w text w es none) (sym (none_in had empty)) (none_gathered none is)) (ap (λ n. drop n text) is.bytes)
       (record { object = x; own = own; begins = begins; added = added })
 
 -- how many forms there are, by a limit that is the same
@@ -161,9 +161,9 @@ taken_at_most : (w : WorldState) (mode : Mode) (own : List ℕ) (given : Evaluat
 taken_at_most w mode own (Ok done) = record_at_most done.wrote mode own
 taken_at_most w mode own (Err number) = omega arith
 
-module _ (functions : Functions) (wanted : Wanted) where
+module _ (functions : Functions) (wanted : SessionOptions) where
   -- a form adds one text at most
-  pub text_at_most : (x : Object) (own : List ℕ) (bytes : ℕ) (w v : WorldState) (had has : Batch) (old new : GatheredForms) → IsAdded functions wanted x own bytes w v had has old new
+  pub text_at_most : (x : Object) (own : List ℕ) (bytes : ℕ) (w v : WorldState) (had has : Batch) (old new : GatheredForms) → IsFormAdded functions wanted x own bytes w v had has old new
       → length (entries_in has) ≤ length (entries_in had) + 1
   text_at_most x own bytes w v had has old new added =
       let taken : List LogRecord = (form_progress w wanted.mode own [] added.given).taken in

@@ -9,11 +9,11 @@ use Rattle.prevalence_store.specs.declared.failure.Unlogged.{Unlogged}
 use Rattle.prevalence_store.specs.declared.failure.Unlogged.TheVariants.{DeviceFault, Full, OutOfMemory}
 use Rattle.sessions.specs.declared.gather.GatheredForms.{GatheredForms}
 use Rattle.sessions.specs.declared.whole_forms.WholeForms.{WholeForms}
-use Rattle.session_words.specs.declared.wanted.Wanted.{Wanted}
+use Rattle.session_words.specs.declared.wanted.SessionOptions.{SessionOptions}
 use Rattle.prevalence_store.specs.meaning.Acceptance.{after, accepted_record}
 use Rattle.prevalence_store.specs.calls.Store.{StoreView}
 use Rattle.prevalence_store.specs.steps.Batch.{FailsBatch, StoresBatch}
-use Rattle.sessions.specs.steps.Gather.{AreTaken, BeginsWhole, FailsForms, IsGathered, MayBeTaken, TakesForms, TakesGroup}
+use Rattle.sessions.specs.steps.Gather.{AreWholeFormsTaken, BeginsWhole, FailsForms, AreFormsGathered, MayBeTaken, TakesForms, TakesGroup}
 use Rattle.prevalence_store.specs.steps.Together.{IsMade, IsNotMade}
 use Rattle.user_macros.specs.Functions.{Functions}
 
@@ -21,27 +21,27 @@ use Rattle.user_macros.specs.Functions.{Functions}
 
 module _ (functions : Functions) (turn : WholeForms) (w : WorldState) where
   -- their records make the world that they left, and fit the log
-  pub forms_again : (v : WorldState) (records : List LogRecord) (made : Option GatheredForms) → MayBeTaken functions turn w → AreTaken functions turn w v records made
+  pub forms_again : (v : WorldState) (records : List LogRecord) (made : Option GatheredForms) → MayBeTaken functions turn w → AreWholeFormsTaken functions turn w v records made
       → (after functions w records ≡ Some v) × AllByRecursion IsLogRecord records
   forms_again v records None may taken =
       let none = taken.none refl in
       (ap (after functions w) none.1 ∙ ap (λ s. Some s) (sym none.0), subst (λ (es : List LogRecord). AllByRecursion IsLogRecord es) (sym none.1) tt)
   forms_again v records (Some gathered) may taken =
-      let is : IsGathered functions turn.wanted w may.text v records gathered = taken.gathers may.text may.begins may.goes_on in
+      let is : AreFormsGathered functions turn.wanted w may.text v records gathered = taken.gathers may.text may.begins may.goes_on in
       (ap (after functions w) is.taken ∙ is.again ∙ ap (λ s. Some s) (sym is.left), subst (λ (es : List LogRecord). AllByRecursion IsLogRecord es) (sym is.taken) is.fit)
 
   module _ {D R : Type 0} (state : D → State) (old new : StoreView D R) (text : List ℕ)
       (begins : BeginsWhole functions w turn.wanted.mode text (object_of turn.first.now.read.datum) turn.first.now.own.items turn.first.now.next) (goes_on : drop turn.first.now.next text ≡ turn.rest.now) where
-    forms_logged : (made : Option GatheredForms) → IsMade functions state old new w (λ left records. AreTaken functions turn w left records made) → TakesGroup functions turn.wanted state old new w text (Ok made)
+    forms_logged : (made : Option GatheredForms) → IsMade functions state old new w (λ left records. AreWholeFormsTaken functions turn w left records made) → TakesGroup functions turn.wanted state old new w text (Ok made)
     forms_logged None logged = logged.stores.logs.nothing (ap length (logged.makes.none refl).1)
     forms_logged (Some gathered) logged = record { left = logged.left; records = logged.records; makes = logged.makes.gathers text begins goes_on; stores = logged.stores }
 
-    forms_failed : (left : WorldState) (records : List LogRecord) (made : Option GatheredForms) → AreTaken functions turn w left records made → FailsBatch functions state old new w left records
+    forms_failed : (left : WorldState) (records : List LogRecord) (made : Option GatheredForms) → AreWholeFormsTaken functions turn w left records made → FailsBatch functions state old new w left records
         → FailsForms functions turn.wanted state old new w text
     forms_failed left records None taken fails = absurd (omega (arith, fails.some, ap length (taken.none refl).1))
     forms_failed left records (Some gathered) taken fails = record { left = left; records = records; makes = (gathered, taken.counts.some, taken.gathers text begins goes_on); fails = fails }
 
-    forms_unlogged : (cause : Unlogged) → IsNotMade functions state old new w (λ left records. (made : Option GatheredForms) × AreTaken functions turn w left records made) cause
+    forms_unlogged : (cause : Unlogged) → IsNotMade functions state old new w (λ left records. (made : Option GatheredForms) × AreWholeFormsTaken functions turn w left records made) cause
         → TakesGroup functions turn.wanted state old new w text (Err cause)
     forms_unlogged OutOfMemory unmade = unmade.unchanged refl
     forms_unlogged Full unmade = unmade.unchanged refl
@@ -49,16 +49,16 @@ module _ (functions : Functions) (turn : WholeForms) (w : WorldState) where
         let stopped = unmade.stopped refl in
         forms_failed stopped.left stopped.records stopped.makes.0 stopped.makes.1 stopped.fails
 
-    pub forms_taken : (result : Result (Option GatheredForms) Unlogged) → IfOk result (λ made. IsMade functions state old new w (λ left records. AreTaken functions turn w left records made))
-        → IfErr result (IsNotMade functions state old new w (λ left records. (made : Option GatheredForms) × AreTaken functions turn w left records made)) → TakesGroup functions turn.wanted state old new w text result
+    pub forms_taken : (result : Result (Option GatheredForms) Unlogged) → IfOk result (λ made. IsMade functions state old new w (λ left records. AreWholeFormsTaken functions turn w left records made))
+        → IfErr result (IsNotMade functions state old new w (λ left records. (made : Option GatheredForms) × AreWholeFormsTaken functions turn w left records made)) → TakesGroup functions turn.wanted state old new w text result
     forms_taken (Ok made) logged unmade = forms_logged made logged
     forms_taken (Err cause) logged unmade = forms_unlogged cause unmade
 
 -- ---- forms that were gathered as in a strict session
 
-module _ (functions : Functions) (wanted : Wanted) (strict : Bool) (stricter : wanted.strict ≡ true → strict ≡ true) where
+module _ (functions : Functions) (wanted : SessionOptions) (strict : Bool) (stricter : wanted.strict ≡ true → strict ≡ true) where
   lax_gathered : (first : WorldState) (text : List ℕ) (now : WorldState) (records : List LogRecord) (gathered : GatheredForms)
-      → IsGathered functions (record wanted { strict = strict }) first text now records gathered → IsGathered functions wanted first text now records gathered
+      → AreFormsGathered functions (record wanted { strict = strict }) first text now records gathered → AreFormsGathered functions wanted first text now records gathered
   lax_gathered first text now records gathered is = record {
     far = is.far;
     stays = is.stays;
@@ -91,7 +91,7 @@ module _ (functions : Functions) (wanted : Wanted) (strict : Bool) (stricter : w
 
 -- ---- what was logged of a group, or met the fault
 
-module _ (functions : Functions) (wanted : Wanted) {D R : Type 0} (state : D → State) (old new : StoreView D R) (w : WorldState) (text : List ℕ) where
+module _ (functions : Functions) (wanted : SessionOptions) {D R : Type 0} (state : D → State) (old new : StoreView D R) (w : WorldState) (text : List ℕ) where
   -- unless the device failed nothing was done
   pub group_left : (cause : Unlogged) → (cause ≡ DeviceFault → ⊥) → TakesGroup functions wanted state old new w text (Err cause) → new ≡ old
   group_left OutOfMemory other took = took

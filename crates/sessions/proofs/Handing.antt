@@ -6,11 +6,11 @@ use Rattle.disk_trait.specs.Moments.{joined, weaker}
 use Rattle.gate_log.specs.Layout.{LogRecord}
 use Rattle.lisp_object.specs.Object.{Object}
 use Rattle.plist_state.specs.State.{WorldState}
-use Rattle.lisp_reading.specs.Reading.{Outcome as Reading, refused}
+use Rattle.lisp_reading.specs.Reading.{ReadingResult as Reading, refused}
 use Rattle.sessions.specs.steps.Forms.{Failure, TakesForm}
 use Rattle.sessions.specs.steps.Forms as failures
 use Rattle.session_words.specs.declared.mode.Mode.{Mode}
-use Rattle.session_words.specs.declared.wanted.Wanted.{Wanted}
+use Rattle.session_words.specs.declared.wanted.SessionOptions.{SessionOptions}
 use Rattle.sessions.specs.declared.answer.Answered.{Answered}
 use Rattle.sessions.specs.declared.gather.GatheredForms.{GatheredForms}
 use Rattle.sessions.specs.declared.input.Pending.{Pending}
@@ -321,7 +321,7 @@ module _ (functions : Functions) {D R : Type 0} (state : D → State) (sound : (
       (λ here honest keeps. all_or_none_of_one functions (state old.disk) (state new.disk) w (accepted_record mode own) (of.survives w here honest keeps).any_moment)
 
   -- the forms of a group
-  pub none_of_group : (told : Option (Account D)) (old new : StoreView D R) (w : WorldState) (mode : Mode) (bytes text : List ℕ) (wanted : Wanted) → old.world ≡ Some w → StandsBefore functions state told old w mode bytes
+  pub none_of_group : (told : Option (Account D)) (old new : StoreView D R) (w : WorldState) (mode : Mode) (bytes text : List ℕ) (wanted : SessionOptions) → old.world ≡ Some w → StandsBefore functions state told old w mode bytes
       → FailsForms functions wanted state old new w text → AcknowledgesNone functions state told new
   none_of_group told old new w mode bytes text wanted known stands fault =
       acknowledges_none told old new w fault.makes.2.far.taken known (λ kept is. (stands kept is).at_rest) (far_failed functions wanted state old new w text fault).survives (far_failed functions wanted state old new w text fault).all_or_none
@@ -384,7 +384,7 @@ module _ (functions : Functions) {D R : Type 0} (state : D → State) (sound : (
         (λ here honest keeps. one_batch functions (state old.disk) (state new.disk) w tries.0.taken (fill_of old) (fill_of new) (was_logged told) tries.2 (advances.survives here honest keeps).any_moment)
 
     -- the lines of a group
-    pub lines_stored : (text more : List ℕ) → bytes ≡ text ++ more → (wanted : Wanted) (gathered : GatheredForms) → wanted.mode ≡ mode → TakesForms functions wanted state old new w text gathered → lines ≡ gathered.lines.items
+    pub lines_stored : (text more : List ℕ) → bytes ≡ text ++ more → (wanted : SessionOptions) (gathered : GatheredForms) → wanted.mode ≡ mode → TakesForms functions wanted state old new w text gathered → lines ≡ gathered.lines.items
         → AreStored functions state kept new lines gathered.forms
     lines_stored text more parts wanted gathered in_mode took are =
         let stores = far_stored functions wanted state old new w text gathered took in

@@ -6,7 +6,7 @@ use Rattle.lisp_object.specs.declared.refusal.TheConstants.{INPUT}
 use Rattle.plist_state.specs.State.{WorldState}
 use Rattle.sessions.specs.declared.ending.Ended.{Ended}
 use Rattle.sessions.specs.declared.ending.Ended.TheVariants as ways
-use Rattle.session_words.specs.declared.wanted.Wanted.{Wanted}
+use Rattle.session_words.specs.declared.wanted.SessionOptions.{SessionOptions}
 use Rattle.sessions.specs.declared.ending.Ending.TheVariants.{Store}
 use Rattle.user_macros.specs.Functions.{Functions}
 use Rattle.sessions.specs.Serve.{ServesWanted, StaysAnswered, pace_wanted}
@@ -47,7 +47,7 @@ left_both had old new text piece before took all is =
     let then = consumed old new first.0 piece first.1.0 took in
     (then.0, (then.1.0, first.1.1 ∙ ap (λ t. text ++ t) then.1.1 ∙ sym (append_assoc text piece then.0)))
 
-module _ (functions : Functions) {D R : Type 0} (state : D → State) (wanted : Wanted) (old new : StoreView D R) (w : WorldState) (held written : Option (List ℕ)) (had before has : Option (List ℕ)) (text : List ℕ) where
+module _ (functions : Functions) {D R : Type 0} (state : D → State) (wanted : SessionOptions) (old new : StoreView D R) (w : WorldState) (held written : Option (List ℕ)) (had before has : Option (List ℕ)) (text : List ℕ) where
   abbrev first : Course
   first = first_course (pace_wanted wanted)
 

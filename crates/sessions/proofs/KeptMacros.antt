@@ -3,7 +3,7 @@ use Rattle.std.proofs.Common.{◌≡◌, ℕ, List, Option, Bool, inl, inr, ◌�
 use Rattle.disk_trait.specs.Disk.{State}
 use Rattle.plist_state.specs.State.{WorldState}
 use Rattle.session_words.specs.declared.mode.Mode.{Mode}
-use Rattle.session_words.specs.declared.wanted.Wanted.{Wanted}
+use Rattle.session_words.specs.declared.wanted.SessionOptions.{SessionOptions}
 use Rattle.user_macros.specs.Functions.{Functions}
 use Rattle.sessions.specs.declared.ending.Ended.{Ended}
 use Rattle.sessions.specs.declared.ending.Ended.TheVariants as ways
@@ -26,7 +26,7 @@ module _ (functions : Functions) {D R : Type 0} (state : D → State) (old new :
   macros_at_end mode text held written forms far lines answered part group (Store number) (inr (inr (inr (inr (inr (inl unwritten)))))) = unwritten.after.macros
   macros_at_end mode text held written forms far lines answered part group (Store number) (inr (inr (inr (inr (inr (inr none)))))) = none.after.macros
 
-  pub kept_macros : (wanted : Wanted) (had has held written : Option (List ℕ)) (ended : Ended)
+  pub kept_macros : (wanted : SessionOptions) (had has held written : Option (List ℕ)) (ended : Ended)
       → ServesWanted functions state wanted old new world had has held written ended → new.macros ≡ old.macros
   kept_macros wanted had has held written ways.End session =
       let s = session.0.serves in macros_at_end wanted.mode session.0.text held written s.forms s.far s.lines s.answered s.part wanted.group End s.ends

@@ -11,7 +11,7 @@ use Rattle.sessions.specs.declared.ending.Ending.TheVariants.{End, Reader, Store
 use Rattle.prevalence_store.specs.meaning.Acceptance.{after, read_in}
 use Rattle.user_macros.specs.Functions.{Functions}
 use Rattle.sessions.specs.Answers.{Progress, after_forms, first_progress, onward}
-use Rattle.sessions.specs.Pace.{CountsLoggedForm, EndsInPace, Fill, HasMadeRoom, IsOverIn, IsPaced, IsUnfollowed, LogsWithRoom, Pace, Paces, IsFollowed, begun_with, fill_of}
+use Rattle.sessions.specs.Pace.{CountsLoggedForm, EndsInPace, Fill, HasMadeRoom, IsOverIn, IsFillAfterForms, IsFillAfterRecord, LogsWithRoom, Pace, Paces, IsFillAfterForm, fill_of_new_half, fill_of}
 use Rattle.prevalence_store.specs.calls.Store.{StoreView}
 use Rattle.sessions.specs.steps.Answer.{AnswersFault, LeavesRecord, LogsAtOnce}
 use Rattle.prevalence_store.proofs.Surviving.{after-append}
@@ -24,7 +24,7 @@ module _ (functions : Functions) (limit : ℕ) where
 
   -- one form that was logged, and what follows it
   pub one_paced : (w given : WorldState) (entry : LogRecord) (pace later : Pace) (fill logged now : Fill) (taken : List LogRecord) → taken ≡ entry ∷ [] → after functions w taken ≡ Some given
-      → LogsWithRoom limit w entry fill logged → CountsLoggedForm pace later → IsFollowed limit pace given logged now → Paces functions limit w taken pace later fill now
+      → LogsWithRoom limit w entry fill logged → CountsLoggedForm pace later → IsFillAfterForm limit pace given logged now → Paces functions limit w taken pace later fill now
   one_paced w given entry pace later fill logged now taken is given_is logs counts followed =
       subst (λ xs. Paces functions limit w xs pace later fill now) (sym is)
       (given, later, now, record { given_is = ap (after functions w) (sym is) ∙ given_is; logged = logged; logs = logs; counts = counts; followed = followed }, (refl, refl))
@@ -41,10 +41,10 @@ module _ (functions : Functions) (limit : ℕ) where
       (one.0, one.1, one.2, one.3, paces_both one.0 v xs ys one.1 q r one.2 g h (sym (after-append functions w one.0 (x ∷ []) xs one.3.given_is) ∙ here) one.4 two)
 
   module _ (w : WorldState) (mode : Mode) (pr : Progress) (p q : Pace) (f g : Fill) (here : after functions w pr.taken ≡ Some pr.world) (first : Paces functions limit w pr.taken p q f g) where
-    paced_after : (far : Progress) (now : Fill) → IsPaced functions limit pr.world q g far.taken now → IsPaced functions limit w p f (onward pr far).taken now
+    paced_after : (far : Progress) (now : Fill) → IsFillAfterForms functions limit pr.world q g far.taken now → IsFillAfterForms functions limit w p f (onward pr far).taken now
     paced_after far now is = (is.0, paces_both w pr.world pr.taken far.taken p q is.0 f g now here first is.1)
 
-    unfoldable unfollowed_after : (far : Progress) (now : Fill) → IsUnfollowed functions limit pr.world q g far.taken now → IsUnfollowed functions limit w p f (onward pr far).taken now
+    unfoldable unfollowed_after : (far : Progress) (now : Fill) → IsFillAfterRecord functions limit pr.world q g far.taken now → IsFillAfterRecord functions limit w p f (onward pr far).taken now
     unfollowed_after far now is = record {
       earlier = pr.taken ++ is.earlier;
       last = is.last;
@@ -80,8 +80,8 @@ module _ (functions : Functions) (limit : ℕ) where
       some_open = let some = is.some_open in omega arith;
       before = before_both is.before;
     }))) where
-      before_both : IsPaced functions limit pr.world q g answered.taken now ⊎ HasMadeRoom functions limit pr.world q g mode answered now
-          → IsPaced functions limit w p f (onward pr answered).taken now ⊎ HasMadeRoom functions limit w p f mode (onward pr answered) now
+      before_both : IsFillAfterForms functions limit pr.world q g answered.taken now ⊎ HasMadeRoom functions limit pr.world q g mode answered now
+          → IsFillAfterForms functions limit w p f (onward pr answered).taken now ⊎ HasMadeRoom functions limit w p f mode (onward pr answered) now
       before_both (inl paced) = inl (paced_after answered now paced)
       before_both (inr made) = inr (room_after answered now made)
 
@@ -89,7 +89,7 @@ module _ (functions : Functions) (limit : ℕ) where
 
   -- the half has not changed; or it had no room for the form that the text begins with, and a snapshot was taken
   abbrev pub HasReadied : WorldState → Mode → List ℕ → (start middle : Fill) → Type 0
-  HasReadied w mode text start middle = (middle ≡ start) ⊎ (IsOverIn functions limit start.size w mode text × (middle ≡ begun_with w start))
+  HasReadied w mode text start middle = (middle ≡ start) ⊎ (IsOverIn functions limit start.size w mode text × (middle ≡ fill_of_new_half w start))
 
   module _ (w : WorldState) (mode : Mode) (text : List ℕ) (start middle now : Fill) where
     record_is : (over : IsOverIn functions limit start.size w mode text) (far : Progress) → after_forms functions 1 w mode text ≡ Some far → far.taken ≡ over.record_ ∷ []
@@ -99,7 +99,7 @@ module _ (functions : Functions) (limit : ℕ) where
         ap (λ (p : Progress). p.taken) (sym same) ∙ over.is_taken
 
     made_for : (entry : LogRecord) (far : Progress) → HasReadied w mode text start middle → after_forms functions 1 w mode text ≡ Some far → far.taken ≡ entry ∷ []
-        → (middle ≡ start) ⊎ ((limit < start.size + (6 + length entry.text)) × (middle ≡ begun_with w start))
+        → (middle ≡ start) ⊎ ((limit < start.size + (6 + length entry.text)) × (middle ≡ fill_of_new_half w start))
     made_for entry far (inl same) is taken = inl same
     made_for entry far (inr over) is taken =
         let known = record_is over.0 far is in
@@ -149,7 +149,7 @@ module _ (functions : Functions) (limit : ℕ) where
       record_ends forms lines answered far ready device still_open none same =
           subst (λ (p : Progress). EndsInPace functions limit w pace start mode forms far lines p now (Store number)) (sym none)
           (inr (inr (inr (record { device = device; some_open = still_open; before = by_ready ready })))) where
-            by_ready : HasReadied w mode text start middle → IsPaced functions limit w pace start (first_progress w text).taken now ⊎ HasMadeRoom functions limit w pace start mode (first_progress w text) now
+            by_ready : HasReadied w mode text start middle → IsFillAfterForms functions limit w pace start (first_progress w text).taken now ⊎ HasMadeRoom functions limit w pace start mode (first_progress w text) now
             by_ready (inl kept) = inl (pace, (refl, same ∙ kept))
             by_ready (inr over) = inr (record { later = pace; before = start; paced = (refl, refl); next = over.0; begun = same ∙ over.1 })
 

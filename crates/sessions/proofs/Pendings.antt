@@ -18,7 +18,7 @@ use Rattle.form_reader.specs.declared.reader.ReaderState.TheVariants.{Open, Refu
 use Rattle.form_reader.specs.declared.reader.Advance.{Advance}
 use Rattle.form_reader.specs.declared.reader.Advance.TheVariants.{More as AdvanceMore, Form as AdvanceForm, Refused as AdvanceRefused}
 use Rattle.lisp_reading.specs.Plans.{Read}
-use Rattle.form_reader.specs.Reader.{begun, fed, limits_of, BeginsAt, BeginsLater, HasBegun, IsAfterBytes, IsAfterIn, IsDecidedFrom, MayGoOn, Steps, StepsBegun}
+use Rattle.form_reader.specs.Reader.{begun, fed, limits_of, BeginsAt, BeginsLater, HasBegunAfter, IsAfterBytes, IsAfterIn, IsDecidedFrom, MayGoOn, Steps, StepsBegun}
 use Rattle.lisp_reading.specs.Reading.{form, empty, outcome, reads, reads_at}
 use Rattle.lisp_reading.specs.Setting.{Setting}
 use Rattle.lisp_reading.specs.Fitting.{IsFitting}
@@ -43,7 +43,7 @@ reads_none setting = reads_is setting 0 [] ∙ ap (outcome setting.table 0 (λ n
 -- nothing is pending, if the reader is new
 pub none_pending : (functions : Functions) (w : WorldState) (mode : Mode) (pending : Pending) → limits_of pending.reader ≡ form_limits → IsAfterBytes (setting_in functions w mode) pending.reader []
     → fed pending.reader ≡ 0 → begun pending.reader ≡ 0 → pending.text.items ≡ [] → pending.dropped ≡ 0
-    → HasBegun (setting_in functions w mode) pending.reader [] → IsPending functions w mode pending []
+    → HasBegunAfter (setting_in functions w mode) pending.reader [] → IsPending functions w mode pending []
 none_pending functions w mode pending limits after count begins none zero has_begun = record {
   limits = limits;
   after = after;
@@ -143,7 +143,7 @@ module _ (functions : Functions) (w : WorldState) (mode : Mode) (old : Pending) 
         → StepsBegun (setting_in functions w mode) new (bytes ++ byte ∷ []) step → old.dropped + count ≡ length bytes + 1 → own ≡ between start stop (bytes ++ byte ∷ [])
         → (has : HasForm functions w mode after (bytes ++ byte ∷ []) (object_of datum) own (nat_lt (next - old.dropped) count)) × (has.start ≡ start) × (has.next ≡ next)
     has_form after own count places reader none zero limits has_begun all is_own =
-        let again : (later : Setting) → HasBegun later new [] = subst (λ (s : Advance). StepsBegun (setting_in functions w mode) new (bytes ++ byte ∷ []) s) is has_begun in
+        let again : (later : Setting) → HasBegunAfter later new [] = subst (λ (s : Advance). StepsBegun (setting_in functions w mode) new (bytes ++ byte ∷ []) s) is has_begun in
         let many : length (bytes ++ byte ∷ []) ≡ length bytes + 1 = length-append bytes (byte ∷ []) in
         let fresh = form_told.4 in
         let fed_none : fed new ≡ 0 = let a = fresh.start in let b = fresh.at in omega arith in (
@@ -157,7 +157,7 @@ module _ (functions : Functions) (w : WorldState) (mode : Mode) (old : Pending) 
             none = λ later in_mode. none_pending functions later in_mode after (ap limits_of reader ∙ limits)
                 (subst (λ (r : FormReader). IsAfterBytes (setting_in functions later in_mode) r []) (sym reader) (form_told.5 (setting_in functions later in_mode)))
                 (ap fed reader ∙ fed_none) (ap begun reader ∙ fresh.start) none zero
-                (subst (λ (r : FormReader). HasBegun (setting_in functions later in_mode) r []) (sym reader) (again (setting_in functions later in_mode)));
+                (subst (λ (r : FormReader). HasBegunAfter (setting_in functions later in_mode) r []) (sym reader) (again (setting_in functions later in_mode)));
           },
           refl,
           refl,
@@ -170,7 +170,7 @@ module _ (functions : Functions) (w : WorldState) (mode : Mode) (old : Pending) 
   more_pending byte new step is steps has_begun limits after same kept only =
       let setting : Setting = setting_in functions w mode in
       let told : Steps setting new (bytes ++ byte ∷ []) AdvanceMore = subst (λ (s : Advance). Steps setting new (bytes ++ byte ∷ []) s) is steps in
-      let there : HasBegun setting new (bytes ++ byte ∷ []) = subst (λ (s : Advance). StepsBegun setting new (bytes ++ byte ∷ []) s) is has_begun in
+      let there : HasBegunAfter setting new (bytes ++ byte ∷ []) = subst (λ (s : Advance). StepsBegun setting new (bytes ++ byte ∷ []) s) is has_begun in
       record {
         limits = ap limits_of same ∙ limits ∙ pending.limits;
         after = subst (λ (r : FormReader). IsAfterBytes setting r (bytes ++ byte ∷ [])) (sym same) told.0;
@@ -178,7 +178,7 @@ module _ (functions : Functions) (w : WorldState) (mode : Mode) (old : Pending) 
         kept = kept;
         only = only;
         more = told.2;
-        has_begun = subst (λ (r : FormReader). HasBegun setting r (bytes ++ byte ∷ [])) (sym same) there;
+        has_begun = subst (λ (r : FormReader). HasBegunAfter setting r (bytes ++ byte ∷ [])) (sym same) there;
       }
 
   -- a refusal that a byte more decides

@@ -19,7 +19,7 @@ use Rattle.sessions.specs.steps.Input.{HasForm, IsLastForm, IsPending}
 use Rattle.sessions.specs.Serve.{Advances}
 use Rattle.prevalence_store.specs.calls.Store.{StoreView}
 use Rattle.sessions.specs.steps.Serve.{GoesOn, PassesBytes, ServesStrict}
-use Rattle.session_words.specs.declared.wanted.Wanted.{Wanted}
+use Rattle.session_words.specs.declared.wanted.SessionOptions.{SessionOptions}
 use Rattle.sessions.specs.steps.Course.{Course}
 use Rattle.sessions.specs.steps.Answer.{BeginsWith, PassesForm}
 use Rattle.prevalence_store.proofs.calls.Executing.{form_places}
@@ -186,7 +186,7 @@ module _ (functions : Functions) (w : WorldState) (mode : Mode) (pending : Pendi
       by_count zero is = inr (let order = stop_within.0 in let after = stop_within.1 in let many = before.count in omega arith, none)
       by_count (suc k) is = inl (omega arith)
 
-  module _ {D R : Type 0} (state : D → State) (wanted : Wanted) (same_mode : wanted.mode ≡ mode) (course later : Course) (old new : StoreView D R) (a b : Option (List ℕ)) where
+  module _ {D R : Type 0} (state : D → State) (wanted : SessionOptions) (same_mode : wanted.mode ≡ mode) (course later : Course) (old new : StoreView D R) (a b : Option (List ℕ)) where
     -- the form was answered, and what follows it is left
     pub after_form : (refusals : List ℕ) → PassesForm functions state course later old new w wanted text a b has.start has.next refusals → (wanted.strict ≡ true → refusals ≡ [])
         → GoesOn functions state wanted.strict course later old new w mode text a b pending (drop has.next text)
@@ -226,7 +226,7 @@ module _ (functions : Functions) (w : WorldState) (mode : Mode) (text : List ℕ
       ap (λ (p : Progress). p.rest) same ∙ rest_evaluated w mode (between last.start last.stop text) (drop (length text) text) given ∙ drop_all (length text) text (omega arith)
 
   -- it was answered, and nothing is left
-  pub ended_form : {D R : Type 0} (state : D → State) (wanted : Wanted) → wanted.mode ≡ mode → (course later : Course) (old new : StoreView D R) (a b : Option (List ℕ)) (start next : ℕ) (refusals : List ℕ)
+  pub ended_form : {D R : Type 0} (state : D → State) (wanted : SessionOptions) → wanted.mode ≡ mode → (course later : Course) (old new : StoreView D R) (a b : Option (List ℕ)) (start next : ℕ) (refusals : List ℕ)
       → PassesForm functions state course later old new w wanted text a b start next refusals → (wanted.strict ≡ true → refusals ≡ []) → ServesStrict functions state wanted course old new w mode text a b End
   ended_form state wanted same_mode course later old new a b start next refusals passes accepted =
       let far : Progress = passes.far in

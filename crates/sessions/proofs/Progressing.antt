@@ -13,7 +13,7 @@ use Rattle.prevalence_store.specs.meaning.Acceptance.{after, read_in}
 use Rattle.prevalence_store.specs.calls.Execute.{SurvivesAs}
 use Rattle.prevalence_store.specs.calls.Store.{LeavesAlone, StoreView, Describes}
 use Rattle.sessions.specs.Answers.{Progress, after_forms, first_progress, last_line, one_form, one_form_more, onward}
-use Rattle.sessions.specs.Serve.{Advances, Ends, IsAfter, IsExtended, IsRenewed, Serves, contents_after, half_after}
+use Rattle.sessions.specs.Serve.{Advances, Ends, IsAfter, IsHalfExtended, IsHalfRenewed, Serves, contents_after, half_after}
 use Rattle.sessions.specs.Streams.{Writes}
 use Rattle.plist_state.specs.State.{WorldState}
 use Rattle.prevalence_store.specs.Theorem.{Survives}
@@ -54,7 +54,7 @@ half_after_both (suc n) m (suc k) half is = let less : k ≡ n + m = omega arith
 
 module _ (functions : Functions) {D R : Type 0} (state : D → State) (sound : (d : D) → IsHonest (state d) → IsSoundDisk (state d)) (old mid new : StoreView D R) (w v : WorldState) (xs ys : List LogRecord)
     (here : after functions w xs ≡ Some v) (limit : mid.limit ≡ old.limit) (honest : (state mid.disk).honest ≡ (state old.disk).honest) where
-  both_extended : IsExtended state old mid xs → IsExtended state mid new ys → IsExtended state old new (xs ++ ys)
+  both_extended : IsHalfExtended state old mid xs → IsHalfExtended state mid new ys → IsHalfExtended state old new (xs ++ ys)
   both_extended one two = record {
     half = two.half ∙ one.half;
     version = two.version ∙ one.version;
@@ -74,7 +74,7 @@ module _ (functions : Functions) {D R : Type 0} (state : D → State) (sound : (
   }
 
   -- snapshots are taken later
-  unfoldable extended_renewed : IsExtended state old mid xs → IsRenewed state mid new functions v ys → IsRenewed state old new functions w (xs ++ ys)
+  unfoldable extended_renewed : IsHalfExtended state old mid xs → IsHalfRenewed state mid new functions v ys → IsHalfRenewed state old new functions w (xs ++ ys)
   extended_renewed one two = record {
     snapshots = two.snapshots;
     some = two.some;
@@ -94,7 +94,7 @@ module _ (functions : Functions) {D R : Type 0} (state : D → State) (sound : (
   }
 
   -- they were taken earlier
-  renewed_extended : IsRenewed state old mid functions w xs → IsExtended state mid new ys → IsRenewed state old new functions w (xs ++ ys)
+  renewed_extended : IsHalfRenewed state old mid functions w xs → IsHalfExtended state mid new ys → IsHalfRenewed state old new functions w (xs ++ ys)
   renewed_extended one two = record {
     snapshots = one.snapshots;
     some = one.some;
@@ -113,7 +113,7 @@ module _ (functions : Functions) {D R : Type 0} (state : D → State) (sound : (
     described = λ k claims held. two.described (contents_after k one.snapshots one.first one.later) (subst IsTrue (sym honest) claims) (one.described k claims held);
   }
 
-  unfoldable both_renewed : IsRenewed state old mid functions w xs → IsRenewed state mid new functions v ys → IsRenewed state old new functions w (xs ++ ys)
+  unfoldable both_renewed : IsHalfRenewed state old mid functions w xs → IsHalfRenewed state mid new functions v ys → IsHalfRenewed state old new functions w (xs ++ ys)
   both_renewed one two = record {
     snapshots = two.snapshots + one.snapshots;
     some = let some = one.some in omega arith;
@@ -136,14 +136,14 @@ module _ (functions : Functions) {D R : Type 0} (state : D → State) (sound : (
   }
 
   -- snapshots are taken in the second part, and this is left of it
-  pub renewed_later : IsExtended state old mid xs ⊎ IsRenewed state old mid functions w xs → (two : IsRenewed state mid new functions v ys)
-      → (both : IsRenewed state old new functions w (xs ++ ys)) × (both.later ≡ two.later)
+  pub renewed_later : IsHalfExtended state old mid xs ⊎ IsHalfRenewed state old mid functions w xs → (two : IsHalfRenewed state mid new functions v ys)
+      → (both : IsHalfRenewed state old new functions w (xs ++ ys)) × (both.later ≡ two.later)
   unfolding extended_renewed both_renewed
   renewed_later (inl one) two = (extended_renewed one two, refl)
   renewed_later (inr one) two = (both_renewed one two, refl)
 
-  log_both : IsExtended state old mid xs ⊎ IsRenewed state old mid functions w xs → IsExtended state mid new ys ⊎ IsRenewed state mid new functions v ys
-      → IsExtended state old new (xs ++ ys) ⊎ IsRenewed state old new functions w (xs ++ ys)
+  log_both : IsHalfExtended state old mid xs ⊎ IsHalfRenewed state old mid functions w xs → IsHalfExtended state mid new ys ⊎ IsHalfRenewed state mid new functions v ys
+      → IsHalfExtended state old new (xs ++ ys) ⊎ IsHalfRenewed state old new functions w (xs ++ ys)
   log_both (inl one) (inl two) = inl (both_extended one two)
   log_both (inl one) (inr two) = inr (extended_renewed one two)
   log_both (inr one) (inl two) = inr (renewed_extended one two)

@@ -17,7 +17,7 @@ use Rattle.sessions.specs.declared.answer.Reply.{Reply}
 use Rattle.prevalence_store.specs.meaning.Acceptance.{after, read_in, records_of, transaction_value}
 use Rattle.prevalence_store.specs.calls.Execute.{SurvivesAs}
 use Rattle.prevalence_store.specs.calls.Store.{StoreView}
-use Rattle.sessions.specs.steps.Answer.{IsLeft, IsReplyTo, TakesReply, IsReplied}
+use Rattle.sessions.specs.steps.Answer.{IsFormLeft, IsReplyTo, TakesReply, IsReplyToForm}
 use Rattle.prevalence_store.specs.steps.Batch.{StoresBatch, TakesBatch, entries_in, IsEmpty}
 use Rattle.prevalence_store.proofs.Surviving.{unchanged_survives}
 use Rattle.user_macros.specs.Functions.{Functions}
@@ -133,13 +133,13 @@ module _ (functions : Functions) where
           reply_taken (Err DeviceFault) is stores = absurd is
           reply_taken (Err OutOfMemory) is stores = absurd is
 
-          none_left : (cause : Unlogged) {T : Type 0} → TakesBatch functions state old new w v [] {T = T} (Err cause) → IsLeft functions state old new mode text x cause
+          none_left : (cause : Unlogged) {T : Type 0} → TakesBatch functions state old new w v [] {T = T} (Err cause) → IsFormLeft functions state old new mode text x cause
           none_left unlogged.OutOfMemory took = takes_nothing OutOfMemory refl (took.unchanged refl) (λ u is. tt)
           none_left unlogged.Full took = let over = took.full refl in absurd (omega (arith, over.0))
           none_left unlogged.DeviceFault took = let stopped = took.stopped refl in absurd (omega (arith, stopped.some))
 
           pub reply_left : (answer : Result Evaluated Failure) → IsReplyTo functions.names mode x text w v begun batch reply answer → (cause : Unlogged) {T : Type 0}
-              → TakesBatch functions state old new w v (entries_to mode text answer) {T = T} (Err cause) → IsLeft functions state old new mode text x cause
+              → TakesBatch functions state old new w v (entries_to mode text answer) {T = T} (Err cause) → IsFormLeft functions state old new mode text x cause
           reply_left (Ok e) is cause took = takes_failure w v known e is.0 cause took
           reply_left (Err (Refused number)) is cause took = none_left cause took
           reply_left (Err Full) is cause took = absurd is
@@ -151,7 +151,7 @@ module _ (functions : Functions) where
 module _ (functions : Functions) (mode : Mode) (own : List ℕ) (x : Object) (w : WorldState) where
   -- its record makes the world that the form left, and fits the log
   pub reply_again : (v : WorldState) (records : List LogRecord) (reply : Reply) → read_in functions w mode own ≡ form x 0 (length own) (length own)
-      → IsReplied functions.names mode x own w v records reply → (after functions w records ≡ Some v) × AllByRecursion IsLogRecord records
+      → IsReplyToForm functions.names mode x own w v records reply → (after functions w records ≡ Some v) × AllByRecursion IsLogRecord records
   reply_again v records reply whole is =
       let made = reply_made functions mode w v own x is.none is.batch reply is.answer is.replies is.begins whole in
       let taken : records ≡ entries_to functions mode own is.answer = sym is.added ∙ made.0 in (
@@ -162,24 +162,24 @@ module _ (functions : Functions) (mode : Mode) (own : List ℕ) (x : Object) (w 
   module _ {D R : Type 0} (state : D → State) (sound : (d : D) → IsHonest (state d) → IsSoundDisk (state d)) (old new : StoreView D R) (known : old.world ≡ Some w)
       (whole : read_in functions w mode own ≡ form x 0 (length own) (length own)) where
     -- what the log was to get of it
-    taken_of : (v : WorldState) (records : List LogRecord) (reply : Reply) (is : IsReplied functions.names mode x own w v records reply) → records ≡ entries_to functions mode own is.answer
+    taken_of : (v : WorldState) (records : List LogRecord) (reply : Reply) (is : IsReplyToForm functions.names mode x own w v records reply) → records ≡ entries_to functions mode own is.answer
     taken_of v records reply is = sym is.added ∙ (reply_made functions mode w v own x is.none is.batch reply is.answer is.replies is.begins whole).0
 
-    pub reply_logged : (reply : Reply) → IsMade functions state old new w (λ left records. IsReplied functions.names mode x own w left records reply) → TakesReply functions state old new mode own x reply
+    pub reply_logged : (reply : Reply) → IsMade functions state old new w (λ left records. IsReplyToForm functions.names mode x own w left records reply) → TakesReply functions state old new mode own x reply
     reply_logged reply made =
         let is = made.makes in
         reply_taken functions state sound old new mode own x w made.left known is.none is.batch reply is.answer is.replies
         (subst (λ (es : List LogRecord). StoresBatch functions state old new w made.left es) (taken_of made.left made.records reply is) made.stores)
 
     -- by what logging its record did
-    as_left : (cause : Unlogged) (v : WorldState) (records : List LogRecord) (reply : Reply) (is : IsReplied functions.names mode x own w v records reply)
-        → TakesBatch functions state old new w v records {T = Unit} (Err cause) → IsLeft functions state old new mode own x cause
+    as_left : (cause : Unlogged) (v : WorldState) (records : List LogRecord) (reply : Reply) (is : IsReplyToForm functions.names mode x own w v records reply)
+        → TakesBatch functions state old new w v records {T = Unit} (Err cause) → IsFormLeft functions state old new mode own x cause
     as_left cause v records reply is took =
         reply_left functions state sound old new mode own x w v known is.none is.batch reply is.answer is.replies cause
         (subst (λ (es : List LogRecord). TakesBatch functions state old new w v es {T = Unit} (Err cause)) (taken_of v records reply is) took)
 
-    pub reply_unlogged : (cause : Unlogged) → IsNotMade functions state old new w (λ left records. (reply : Reply) × IsReplied functions.names mode x own w left records reply) cause
-        → IsLeft functions state old new mode own x cause
+    pub reply_unlogged : (cause : Unlogged) → IsNotMade functions state old new w (λ left records. (reply : Reply) × IsReplyToForm functions.names mode x own w left records reply) cause
+        → IsFormLeft functions state old new mode own x cause
     reply_unlogged unlogged.OutOfMemory unmade = takes_nothing functions state sound old new mode own x OutOfMemory refl (unmade.unchanged refl) (λ u is. tt)
     reply_unlogged unlogged.Full unmade =
         let room = unmade.full refl in

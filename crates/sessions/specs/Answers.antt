@@ -8,7 +8,7 @@ use Rattle.lisp_object.specs.Refusal.{name_of}
 use Rattle.session_words.specs.declared.mode.Mode.{Mode}
 use Rattle.plist_state.specs.State.{WorldState}
 use Rattle.prevalence_store.specs.meaning.Acceptance.{between, read_in, records_of, transaction_value}
-use Rattle.lisp_reading.specs.Reading.{Outcome as Reading, form, empty, refused}
+use Rattle.lisp_reading.specs.Reading.{ReadingResult as Reading, form, empty, refused}
 use Rattle.lisp_operators.specs.Evaluation.{Evaluation}
 use Rattle.canon_printer.specs.Printed.{printed}
 use Rattle.user_macros.specs.Functions.{Functions}

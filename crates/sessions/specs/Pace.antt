@@ -44,8 +44,8 @@ abbrev pub fill_of : {D R : Type 0} → StoreView D R → Fill
 fill_of store = record { generation = store.generation; record_count = store.record_count; size = store.size; first_size = store.first_size }
 
 -- it has at least 1 MiB, and so many times the bytes that it had before its first record
-abbrev pub HasGrown : ℕ → (size first_size : ℕ) → Type 0
-HasGrown ratio size first_size = (0 < ratio) × (1048576 ≤ size) × (ratio * first_size ≤ size)
+abbrev pub HasHalfGrown : ℕ → (size first_size : ℕ) → Type 0
+HasHalfGrown ratio size first_size = (0 < ratio) × (1048576 ≤ size) × (ratio * first_size ≤ size)
 
 -- a snapshot is due after the form that is logged now, by the number of forms
 abbrev pub IsDueByCount : Pace → Type 0
@@ -53,15 +53,15 @@ IsDueByCount pace = (pace.left ≤ 1) × (0 < pace.every)
 
 -- a snapshot is due after the form that is logged now, with which the half has come to this
 abbrev pub IsDue : Pace → Fill → Type 0
-IsDue pace fill = IsDueByCount pace ⊎ HasGrown pace.ratio fill.size fill.first_size
+IsDue pace fill = IsDueByCount pace ⊎ HasHalfGrown pace.ratio fill.size fill.first_size
 
 -- with a record more
-abbrev pub longer_by : LogRecord → Fill → Fill
-longer_by entry fill = record { generation = fill.generation; record_count = fill.record_count + 1; size = fill.size + (6 + length entry.text); first_size = fill.first_size }
+abbrev pub fill_with_record : LogRecord → Fill → Fill
+fill_with_record entry fill = record { generation = fill.generation; record_count = fill.record_count + 1; size = fill.size + (6 + length entry.text); first_size = fill.first_size }
 
 -- the next half, with the text of this world
-abbrev pub begun_with : WorldState → Fill → Fill
-begun_with world fill = record { generation = fill.generation + 1; record_count = 0; size = 16 + length (snapshot world); first_size = 16 + length (snapshot world) }
+abbrev pub fill_of_new_half : WorldState → Fill → Fill
+fill_of_new_half world fill = record { generation = fill.generation + 1; record_count = 0; size = 16 + length (snapshot world); first_size = 16 + length (snapshot world) }
 
 -- The form that this text begins with is accepted in this world, and a half of this size would pass its limit by its record.
 pub record IsOverIn (functions : Functions) (limit size : ℕ) (world : WorldState) (mode : Mode) (text : List ℕ) : Type 0 where
@@ -76,16 +76,16 @@ pub record IsOverIn (functions : Functions) (limit size : ℕ) (world : WorldSta
 -- A form with this record was logged in this world. If the half had no room for it, a snapshot was taken first.
 pub record LogsWithRoom (limit : ℕ) (world : WorldState) (entry : LogRecord) (fill now : Fill) : Type 0 where
   pub room : Fill
-  pub made : (room ≡ fill) ⊎ ((limit < fill.size + (6 + length entry.text)) × (room ≡ begun_with world fill))
+  pub made : (room ≡ fill) ⊎ ((limit < fill.size + (6 + length entry.text)) × (room ≡ fill_of_new_half world fill))
   pub fits : room.size + (6 + length entry.text) ≤ limit
-  pub now_is : now ≡ longer_by entry room
+  pub now_is : now ≡ fill_with_record entry room
 
 -- What follows it, in the world that it left: a snapshot if one is due and there is a half for it, and else nothing.
-abbrev pub IsFollowed : ℕ → Pace → WorldState → Fill → Fill → Type 0
-IsFollowed limit pace world fill now =
+abbrev pub IsFillAfterForm : ℕ → Pace → WorldState → Fill → Fill → Type 0
+IsFillAfterForm limit pace world fill now =
     ((IsDue pace fill → ⊥) × (now ≡ fill))
     ⊎ ((IsDue pace fill × IsTooLargeFor limit fill.generation world × (now ≡ fill))
-    ⊎ (IsDue pace fill × (IsTooLargeFor limit fill.generation world → ⊥) × (now ≡ begun_with world fill)))
+    ⊎ (IsDue pace fill × (IsTooLargeFor limit fill.generation world → ⊥) × (now ≡ fill_of_new_half world fill)))
 
 module _ (functions : Functions) (limit : ℕ) where
   -- a form with this record, and what follows it: it was taken in this world, and left the other
@@ -94,7 +94,7 @@ module _ (functions : Functions) (limit : ℕ) where
     pub logged : Fill
     pub logs : LogsWithRoom limit world entry fill logged
     pub counts : CountsLoggedForm pace later
-    pub followed : IsFollowed limit pace given logged now
+    pub followed : IsFillAfterForm limit pace given logged now
 
   -- Forms with these records, from this world on, each with what follows it. A form that leaves no record changes nothing of it.
   abbrev pub Paces : WorldState → List LogRecord → (pace later : Pace) (fill now : Fill) → Type 0
@@ -107,11 +107,11 @@ module _ (functions : Functions) (limit : ℕ) where
 
   module _ (world : WorldState) (pace : Pace) (fill : Fill) where
     -- all of these forms were logged, each with what follows it
-    abbrev pub IsPaced : List LogRecord → Fill → Type 0
-    IsPaced taken now = (later : Pace) × Paces world taken pace later fill now
+    abbrev pub IsFillAfterForms : List LogRecord → Fill → Type 0
+    IsFillAfterForms taken now = (later : Pace) × Paces world taken pace later fill now
 
     -- the last of them was logged, and what follows it is not there
-    pub record IsUnfollowed (taken : List LogRecord) (now : Fill) : Type 0 where
+    pub record IsFillAfterRecord (taken : List LogRecord) (now : Fill) : Type 0 where
       pub earlier : List LogRecord
       pub last : LogRecord
       pub parts : taken ≡ earlier ++ last ∷ []
@@ -128,18 +128,18 @@ module _ (functions : Functions) (limit : ℕ) where
       pub before : Fill
       pub paced : Paces world far.taken pace later fill before
       pub next : IsOverIn functions limit before.size far.world mode far.rest
-      pub begun : now ≡ begun_with far.world before
+      pub begun : now ≡ fill_of_new_half far.world before
 
     module _ (mode : Mode) (forms : ℕ) (far : Progress) (lines : ℕ) (answered : Progress) (now : Fill) where
       -- All are logged, each with what follows it. If the device failed, it was in a snapshot, as the next form has no room.
       pub record EndsAfterAll (number : ℕ) : Type 0 where
-        pub paced : IsPaced far.taken now
+        pub paced : IsFillAfterForms far.taken now
         pub other : number ≢ LOG_FULL
         pub fault : number ≡ DEVICE → IsOverIn functions limit now.size far.world mode far.rest
 
       -- the session ended in the answer to the last of them, or in the snapshot that is due after it
       pub record EndsInLast (number : ℕ) : Type 0 where
-        pub unfollowed : IsUnfollowed far.taken now
+        pub unfollowed : IsFillAfterRecord far.taken now
         pub why : (number ≡ OUTPUT) ⊎ ((number ≡ NO_MEMORY) ⊎ ((number ≡ DEVICE) × IsDue unfollowed.later now))
 
       -- the next form has no room in the half that was begun for it, or memory ran out
@@ -151,10 +151,10 @@ module _ (functions : Functions) (limit : ℕ) where
       pub record EndsInRecord (number : ℕ) : Type 0 where
         pub device : number ≡ DEVICE
         pub some_open : lines < forms
-        pub before : IsPaced answered.taken now ⊎ HasMadeRoom mode answered now
+        pub before : IsFillAfterForms answered.taken now ⊎ HasMadeRoom mode answered now
 
       -- how far the snapshots have come, by the way in which the session ended
       abbrev pub EndsInPace : Ending → Type 0
-      EndsInPace End = IsPaced far.taken now
-      EndsInPace (Reader number) = IsPaced far.taken now
+      EndsInPace End = IsFillAfterForms far.taken now
+      EndsInPace (Reader number) = IsFillAfterForms far.taken now
       EndsInPace (Store number) = EndsAfterAll number ⊎ (EndsInLast number ⊎ (EndsInNewHalf number ⊎ EndsInRecord number))

@@ -16,7 +16,7 @@ use Rattle.session_words.specs.declared.mode.Mode.{Mode}
 use Rattle.sessions.specs.declared.ending.Ended.{Ended}
 use Rattle.sessions.specs.declared.ending.Ended.TheVariants as ways
 use Rattle.sessions.specs.declared.ending.Place.{Place}
-use Rattle.session_words.specs.declared.wanted.Wanted.{Wanted}
+use Rattle.session_words.specs.declared.wanted.SessionOptions.{SessionOptions}
 use Rattle.sessions.specs.declared.ending.Ending.{Ending}
 use Rattle.sessions.specs.declared.ending.Ending.TheVariants.{End, Reader, Store}
 use Rattle.prevalence_store.specs.meaning.Acceptance.{after, read_in, setting_in, table_in, transaction_value}
@@ -50,7 +50,7 @@ contents_after k snapshots first entries = record { version = written_version; g
 
 module _ {D R : Type 0} (state : D → State) (old new : StoreView D R) where
   -- No snapshot was taken: the half that was in use has these records more.
-  pub record IsExtended (taken : List LogRecord) : Type 0 where
+  pub record IsHalfExtended (taken : List LogRecord) : Type 0 where
     pub half : new.half ≡ old.half
     pub version : new.version ≡ old.version
     pub generation : new.generation ≡ old.generation
@@ -68,7 +68,7 @@ module _ {D R : Type 0} (state : D → State) (old new : StoreView D R) where
 
   -- Snapshots were taken, the last of them after the earlier of these records: the half in use is the text of the world that
   -- they left, and the later records.
-  pub record IsRenewed (functions : Functions) (world : WorldState) (taken : List LogRecord) : Type 0 where
+  pub record IsHalfRenewed (functions : Functions) (world : WorldState) (taken : List LogRecord) : Type 0 where
     pub snapshots : ℕ
     pub some : 1 ≤ snapshots
     pub earlier : List LogRecord
@@ -96,7 +96,7 @@ module _ (functions : Functions) {D R : Type 0} (state : D → State) (old new :
     pub limit : new.limit ≡ old.limit
     pub macros : new.macros ≡ old.macros
     pub failures : (state new.disk).failures ≡ (state old.disk).failures
-    pub log : IsExtended state old new far.taken ⊎ IsRenewed state old new functions world far.taken
+    pub log : IsHalfExtended state old new far.taken ⊎ IsHalfRenewed state old new functions world far.taken
 
 -- the half would pass its limit by the record of the form that this text begins with
 abbrev pub IsOver : Functions → {D R : Type 0} → StoreView D R → WorldState → Mode → List ℕ → Type 0
@@ -115,14 +115,14 @@ module _ (functions : Functions) {D R : Type 0} (state : D → State) (old new :
 
     module _ (forms : ℕ) (far : Progress) (lines : ℕ) (answered : Progress) (part : List ℕ) where
       -- nothing but discarded text is left
-      pub record IsDone : Type 0 where
+      pub record EndsAtEndOfInput : Type 0 where
         pub all : lines ≡ forms
         pub no_part : part ≡ []
         pub nothing_left : read_in functions far.world mode far.rest ≡ empty
         pub after : IsAfter functions state old new world far
 
       -- the reader refused what is left, and that was answered
-      pub record IsRefused (number : ℕ) : Type 0 where
+      pub record EndsAtReaderRefusal (number : ℕ) : Type 0 where
         pub all : lines ≡ forms
         pub at : ℕ
         pub reads : read_in functions far.world mode far.rest ≡ refused number at
@@ -131,7 +131,7 @@ module _ (functions : Functions) {D R : Type 0} (state : D → State) (old new :
 
       -- The device failed as the last forms were logged, which had room for their records; they were not answered, and nothing is
       -- known of the world. It is one form, if the session has no groups.
-      pub record IsStopped (group : Bool) (number : ℕ) : Type 0 where
+      pub record EndsAtFailedRecord (group : Bool) (number : ℕ) : Type 0 where
         pub device : number ≡ DEVICE
         pub some_open : lines < forms
         pub no_part : part ≡ []
@@ -148,7 +148,7 @@ module _ (functions : Functions) {D R : Type 0} (state : D → State) (old new :
         pub all_or_none : AllOrNone functions state mid new answered.world entries
 
       -- The device failed in a snapshot, for which there was a half; all forms were answered, and nothing is known of the world.
-      pub record IsStoppedInSnapshot (number : ℕ) : Type 0 where
+      pub record EndsAtFailedSnapshot (number : ℕ) : Type 0 where
         pub device : number ≡ DEVICE
         pub all : lines ≡ forms
         pub no_part : part ≡ []
@@ -160,18 +160,18 @@ module _ (functions : Functions) {D R : Type 0} (state : D → State) (old new :
 
       -- The next form is accepted in that world, and has no room; nor has it in a half that holds nothing but the text of it,
       -- as this one does: a snapshot was taken, and no form logged since.
-      pub record IsFull (number : ℕ) : Type 0 where
+      pub record EndsAtFullLog (number : ℕ) : Type 0 where
         pub full : number ≡ LOG_FULL
         pub all : lines ≡ forms
         pub no_part : part ≡ []
         pub next : IsOver functions new far.world mode far.rest
-        pub renewed : IsRenewed state old new functions world far.taken
+        pub renewed : IsHalfRenewed state old new functions world far.taken
         pub none_since : renewed.later ≡ []
         pub only_text : new.size ≡ 16 + length (snapshot far.world)
         pub after : IsAfter functions state old new world far
 
       -- the next form is accepted in that world, and has no room, and there is no half for a snapshot of it
-      pub record IsTooLargeToRenew (number : ℕ) : Type 0 where
+      pub record EndsAtTooLargeWorld (number : ℕ) : Type 0 where
         pub large : number ≡ SNAPSHOT_TOO_LARGE
         pub all : lines ≡ forms
         pub no_part : part ≡ []
@@ -180,7 +180,7 @@ module _ (functions : Functions) {D R : Type 0} (state : D → State) (old new :
         pub after : IsAfter functions state old new world far
 
       -- a read failed
-      pub record IsUnread (number : ℕ) : Type 0 where
+      pub record EndsAtFailedRead (number : ℕ) : Type 0 where
         pub input : number ≡ INPUT
         pub all : lines ≡ forms
         pub no_part : part ≡ []
@@ -190,7 +190,7 @@ module _ (functions : Functions) {D R : Type 0} (state : D → State) (old new :
 
       -- A write failed, or took nothing: the lines so far are the first part of what was to be written. The line that was begun is
       -- that of the next form, if one was not answered, and else that of a refusal of the reader.
-      pub record IsUnwritten (number : ℕ) : Type 0 where
+      pub record EndsAtFailedWrite (number : ℕ) : Type 0 where
         pub output : number ≡ OUTPUT
         pub unwritten : List ℕ
         pub some_left : unwritten ≢ []
@@ -200,7 +200,7 @@ module _ (functions : Functions) {D R : Type 0} (state : D → State) (old new :
         pub after : IsAfter functions state old new world far
 
       -- a growth was refused: no form is in that was not answered
-      pub record IsOutOfMemory (number : ℕ) : Type 0 where
+      pub record EndsOutOfMemory (number : ℕ) : Type 0 where
         pub memory : number ≡ NO_MEMORY
         pub all : lines ≡ forms
         pub no_part : part ≡ []
@@ -208,11 +208,11 @@ module _ (functions : Functions) {D R : Type 0} (state : D → State) (old new :
 
       -- by the way in which the session ended; a fault by its number has one of seven causes
       abbrev pub Ends : Bool → Ending → Type 0
-      Ends group End = IsDone
-      Ends group (Reader number) = IsRefused number
+      Ends group End = EndsAtEndOfInput
+      Ends group (Reader number) = EndsAtReaderRefusal number
       Ends group (Store number) =
-          IsStopped group number ⊎ (IsStoppedInSnapshot number ⊎ (IsFull number ⊎ (IsTooLargeToRenew number
-          ⊎ (IsUnread number ⊎ (IsUnwritten number ⊎ IsOutOfMemory number)))))
+          EndsAtFailedRecord group number ⊎ (EndsAtFailedSnapshot number ⊎ (EndsAtFullLog number ⊎ (EndsAtTooLargeWorld number
+          ⊎ (EndsAtFailedRead number ⊎ (EndsAtFailedWrite number ⊎ EndsOutOfMemory number)))))
 
     -- A session over this text: its first forms were taken, each read in the world that the ones before it left, in this mode,
     -- and logged by its own text if it was accepted. If the session has no groups, each was answered before the next was taken.
@@ -281,7 +281,7 @@ pub record ServesInput (functions : Functions) {D R : Type 0} (state : D → Sta
 -- ---- a session with places, which may be strict
 
 -- The text begins with a form, with this byte of it, and its evaluation is refused with this number.
-pub record IsUnaccepted (functions : Functions) (world : WorldState) (mode : Mode) (text : List ℕ) (number start : ℕ) : Type 0 where
+pub record IsFormUnaccepted (functions : Functions) (world : WorldState) (mode : Mode) (text : List ℕ) (number start : ℕ) : Type 0 where
   pub object : Object
   pub stop : ℕ
   pub next : ℕ
@@ -326,7 +326,7 @@ module _ (functions : Functions) {D R : Type 0} (state : D → State) (old new :
     pub before_is : after_forms functions accepted world mode text ≡ Some before
     pub none_refused : before.refused ≡ []
     pub start : ℕ
-    pub refuses : IsUnaccepted functions before.world mode before.rest number start
+    pub refuses : IsFormUnaccepted functions before.world mode before.rest number start
     pub is_place : IsPlace forms_before bytes_before accepted text before.rest start place
     pub begins : place.start ≡ place.at
 
@@ -343,22 +343,22 @@ module _ (functions : Functions) {D R : Type 0} (state : D → State) (old new :
       × IsRefusedFrom functions served.far.world mode served.far.rest number at (refused_from functions served.far.world mode served.far.rest)
 
 -- All that was answered was accepted; and if more than one form is open, all that was taken.
-abbrev pub AreAccepted : (forms lines : ℕ) (far answered : Progress) → Type 0
-AreAccepted forms lines far answered = (answered.refused ≡ []) × (lines + 1 < forms → far.refused ≡ [])
+abbrev pub AreFormsAccepted : (forms lines : ℕ) (far answered : Progress) → Type 0
+AreFormsAccepted forms lines far answered = (answered.refused ≡ []) × (lines + 1 < forms → far.refused ≡ [])
 
 -- the pace at which a session begins that is wanted so
-abbrev pub pace_wanted : Wanted → Pace
+abbrev pub pace_wanted : SessionOptions → Pace
 pace_wanted wanted = first_pace wanted.snapshot_every wanted.snapshot_ratio
 
 -- A session over what a reader gives, as it is wanted: as `ServesInput`, with the place of a refusal of the reader counted in the input;
 -- and if it is strict all forms whose lines were written whole were accepted, but the one at which it ended.
-abbrev pub ServesWanted : (functions : Functions) {D R : Type 0} (state : D → State) (wanted : Wanted) (old new : StoreView D R) (world : WorldState) (had has held written : Option (List ℕ)) → Ended → Type 0
+abbrev pub ServesWanted : (functions : Functions) {D R : Type 0} (state : D → State) (wanted : SessionOptions) (old new : StoreView D R) (world : WorldState) (had has held written : Option (List ℕ)) → Ended → Type 0
 ServesWanted functions state wanted old new world had has held written ways.End =
     (served : ServesInput functions state wanted.group (pace_wanted wanted) old new world wanted.mode had has held written End)
-    × (wanted.strict ≡ true → AreAccepted served.serves.forms served.serves.lines served.serves.far served.serves.answered)
+    × (wanted.strict ≡ true → AreFormsAccepted served.serves.forms served.serves.lines served.serves.far served.serves.answered)
 ServesWanted functions state wanted old new world had has held written (ways.Unreadable number place) =
     (served : ServesInput functions state wanted.group (pace_wanted wanted) old new world wanted.mode had has held written (Reader number))
-    × (wanted.strict ≡ true → AreAccepted served.serves.forms served.serves.lines served.serves.far served.serves.answered)
+    × (wanted.strict ≡ true → AreFormsAccepted served.serves.forms served.serves.lines served.serves.far served.serves.answered)
     × RefusesAt functions state old new world wanted.mode served.text held written (pace_wanted wanted) 0 0 number served.serves place
 ServesWanted functions state wanted old new world had has held written (ways.Unaccepted number place) =
     (wanted.strict ≡ true) × (text : List ℕ)
@@ -368,7 +368,7 @@ ServesWanted functions state wanted old new world had has held written (ways.Una
     × ((all : List ℕ) → had ≡ Some all → (all ≡ text) ⊎ StaysStopped functions state old new world wanted.mode text held written (pace_wanted wanted) 0 0 number place stops)
 ServesWanted functions state wanted old new world had has held written (ways.Store number) =
     (served : ServesInput functions state wanted.group (pace_wanted wanted) old new world wanted.mode had has held written (Store number))
-    × (wanted.strict ≡ true → AreAccepted served.serves.forms served.serves.lines served.serves.far served.serves.answered)
+    × (wanted.strict ≡ true → AreFormsAccepted served.serves.forms served.serves.lines served.serves.far served.serves.answered)
 
 -- ---- after a session
 

@@ -10,7 +10,7 @@ ghost use Rattle.sessions.specs.Account.{Account, AreStored, with_forms};
 ghost use Rattle.sessions.specs.Streams.{Writes, WritesPart};
 ghost use Rattle.sessions.specs.steps.Forms.{Failure};
 ghost use Rattle.sessions.specs.steps.Answer.{AnswersFault, AnswersForm, AnswersRead, BeginsWith, FitsForm, IsFormOf, IsReplyTo, MayBeHeard, TriesForm, refusal_that_ends, was_logged};
-ghost use Rattle.prevalence_store.specs.steps.Batch.{IsMarked};
+ghost use Rattle.prevalence_store.specs.steps.Batch.{IsWorldMarked};
 ghost use Rattle.sessions.specs.steps.Course.{course_of};
 ghost use Rattle.sessions.specs.steps.Schedule.{pace_of};
 ghost use Rattle.sessions.specs.steps.Standing.{AcknowledgesNone, HandsOn, StandsAtForm, StandsAtRefusal};
@@ -29,7 +29,7 @@ use form_eval::ReadForm;
 use lisp_object::refusal::{LOG_FULL, NO_MEMORY, OUTPUT};
 use plist_state::World;
 use prevalence_store::{Batch, Store, Unadded, WholeMacros};
-use session_words::{Mode, Wanted};
+use session_words::{Mode, SessionOptions};
 use std::alloc::AllocError;
 use user_macros::MacroFunctions;
 
@@ -101,7 +101,7 @@ pub(crate) fn answer_fault<D: Disk, R: MacroFunctions, W: Recipient<D, R>>(
 pub(crate) fn answer_read<D: Disk, R: MacroFunctions, W: Recipient<D, R>>(
     store: &mut Store<D, R>,
     writer: &mut W,
-    wanted: Wanted,
+    wanted: SessionOptions,
     course: &mut Course,
     form: &PlacedForm,
 ) -> Result<(), Ended>
@@ -326,8 +326,8 @@ pub(crate) fn reply_to<R: MacroFunctions>(
     ensures replies { IfOk result (λ reply. (answer : Result Evaluated Failure)
         × IsReplyTo R.Meaning.functions.names mode (object_of form.now.datum)
         own.now world.old.0 world.new.0 batch.old batch.new reply answer) }
-    ensures marks { (worlds : Worlds) → IsMarked worlds world.old.1
-        → IsMarked worlds world.new.1 }
+    ensures marks { (worlds : Worlds) → IsWorldMarked worlds world.old.1
+        → IsWorldMarked worlds world.new.1 }
 {
     let alloc = batch.alloc;
     match batch.add(world, macros, mode, form, own) {

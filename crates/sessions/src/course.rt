@@ -5,7 +5,7 @@ ghost use Rattle.sessions.specs.Serve.{pace_wanted};
 
 use crate::ending::Place;
 use crate::schedule::Schedule;
-use session_words::Wanted;
+use session_words::SessionOptions;
 
 /// When the next snapshot is due, how many forms were answered, and how many bytes of the input they took.
 #[derive(Drop)]
@@ -17,7 +17,7 @@ pub(crate) struct Course {
 
 impl Course {
     /// Before the first form, with snapshots as they are wanted.
-    pub(crate) fn new(wanted: Wanted) -> Course
+    pub(crate) fn new(wanted: SessionOptions) -> Course
         ensures { course_of result ≡ first_course (pace_wanted wanted) }
     {
         Course {

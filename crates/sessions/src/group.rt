@@ -19,7 +19,7 @@ use crate::whole_forms::{WholeForms, take_group};
 use disk_trait::Disk;
 use lisp_object::refusal::{DEVICE, OUTPUT};
 use prevalence_store::{Store, Unlogged};
-use session_words::Wanted;
+use session_words::SessionOptions;
 use user_macros::MacroFunctions;
 
 /// What became of a group.
@@ -39,7 +39,7 @@ pub(crate) enum Grouped {
 pub(crate) fn answer_group<D: Disk, R: MacroFunctions, W: Recipient<D, R>>(
     store: &mut Store<D, R>,
     writer: &mut W,
-    wanted: Wanted,
+    wanted: SessionOptions,
     course: &mut Course,
     first: &PlacedForm,
     rest: &[u8],

@@ -1,10 +1,10 @@
 // What a session has read and not answered yet.
 ghost use Rattle.std.specs.Prelude.{◌≡◌, ◌+◌, ◌<◌, ◌≤◌, ◌^◌, ℕ, List, [], ◌∷◌, ◌++◌, drop, take, length, IfOk, OnOk, vec_len};
 ghost use Rattle.plist_state.specs.State.{WorldState};
-ghost use Rattle.form_reader.specs.Reader.{fed, begun, limits_of, HasBegun, IsAfterBytes, Steps, StepsBegun, BeginsLater, RefusesFrom, IsOutcome, IsSoundStep};
+ghost use Rattle.form_reader.specs.Reader.{fed, begun, limits_of, HasBegunAfter, IsAfterBytes, Steps, StepsBegun, BeginsLater, RefusesFrom, IsOutcome, IsSoundStep};
 ghost use Rattle.prevalence_store.specs.meaning.Acceptance.{between, form_limits, read_in, setting_in, table_in};
 ghost use Rattle.user_macros.specs.Functions.{Functions};
-ghost use Rattle.sessions.specs.steps.Input.{AreAllThere, IsPending, IsSoundFed, PlacesAreWithin, Feeds, Finishes, FeedsPart};
+ghost use Rattle.sessions.specs.steps.Input.{AreAllThere, IsPending, IsSoundFed, PlacesAreWithin, Feeds, FinishesInput, FeedsPart};
 
 use form_eval::ReadForm;
 use form_reader::{Advance, FormReader, Limits, ReadOutcome};
@@ -221,7 +221,7 @@ impl Pending {
         requires count { fed self.reader ≤ 2 ^ 63 }
         ensures finishes { (bytes : List ℕ)
             → IsPending R.Meaning.functions world.now.0 mode self bytes
-            → IfOk result (Finishes R.Meaning.functions world.now.0 mode bytes) }
+            → IfOk result (FinishesInput R.Meaning.functions world.now.0 mode bytes) }
         ensures sound { IfOk result IsSoundFed }
         ensures all_there { IfOk result (AreAllThere world.now.0) }
         ensures within { IfOk result (PlacesAreWithin (fed self.reader)) }
@@ -298,7 +298,7 @@ fn step_in<R: MacroFunctions>(
         reader.new (bytes ++ byte ∷ [])) }
     ensures has_begun { (bytes : List ℕ)
         → IsAfterBytes (setting_in R.Meaning.functions world.now.0 mode) reader.old bytes
-        → HasBegun (setting_in R.Meaning.functions world.now.0 mode) reader.old bytes
+        → HasBegunAfter (setting_in R.Meaning.functions world.now.0 mode) reader.old bytes
         → IfOk result (StepsBegun (setting_in R.Meaning.functions world.now.0 mode)
         reader.new (bytes ++ byte ∷ [])) }
 
@@ -328,7 +328,7 @@ fn finish_in<R: MacroFunctions>(
         → IfOk result (λ outcome. IsOutcome outcome
         (read_in R.Meaning.functions world.now.0 mode bytes)) }
     ensures has_begun { (bytes : List ℕ)
-        → HasBegun (setting_in R.Meaning.functions world.now.0 mode) reader bytes
+        → HasBegunAfter (setting_in R.Meaning.functions world.now.0 mode) reader bytes
         → IfOk result (RefusesFrom (setting_in R.Meaning.functions world.now.0 mode)
         bytes (begun reader)) }
 {

@@ -56,4 +56,4 @@ pub use laws::what_is_answered_is_stored;
 pub use recipient::{OutputFault, Recipient, SessionForm};
 pub use schedule::write_zeros_ahead;
 pub use serving::{serve, serve_wanted};
-pub use session_words::{Mode, Wanted};
+pub use session_words::{Mode, SessionOptions};

@@ -1,7 +1,7 @@
 // A form that was read, as a turn that makes the line which answers it.
 ghost use Rattle.std.specs.Prelude.{◌≡◌, length, IfErr, IfOk};
 ghost use Rattle.lisp_object.specs.Datum.{object_of};
-ghost use Rattle.sessions.specs.steps.Answer.{IsLeft, TakesReply};
+ghost use Rattle.sessions.specs.steps.Answer.{IsFormLeft, TakesReply};
 ghost use Rattle.sessions.specs.steps.Forms.{IsFormIn};
 
 use crate::answer::{Reply, reply_to};
@@ -27,14 +27,14 @@ impl<R: MacroFunctions> Turn<R> for OneForm<'_> {
     ghost use Rattle.lisp_object.specs.Datum.{object_of};
     ghost use Rattle.lisp_reading.specs.Reading.{form};
     ghost use Rattle.prevalence_store.specs.meaning.Acceptance.{read_in};
-    ghost use Rattle.sessions.specs.steps.Answer.{IsReplied};
+    ghost use Rattle.sessions.specs.steps.Answer.{IsReplyToForm};
 
     type Made = Reply;
 
     ghost needs = { λ turn world. (read_in R.Meaning.functions world turn.mode turn.own.now
         ≡ form (object_of turn.form.now.datum) 0 (length turn.own.now) (length turn.own.now)) × MayEvaluate world.packages turn.form.now };
 
-    ghost makes = { λ turn world left records reply. IsReplied R.Meaning.functions.names turn.mode (object_of turn.form.now.datum)
+    ghost makes = { λ turn world left records reply. IsReplyToForm R.Meaning.functions.names turn.mode (object_of turn.form.now.datum)
         turn.own.now world left records reply };
 
     fn take(
@@ -59,7 +59,7 @@ pub(crate) fn take_reply<D: Disk, R: MacroFunctions>(
         mode form.now 0 (length text.now) text.now }
     ensures takes { IfOk result (TakesReply R.Meaning.functions D.state store.old store.new
         mode text.now (object_of form.now.datum)) }
-    ensures left { IfErr result (IsLeft R.Meaning.functions D.state store.old store.new
+    ensures left { IfErr result (IsFormLeft R.Meaning.functions D.state store.old store.new
         mode text.now (object_of form.now.datum)) }
     ensures honest { (D.state store.new.disk).honest ≡ (D.state store.old.disk).honest }
 {

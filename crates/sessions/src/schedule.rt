@@ -1,13 +1,13 @@
 // When a session takes snapshots, and how.
 ghost use Rattle.std.specs.Prelude.{◌≡◌, ◌↔◌, ◌<◌, ◌≤◌, ◌+◌, ◌-◌, ◌^◌, ℕ, None, Some, IfSome, IsSome, IsTrue};
 ghost use Rattle.plist_state.specs.State.{WorldState};
-ghost use Rattle.sessions.specs.Pace.{CountsLoggedForm, HasGrown, IsDueByCount, fill_of, first_pace};
+ghost use Rattle.sessions.specs.Pace.{CountsLoggedForm, HasHalfGrown, IsDueByCount, fill_of, first_pace};
 ghost use Rattle.sessions.specs.steps.Schedule.{CountsAll, IsBeforeDue, IsBeforeGrown, Renewing, RenewsAfterForm, pace_of};
 
 use disk_trait::Disk;
 use lisp_object::refusal::SNAPSHOT_TOO_LARGE;
 use prevalence_store::{Outcome, Store};
-use session_words::Wanted;
+use session_words::SessionOptions;
 use user_macros::MacroFunctions;
 
 /// The least size of a half that has grown enough for a snapshot.
@@ -75,9 +75,9 @@ impl Schedule {
 /// The least size of a half that has grown so many times; none where no half may have it.
 fn grown_size(ratio: u64, first_size: u64) -> Option<u64>
     ensures some { IfSome result (λ least. (size : ℕ)
-        → HasGrown ratio size first_size ↔ (least ≤ size)) }
+        → HasHalfGrown ratio size first_size ↔ (least ≤ size)) }
     ensures none { result ≡ None → (size : ℕ) → size < 2 ^ 64
-        → HasGrown ratio size first_size → ⊥ }
+        → HasHalfGrown ratio size first_size → ⊥ }
 {
     if ratio == 0 {
         return None;
@@ -90,7 +90,7 @@ fn grown_size(ratio: u64, first_size: u64) -> Option<u64>
 
 /// How many bytes more a half of this size may take before it has grown so many times.
 fn bytes_before_grown(ratio: u64, size: u64, first_size: u64) -> u64
-    ensures { 0 < result → HasGrown ratio (size + result) first_size → ⊥ }
+    ensures { 0 < result → HasHalfGrown ratio (size + result) first_size → ⊥ }
 {
     match grown_size(ratio, first_size) {
         Some(least) => least.saturating_sub(size).saturating_sub(1),
@@ -100,7 +100,7 @@ fn bytes_before_grown(ratio: u64, size: u64, first_size: u64) -> u64
 
 /// The offset at which the half in use has grown so many times; that of no file if it never has.
 fn grown_at<D: Disk, R: MacroFunctions>(store: &Store<D, R>, ratio: u64) -> u64
-    ensures { (size : ℕ) → size < 2 ^ 64 → HasGrown ratio size store.now.first_size → result ≤ size }
+    ensures { (size : ℕ) → size < 2 ^ 64 → HasHalfGrown ratio size store.now.first_size → result ≤ size }
 {
     match grown_size(ratio, store.first_size()) {
         Some(least) => least,
@@ -111,7 +111,10 @@ fn grown_at<D: Disk, R: MacroFunctions>(store: &Store<D, R>, ratio: u64) -> u64
 /// Has a store write zeros ahead as a session may that is wanted so. Where a snapshot is due after so many forms, none: it leaves the half
 /// that was in use as it is, with the zeros behind it. Where one is due once the half has grown, none from there on, so that then there are
 /// none behind it.
-pub fn write_zeros_ahead<D: Disk, R: MacroFunctions>(store: &mut Store<D, R>, wanted: Wanted)
+pub fn write_zeros_ahead<D: Disk, R: MacroFunctions>(
+    store: &mut Store<D, R>,
+    wanted: SessionOptions,
+)
     ensures { store.new ≡ store.old }
 {
     let end = if wanted.snapshot_every == 0 {
@@ -124,7 +127,7 @@ pub fn write_zeros_ahead<D: Disk, R: MacroFunctions>(store: &mut Store<D, R>, wa
 
 // Whether the half in use has grown so many times.
 fn has_grown<D: Disk, R: MacroFunctions>(store: &Store<D, R>, ratio: u64) -> bool
-    ensures { IsTrue result ↔ HasGrown ratio (fill_of store.now).size (fill_of store.now).first_size }
+    ensures { IsTrue result ↔ HasHalfGrown ratio (fill_of store.now).size (fill_of store.now).first_size }
 {
     let size = store.size();
     match grown_size(ratio, store.first_size()) {

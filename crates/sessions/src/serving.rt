@@ -8,7 +8,7 @@ ghost use Rattle.form_reader.specs.Reader.{fed};
 ghost use Rattle.sessions.specs.Account.{Account, AreUnderWay, first_account};
 ghost use Rattle.sessions.specs.Pace.{first_pace};
 ghost use Rattle.sessions.specs.Serve.{ServesInput, ServesWanted};
-ghost use Rattle.sessions.specs.steps.Input.{AreAllThere, AwaitsMore, IsPending, IsSoundFed, PlacesAreWithin, Feeds, FeedsPart, Finishes};
+ghost use Rattle.sessions.specs.steps.Input.{AreAllThere, AwaitsMore, IsPending, IsSoundFed, PlacesAreWithin, Feeds, FeedsPart, FinishesInput};
 ghost use Rattle.sessions.specs.steps.Course.{course_of};
 ghost use Rattle.sessions.specs.steps.Serve.{AnswersPiece, PieceComesTo, EndsAt, PassesBytes};
 ghost use Rattle.sessions.specs.steps.Standing.{AcknowledgesNone, HandsOn, StandsAtEnd, StandsInPiece};
@@ -23,7 +23,7 @@ use crate::recipient::Recipient;
 use disk_trait::Disk;
 use lisp_object::refusal::{INPUT, NO_MEMORY, REOPEN};
 use prevalence_store::Store;
-use session_words::{Mode, Wanted};
+use session_words::{Mode, SessionOptions};
 use std::alloc::AllocError;
 use std::io;
 use std::io::Read;
@@ -72,7 +72,7 @@ pub fn serve<D: Disk, R: MacroFunctions, I: Read, W: Recipient<D, R>>(
     ensures honest { (D.state store.new.disk).honest ≡ (D.state store.old.disk).honest }
     ensures macros { store.new.macros ≡ store.old.macros }
 {
-    let wanted = Wanted {
+    let wanted = SessionOptions {
         mode,
         snapshot_every,
         snapshot_ratio: 0,
@@ -104,7 +104,7 @@ pub fn serve_wanted<D: Disk, R: MacroFunctions, I: Read, W: Recipient<D, R>>(
     store: &mut Store<D, R>,
     reader: &mut I,
     writer: &mut W,
-    wanted: Wanted,
+    wanted: SessionOptions,
 ) -> Ended
     requires begins { (world : WorldState) → store.old.world ≡ Some world
         → (kept : Account D) → W.account writer.old ≡ Some kept
@@ -152,7 +152,7 @@ fn answer_piece<D: Disk, R: MacroFunctions, W: Recipient<D, R>>(
     store: &mut Store<D, R>,
     pending: &mut Pending,
     writer: &mut W,
-    wanted: Wanted,
+    wanted: SessionOptions,
     course: &mut Course,
     piece: &[u8],
 ) -> Option<Ended>
@@ -197,7 +197,7 @@ fn answer_next<D: Disk, R: MacroFunctions, W: Recipient<D, R>>(
     store: &mut Store<D, R>,
     pending: &mut Pending,
     writer: &mut W,
-    wanted: Wanted,
+    wanted: SessionOptions,
     course: &mut Course,
     piece: &[u8],
 ) -> Result<usize, Ended>
@@ -284,7 +284,7 @@ fn answer_end<D: Disk, R: MacroFunctions, W: Recipient<D, R>>(
     store: &mut Store<D, R>,
     pending: Pending,
     writer: &mut W,
-    wanted: Wanted,
+    wanted: SessionOptions,
     course: &mut Course,
 ) -> Ended
     requires pending { AwaitsMore R.Meaning.functions store.old.world wanted.mode pending }
@@ -327,7 +327,7 @@ fn finish<D: Disk, R: MacroFunctions>(
     requires count { fed pending.reader ≤ 2 ^ 63 }
     ensures finishes { (w : WorldState) → store.now.world ≡ Some w → (bytes : List ℕ)
         → IsPending R.Meaning.functions w mode pending bytes
-        → IfOk result (Finishes R.Meaning.functions w mode bytes) }
+        → IfOk result (FinishesInput R.Meaning.functions w mode bytes) }
     ensures sound { IfOk result IsSoundFed }
     ensures all_there { (w : WorldState) → store.now.world ≡ Some w
         → IfOk result (AreAllThere w) }

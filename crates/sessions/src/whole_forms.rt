@@ -2,9 +2,9 @@
 ghost use Rattle.std.specs.Prelude.{◌≡◌, ◌+◌, ◌<◌, ◌^◌, List, ℕ, Some, drop, length, IfOk, IfSome};
 ghost use Rattle.lisp_object.specs.Datum.{object_of};
 ghost use Rattle.plist_state.specs.State.{WorldState, Worlds};
-ghost use Rattle.prevalence_store.specs.steps.Batch.{IsEmpty, IsMarked, entries_in};
+ghost use Rattle.prevalence_store.specs.steps.Batch.{IsEmpty, IsWorldMarked, entries_in};
 ghost use Rattle.sessions.specs.steps.Answer.{IsFormOf};
-ghost use Rattle.sessions.specs.steps.Gather.{AreTaken, BeginsWhole, AreWithinLimit, MayBeTaken, TakesGroup};
+ghost use Rattle.sessions.specs.steps.Gather.{AreWholeFormsTaken, BeginsWhole, AreWithinLimit, MayBeTaken, TakesGroup};
 
 use crate::gather::{GatheredForms, GroupLimit};
 use crate::input::PlacedForm;
@@ -13,14 +13,14 @@ use disk_trait::Disk;
 use lisp_operators::either;
 use plist_state::World;
 use prevalence_store::{Batch, Store, Turn, Unlogged, WholeMacros};
-use session_words::Wanted;
+use session_words::SessionOptions;
 use std::alloc::AllocError;
 use user_macros::MacroFunctions;
 
 /// A form that was read, and a piece in which others may stand whole after it. They are taken as far as the limit goes.
 #[derive(Clone, Copy)]
 pub(crate) struct WholeForms<'a> {
-    pub(crate) wanted: Wanted,
+    pub(crate) wanted: SessionOptions,
     pub(crate) limit: GroupLimit,
     pub(crate) first: &'a PlacedForm,
     pub(crate) rest: &'a [u8],
@@ -37,10 +37,10 @@ impl WholeForms<'_> {
     ) -> Result<Option<GatheredForms>, AllocError>
         requires may { MayBeTaken R.Meaning.functions self.now world.old.0 }
         requires none { IsEmpty batch.old }
-        ensures taken { IfOk result (AreTaken R.Meaning.functions self.now
+        ensures taken { IfOk result (AreWholeFormsTaken R.Meaning.functions self.now
             world.old.0 world.new.0 (entries_in batch.new)) }
-        ensures marks { (worlds : Worlds) → IsMarked worlds world.old.1
-            → IsMarked worlds world.new.1 }
+        ensures marks { (worlds : Worlds) → IsWorldMarked worlds world.old.1
+            → IsWorldMarked worlds world.new.1 }
     {
         let mut gathered = GatheredForms::new(batch.alloc, self.limit);
         if !gathered.add(world, macros, batch, self.wanted, self.first)? {
@@ -67,7 +67,7 @@ impl<R: MacroFunctions> Turn<R> for WholeForms<'_> {
 
     ghost needs = { λ turn world. MayBeTaken R.Meaning.functions turn world };
 
-    ghost makes = { λ turn world left records made. AreTaken R.Meaning.functions turn world left records made };
+    ghost makes = { λ turn world left records made. AreWholeFormsTaken R.Meaning.functions turn world left records made };
 
     fn take(
         &self,
@@ -107,7 +107,7 @@ pub(crate) fn take_group<D: Disk, R: MacroFunctions>(
 {
     open_world(store).soundness();
     let strict = either(turn.wanted.strict, listening);
-    let wanted = Wanted {
+    let wanted = SessionOptions {
         strict,
         ..turn.wanted
     };

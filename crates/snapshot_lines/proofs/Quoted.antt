@@ -9,7 +9,7 @@ use Rattle.canon_printer.specs.Names.{with_backslashes}
 use Rattle.canon_printer.specs.Written.{is_escaped_in_text, printed_text}
 use Rattle.snapshot_lines.specs.declared.texts.Coming.{Coming}
 use Rattle.snapshot_lines.specs.declared.texts.Coming.TheVariants.{Item, End}
-use Rattle.snapshot_lines.specs.Texts.{unescaped, unescaped_first, items_rest, pair_text, IsAtItems, IsComing}
+use Rattle.snapshot_lines.specs.Texts.{unescaped, unescaped_first, items_rest, pair_text, IsAtItems, IsNextItem}
 
 -- ---- what is left of a text
 
@@ -152,7 +152,7 @@ abbrev pub IsItem : {A : Type 0} → (A → List ℕ) → List A → List ℕ �
 IsItem {A = A} f later after (Item item) = (x : A) × (xs : List A) × (later ≡ x ∷ xs) × (item.now ≡ f x ++ (items_rest (map f xs) ++ after))
 IsItem f later after (End rest) = (later ≡ []) × (rest.now ≡ after)
 
-pub next_item : {A : Type 0} (f : A → List ℕ) (later : List A) (after : List ℕ) (item : Coming) → IsComing (map f later) after item → IsItem f later after item
+pub next_item : {A : Type 0} (f : A → List ℕ) (later : List A) (after : List ℕ) (item : Coming) → IsNextItem (map f later) after item → IsItem f later after item
 next_item f [] after (Item item) is = absurd is
 next_item f [] after (End rest) is = (refl, is)
 next_item f (x ∷ xs) after (Item item) is = (x, xs, refl, is)

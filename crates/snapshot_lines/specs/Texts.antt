@@ -53,11 +53,11 @@ abbrev pub IsAtItems : List (List ℕ) → List ℕ → List ℕ → Type 0
 IsAtItems items after bytes = (bytes ≡ text_of_items items ++ after) ⊎ (bytes ≡ items_rest items ++ after)
 
 -- the first of these items comes next, or what stands after the list
-abbrev pub IsComing : List (List ℕ) → List ℕ → Coming → Type 0
-IsComing [] after (Item bytes) = ⊥
-IsComing [] after (End bytes) = bytes.now ≡ after
-IsComing (x ∷ xs) after (Item bytes) = bytes.now ≡ x ++ (items_rest xs ++ after)
-IsComing (x ∷ xs) after (End bytes) = ⊥
+abbrev pub IsNextItem : List (List ℕ) → List ℕ → Coming → Type 0
+IsNextItem [] after (Item bytes) = ⊥
+IsNextItem [] after (End bytes) = bytes.now ≡ after
+IsNextItem (x ∷ xs) after (Item bytes) = bytes.now ≡ x ++ (items_rest xs ++ after)
+IsNextItem (x ∷ xs) after (End bytes) = ⊥
 
 -- less than these bytes comes
 abbrev pub LeavesLess : List ℕ → Coming → Type 0

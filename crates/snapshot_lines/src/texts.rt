@@ -5,7 +5,7 @@ ghost use Rattle.std.specs.List.{list_all};
 ghost use Rattle.lisp_object.specs.Ascii.{is_ascii};
 ghost use Rattle.canon_printer.specs.Written.{printed_text};
 ghost use Rattle.package_table.specs.Table.{Name};
-ghost use Rattle.snapshot_lines.specs.Texts.{unescaped, unescaped_pair, texts_text, pair_text, pairs_text, IsAtItems, IsComing, LeavesLess};
+ghost use Rattle.snapshot_lines.specs.Texts.{unescaped, unescaped_pair, texts_text, pair_text, pairs_text, IsAtItems, IsNextItem, LeavesLess};
 ghost use Rattle.snapshot_lines.specs.Answers.{IsOfMade, Succeeds};
 
 use crate::error::BuildError;
@@ -36,7 +36,7 @@ pub fn after_byte(bytes: &[u8], byte: u8) -> Result<&[u8], BuildError>
 /// What comes next, where a list begins or after one of its items. `Damaged` where it is none of these.
 pub fn coming_item(bytes: &[u8]) -> Result<Coming<'_>, BuildError>
     ensures item { (items : List (List ℕ)) (after : List ℕ) → IsAtItems items after bytes.now
-        → Succeeds result (IsComing items after) }
+        → Succeeds result (IsNextItem items after) }
     ensures shorter { IfOk result (LeavesLess bytes.now) }
 {
     let [first, rest @ ..] = bytes else {

@@ -18,7 +18,7 @@ use Rattle.readtable_core.specs.Tables.{Table, standard}
 use Rattle.package_table.specs.Table.{Name, name_cmp, keyword}
 use Rattle.plist_state.specs.State.{Readtables, WorldState, standard_name, user_name, first_readtables}
 use Rattle.plist_state.specs.Readers.{readtable_names}
-use Rattle.plist_state.specs.Sound.{IsSoundWorldState, IsNamed, IsSymbol}
+use Rattle.plist_state.specs.Sound.{IsSoundWorldState, HasKeywordFunctions, IsSymbol}
 use Rattle.plist_state.proofs.Orders.{name_total, name_exact, one_name, name_tied}
 use Rattle.world_text.specs.Snapshot.{readtable_object, table_named}
 use Rattle.snapshot_text.specs.BuiltWorlds.{with_table, with_properties_of, with_readtables_of, CanBeMade}
@@ -208,7 +208,7 @@ pub record IsTableRow (s : WorldState) (rows : List Datum) (k : ℕ) (now : Worl
   pub proper : is_proper row ≡ true
   pub name : Name
   pub object : object_of row ≡ readtable_object name (table_named s name)
-  pub named : IsNamed now.packages (table_named s name)
+  pub named : HasKeywordFunctions now.packages (table_named s name)
   pub there : IsSymbol now.packages (keyword, name)
   pub can : CanBeMade now.readtables name
   pub later : (after : WorldState) → after ≡ with_table now name (table_named s name) → IsNaming s rows (k + 1) after
@@ -233,7 +233,7 @@ table_row_at s sound rows k now row so_far few is =
       proper = read.0;
       name = n;
       object = read.1 ∙ get_or-map (row_of s) ns k [] (object_of row) among;
-      named = subst (λ p. IsNamed p t) same (sound.readtables.each n t (table_is s n there));
+      named = subst (λ p. HasKeywordFunctions p t) same (sound.readtables.each n t (table_is s n there));
       there = subst (λ p. IsSymbol p (keyword, n)) same (sound.readtables.names n there);
       can = record {
         other = other;

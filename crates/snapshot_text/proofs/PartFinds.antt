@@ -5,7 +5,7 @@
 use Rattle.std.proofs.Common.{◌≡◌, Bool, true, false, not, None, Some, IsTrue, bytes_eq, is_some, refl, sym, ap, ◌∙◌, inl, inr}
 use Rattle.std.specs.Option.{option_map, option_map_or, option_and_then}
 use Rattle.std.specs.FinMap as finite
-use Rattle.package_table.specs.Table.{Name, Present, Package, Table, entry_at, IsPackage, IsPresent, IsExternal, Uses, Finds, IsJoined, AreSoundPackages}
+use Rattle.package_table.specs.Table.{Name, Present, Package, Table, entry_at, IsPackage, IsPresent, IsExternal, Uses, Finds, AreUsesSound, AreSoundPackages}
 use Rattle.package_table.specs.Lookup.{home_by_name}
 use Rattle.package_table.specs.Changes.{finds_other, user_finds_other, finds_other_than_shown}
 use Rattle.package_table.proofs.Names.{same_some, none_some}
@@ -61,7 +61,7 @@ module _ (t s : Table) (part : IsPartOf t s) where
   pub found_more : (p n h : Name) → home_by_name t p n ≡ Some h → Finds s p n h
   found_more p n h is = finds_more p n h (found_finds t n p h is)
 
-  module _ (joined : IsJoined s) where
+  module _ (joined : AreUsesSound s) where
     -- where a symbol is found there, it is the one that is found here, if any is
     pub only_found : (p n g h : Name) → home_by_name t p n ≡ Some g → Finds s p n h → g ≡ h
     only_found p n g h is finds = joined.one p n g h (found_more p n g is) finds

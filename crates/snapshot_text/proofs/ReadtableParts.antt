@@ -22,7 +22,7 @@ use Rattle.package_table.specs.Lookup.{is_symbol}
 use Rattle.plist_state.specs.declared.error.ReadtableError.TheVariants.{NoReadtable, StandardReadtable, Limit}
 use Rattle.plist_state.specs.State.{Readtables, WorldState, standard_name}
 use Rattle.plist_state.specs.Changes.{with_copy, in_state}
-use Rattle.plist_state.specs.Sound.{IsNamed}
+use Rattle.plist_state.specs.Sound.{HasKeywordFunctions}
 use Rattle.plist_state.proofs.Orders.{name_total, name_exact, one_name}
 use Rattle.world_text.specs.Snapshot.{entry_object, entry_objects}
 use Rattle.snapshot_text.specs.BuiltWorlds.{with_table, CanBeMade, IsWritable, IsNamedEntry}
@@ -100,7 +100,7 @@ not_set : (a : Bool) (e : CharacterEntry) → ◌≡◌ {A = Option CharacterEnt
 not_set true e is = refl
 not_set false e is = absurd cc
 
-pub first_making : (s : WorldState) (n : Name) (t : Table) (rows : List Datum) → IsNamed s.packages t → IsWritable s.readtables n (with_entries t standard.entries)
+pub first_making : (s : WorldState) (n : Name) (t : Table) (rows : List Datum) → HasKeywordFunctions s.packages t → IsWritable s.readtables n (with_entries t standard.entries)
     → list_all is_proper rows ≡ true → map object_of rows ≡ entry_objects t → IsMaking s n t rows 0 s
 first_making s n t rows named w proper objects = record {
   proper = proper;
@@ -126,7 +126,7 @@ pub record IsEntryRow (s : WorldState) (n : Name) (t : Table) (rows : List Datum
   pub later : (after : WorldState) → after ≡ with_table now n (with_character_entry table character entry) → IsMaking s n t rows (k + 1) after
 
 pub entry_row_at : (s : WorldState) (n : Name) (t : Table) (rows : List Datum) (k : ℕ) (now : WorldState) (row : Datum)
-    → IsNamed s.packages t → IsWritable s.readtables n (with_entries t standard.entries) → IsMaking s n t rows k now → k < length rows → row ≡ get_or rows k row
+    → HasKeywordFunctions s.packages t → IsWritable s.readtables n (with_entries t standard.entries) → IsMaking s n t rows k now → k < length rows → row ≡ get_or rows k row
     → IsEntryRow s n t rows k now row
 entry_row_at s n t rows k now row named w so_far few is =
     let us = entry_updates t in

@@ -16,8 +16,8 @@ are_covered registered s = list_all (λ n. list_all (is_covered registered) (fun
 
 -- Why bytes are refused: they are the text of no sound state in this version; or of one that names a function which is not
 -- there. That memory ran out is no word on them.
-abbrev pub IsRefused : List (List ℕ) → ℕ → List ℕ → SnapshotError → Type 0
-IsRefused registered version bytes Damaged = (s : WorldState) → IsSoundWorldState s → length bytes ≤ 4294967295 → snapshot_in version s ≢ Some bytes
-IsRefused registered version bytes MissingFunction =
+abbrev pub AreBytesRefused : List (List ℕ) → ℕ → List ℕ → SnapshotError → Type 0
+AreBytesRefused registered version bytes Damaged = (s : WorldState) → IsSoundWorldState s → length bytes ≤ 4294967295 → snapshot_in version s ≢ Some bytes
+AreBytesRefused registered version bytes MissingFunction =
     (s : WorldState) × IsSoundWorldState s × (snapshot_in version s ≡ Some bytes) × (length bytes ≤ 4294967295) × (are_covered registered s ≡ false)
-IsRefused registered version bytes OutOfMemory = Unit {0}
+AreBytesRefused registered version bytes OutOfMemory = Unit {0}

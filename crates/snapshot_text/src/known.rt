@@ -3,7 +3,7 @@ ghost use Rattle.std.specs.Prelude.{◌≡◌, ◌↔◌, true, All, IsTrue, unw
 ghost use Rattle.lisp_object.specs.Object.{nil, AllAtoms};
 ghost use Rattle.lisp_object.specs.Datum.{object_of, is_proper};
 ghost use Rattle.package_table.specs.Table.{AreSoundPackages};
-ghost use Rattle.plist_state.specs.Sound.{IsKnown, IsSymbol, IsValue};
+ghost use Rattle.plist_state.specs.Sound.{IsSymbolStorable, IsSymbol, IsValue};
 ghost use Rattle.plist_state.specs.Views.{symbol_of};
 
 use lisp_object::{Boxed, Datum, Items};
@@ -38,7 +38,7 @@ pub(crate) fn is_value(packages: &Packages, datum: &Datum) -> bool
 #[cycle(known)]
 fn are_known(packages: &Packages, datum: &Datum) -> bool
     requires { AreSoundPackages packages.now.0 }
-    ensures { IsTrue result ↔ AllAtoms (IsKnown packages.now.0) (object_of datum.now) }
+    ensures { IsTrue result ↔ AllAtoms (IsSymbolStorable packages.now.0) (object_of datum.now) }
 {
     match datum {
         Datum::Symbol { package, name } => packages.is_symbol(package.as_slice(), name.as_slice()),
@@ -57,7 +57,7 @@ fn are_known(packages: &Packages, datum: &Datum) -> bool
 #[cycle(known)]
 fn each_known(packages: &Packages, items: &Items<Datum>) -> bool
     requires { AreSoundPackages packages.now.0 }
-    ensures { IsTrue result ↔ All (λ d. AllAtoms (IsKnown packages.now.0) (object_of d)) items.now }
+    ensures { IsTrue result ↔ All (λ d. AllAtoms (IsSymbolStorable packages.now.0) (object_of d)) items.now }
 {
     let items = items.as_slice();
     for item in items {
@@ -71,7 +71,7 @@ fn each_known(packages: &Packages, items: &Items<Datum>) -> bool
 #[cycle(known)]
 fn end_known(packages: &Packages, tail: &Option<Boxed<Datum>>) -> bool
     requires { AreSoundPackages packages.now.0 }
-    ensures { IsTrue result ↔ AllAtoms (IsKnown packages.now.0)
+    ensures { IsTrue result ↔ AllAtoms (IsSymbolStorable packages.now.0)
         (unwrap_or (option_map object_of tail.now) nil) }
 {
     match tail {

@@ -4,7 +4,7 @@ ghost use Rattle.readtable_core.specs.Tables.{standard};
 ghost use Rattle.plist_state.specs.State.{WorldState, initial};
 ghost use Rattle.snapshot_text.specs.BuiltWorlds.{with_packages_of, with_properties_of};
 ghost use Rattle.plist_state.specs.Sound.{IsSoundWorldState as IsSoundState};
-ghost use Rattle.snapshot_text.specs.NamedFunctions.{are_covered, IsRefused};
+ghost use Rattle.snapshot_text.specs.NamedFunctions.{are_covered, AreBytesRefused};
 ghost use Rattle.world_text.specs.Snapshot.{packages_object, tables_object_in, snapshot_line, snapshot_in};
 ghost use Rattle.lisp_object.specs.Object.{Object};
 ghost use Rattle.snapshot_lines.specs.Answers.{IsOfMade, OrNoMemory};
@@ -130,7 +130,7 @@ fn approve<R: MacroFunctions>(
     ensures text { OnOk result (snapshot_in version world.now.0 ≡ Some bytes.now) }
     ensures covered { OnOk result (are_covered (R.functions macros.now).names world.now.0 ≡ true) }
     ensures refused { IfErr result
-        (IsRefused (R.functions macros.now).names version bytes.now) }
+        (AreBytesRefused (R.functions macros.now).names version bytes.now) }
 {
     world.soundness();
     // what was built from the bytes of no text has another one, or none in this version
@@ -169,7 +169,7 @@ pub fn read<R: MacroFunctions>(
         ≡ true) }
     ensures unmarked { IfOk result (λ world. world.1 ≡ []) }
     ensures refused { IfErr result
-        (IsRefused (R.functions macros.now).names version bytes.now) }
+        (AreBytesRefused (R.functions macros.now).names version bytes.now) }
 {
     read_with_seed(alloc, version, bytes, macros, Seed::fixed())
 }
@@ -194,7 +194,7 @@ pub fn read_with_seed<R: MacroFunctions>(
         ≡ true) }
     ensures unmarked { IfOk result (λ world. world.1 ≡ []) }
     ensures refused { IfErr result
-        (IsRefused (R.functions macros.now).names version bytes.now) }
+        (AreBytesRefused (R.functions macros.now).names version bytes.now) }
 {
     if bytes.len() > MOST_BYTES {
         return Err(SnapshotError::Damaged);

@@ -13,7 +13,7 @@ ghost use Rattle.readtable_core.specs.Changes.{macro_syntax, with_character_entr
 ghost use Rattle.package_table.specs.Table.{Name, keyword};
 ghost use Rattle.plist_state.specs.State.{WorldState, first_base};
 ghost use Rattle.plist_state.specs.Changes.{with_base};
-ghost use Rattle.plist_state.specs.Sound.{IsSymbol, IsNamed, IsSoundWorldState as IsSoundState};
+ghost use Rattle.plist_state.specs.Sound.{IsSymbol, HasKeywordFunctions, IsSoundWorldState as IsSoundState};
 ghost use Rattle.world_text.specs.Snapshot.{number, dispatch_objects, entry_object, entry_objects, readtable_object, readtables_object, tables_object, tables_object_1, tables_object_in};
 ghost use Rattle.snapshot_text.specs.BuiltWorlds.{with_table, with_properties_of, with_readtables_of, CanBeMade, IsWritable, IsSubFunction, IsNamedEntry};
 ghost use Rattle.snapshot_lines.specs.Answers.{OrNoMemory, Succeeds};
@@ -177,7 +177,7 @@ fn make_readtable(world: &mut World, name: &[u8], letters: &Datum) -> Result<(),
 // Sets the entries that are not as in the standard readtable.
 fn put_entries(world: &mut World, name: &[u8], entries: &Datum) -> Result<(), BuildError>
     ensures { is_proper entries.now ≡ true → (t : readtable.Table)
-        → object_of entries.now ≡ list_of (entry_objects t) → IsNamed world.old.0.packages t
+        → object_of entries.now ≡ list_of (entry_objects t) → HasKeywordFunctions world.old.0.packages t
         → IsWritable world.old.0.readtables name.now
         (record readtable.standard { letters = t.letters })
         → OrNoMemory (world.new.0 ≡ with_table world.old.0 name.now t) result }
@@ -191,7 +191,7 @@ fn put_entries(world: &mut World, name: &[u8], entries: &Datum) -> Result<(), Bu
 // Makes a readtable: its name, its case, and the entries that are not as in the standard one.
 fn put_readtable(world: &mut World, row: &Datum) -> Result<(), BuildError>
     ensures { is_proper row.now ≡ true → (name : Name) (t : readtable.Table)
-        → object_of row.now ≡ readtable_object name t → IsNamed world.old.0.packages t
+        → object_of row.now ≡ readtable_object name t → HasKeywordFunctions world.old.0.packages t
         → IsSymbol world.old.0.packages (keyword, name) → CanBeMade world.old.0.readtables name
         → OrNoMemory (world.new.0 ≡ with_table world.old.0 name t) result }
 {

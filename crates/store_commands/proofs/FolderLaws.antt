@@ -6,33 +6,33 @@ use Rattle.disk_trait.specs.declared.host.HostError.{HostError}
 use Rattle.disk_trait.specs.declared.host.HostError.TheVariants.{NoName}
 use Rattle.disk_trait.specs.declared.host.IfMissing.{IfMissing}
 use Rattle.disk_trait.specs.Disk.{IsHonest, State}
-use Rattle.session_words.specs.declared.wanted.Wanted.{Wanted}
+use Rattle.session_words.specs.declared.wanted.SessionOptions.{SessionOptions}
 use Rattle.user_macros.specs.Functions.{Functions}
-use Rattle.store_commands.specs.Commands.{DoesAfter, IsUntouched, OpensFolder, SitsAfter}
+use Rattle.store_commands.specs.Commands.{DoesAfter, AreStreamsUntouched, OpensFolder, SitsAfter}
 use Rattle.store_commands.specs.Folders.{HoldsStore, LooksWhether, OpensStore}
 use Rattle.command_words.specs.declared.words.Task.{Task}
 use Rattle.command_words.specs.declared.words.Task.TheVariants.{Export, Run, Snapshot, Tell, Upgrade}
 use Rattle.store_commands.specs.Status.{status_of_host}
 use Rattle.store_commands.specs.declared.status.Status.{Status}
-use Rattle.store_commands.specs.declared.told.Told.{Told}
-use Rattle.store_commands.specs.declared.told.Told.TheVariants.{Cause}
+use Rattle.store_commands.specs.declared.told.Remark.{Remark}
+use Rattle.store_commands.specs.declared.told.Remark.TheVariants.{Cause}
 
 module _ {D I O : Type 0} (input left : I) (held written : O) (opens : Text → Bool → Result D HostError → Type 0) (follows : D → Type 0) (folder : Text) (existing : Bool) where
   -- the opening was asked for once, if the folder has a name
   abbrev Opening : Result D HostError → Type 0
   Opening result = ((folder ≡ []) × (result ≡ Err NoName)) ⊎ ((folder ≢ []) × opens folder existing result)
 
-  abbrev Opened : Status → Told → Type 0
+  abbrev Opened : Status → Remark → Type 0
   Opened status told = OpensFolder input left held written opens follows folder existing status told
 
-  pub opening_failed : (result : Result D HostError) (error : HostError) (status : Status) (told : Told) → result ≡ Err error → Opening result
-      → status ≡ status_of_host error → told ≡ Cause error → IsUntouched input left held written → Opened status told
+  pub opening_failed : (result : Result D HostError) (error : HostError) (status : Status) (told : Remark) → result ≡ Err error → Opening result
+      → status ≡ status_of_host error → told ≡ Cause error → AreStreamsUntouched input left held written → Opened status told
   opening_failed result error status told is (inl (none, bad)) ends tells same =
       let nameless : error ≡ NoName = cc in inl (inr (inr (none, ends ∙ ap status_of_host nameless)), same)
   opening_failed result error status told is (inr (named, opened)) ends tells same =
       inr (inl (error, subst (opens folder existing) is opened, ends, tells, same))
 
-  pub opening_gave : (result : Result D HostError) (disk : D) (status : Status) (told : Told) → result ≡ Ok disk → Opening result → follows disk → Opened status told
+  pub opening_gave : (result : Result D HostError) (disk : D) (status : Status) (told : Remark) → result ≡ Ok disk → Opening result → follows disk → Opened status told
   opening_gave result disk status told is (inl (none, bad)) after = absurd (cc)
   opening_gave result disk status told is (inr (named, opened)) after =
       inr (inr (disk, subst (opens folder existing) is opened, after))
@@ -55,7 +55,7 @@ existing_is_open state tells opens folder disk (first, opened, looks) honest =
 
 -- the same of what is equal
 module _ (functions : Functions) {D R : Type 0} (state : D → State) (macros : R) (whole : Bool) {I O : Type 0} (remaining : I → Option (List ℕ)) (contents : O → Option (List ℕ))
-    (input left : I) (held written : O) (opens : Text → Bool → Result D HostError → Type 0) (told : Told) (e f : Text) (m n : Bool) (t u : Task) (s r : Status)
+    (input left : I) (held written : O) (opens : Text → Bool → Result D HostError → Type 0) (told : Remark) (e f : Text) (m n : Bool) (t u : Task) (s r : Status)
     (same_folder : e ≡ f) (same_existing : m ≡ n) (same_task : t ≡ u) (same_status : s ≡ r) where
   pub moved_opening : OpensFolder input left held written opens (DoesAfter functions state macros whole remaining contents input left held written u r told) f n r told
       → OpensFolder input left held written opens (DoesAfter functions state macros whole remaining contents input left held written t s told) e m s told
@@ -67,14 +67,14 @@ module _ (functions : Functions) {D R : Type 0} (state : D → State) (macros : 
 
 -- at a terminal, of each task
 module _ (functions : Functions) {D R : Type 0} (state : D → State) (macros : R) (whole : Bool) {I O : Type 0} (remaining : I → Option (List ℕ)) (contents : O → Option (List ℕ))
-    (input left : I) (held written : O) (opens : Text → Bool → Result D HostError → Type 0) (told : Told) (folder : Text) (existing : Bool) (status : Status) where
+    (input left : I) (held written : O) (opens : Text → Bool → Result D HostError → Type 0) (told : Remark) (folder : Text) (existing : Bool) (status : Status) where
   abbrev Sat : Task → Type 0
   Sat task = OpensFolder input left held written opens (SitsAfter functions state macros whole remaining contents input left held written task status told) folder existing status told
 
-  pub sat_in_a_row : (task : Task) (wanted : Wanted) → task ≡ Run wanted → Sat (Run wanted) → Sat task
+  pub sat_in_a_row : (task : Task) (wanted : SessionOptions) → task ≡ Run wanted → Sat (Run wanted) → Sat task
   sat_in_a_row task wanted is sat = subst Sat (sym is) sat
 
-  pub sat_as_anywhere : (task : Task) → ((wanted : Wanted) → task ≡ Run wanted → ⊥)
+  pub sat_as_anywhere : (task : Task) → ((wanted : SessionOptions) → task ≡ Run wanted → ⊥)
       → OpensFolder input left held written opens (DoesAfter functions state macros whole remaining contents input left held written task status told) folder existing status told → Sat task
   sat_as_anywhere (Run wanted) other done = absurd (other wanted refl)
   sat_as_anywhere Snapshot other done = done

@@ -7,7 +7,7 @@ use Rattle.plist_state.specs.State.{WorldState}
 use Rattle.world_text.specs.Snapshot.{snapshot}
 use Rattle.messages.specs.Position.{position}
 use Rattle.user_macros.specs.Functions.{Functions}
-use Rattle.store_commands.specs.Commands.{TaskBreaksOff, TaskWrites, is_of_opening}
+use Rattle.store_commands.specs.Commands.{TaskBreaksOff, TaskWrites, is_opening_fault}
 use Rattle.store_commands.specs.Report.{DumpsWorld, IsReport, TellsHalfAndPosition}
 use Rattle.store_commands.specs.Status.{HasFaultNumber, IsFaultNumber, TakesWords, status_of_output}
 use Rattle.diagnostics.specs.Texts.{WritesOut}
@@ -15,7 +15,7 @@ use Rattle.store_commands.specs.Texts.{TellsText}
 use Rattle.diagnostics.specs.declared.fault.Unwritten.{Unwritten}
 use Rattle.store_commands.specs.declared.status.Status.{Status}
 use Rattle.store_commands.specs.declared.status.Status.TheVariants.{Done, Helped, FormRefused, Unanswered, WordsRefused, LeftOut, Fault}
-use Rattle.store_commands.specs.declared.told.Told.{Told}
+use Rattle.store_commands.specs.declared.told.Remark.{Remark}
 use Rattle.command_words.specs.declared.words.Report.{Report}
 use Rattle.command_words.specs.declared.words.Report.TheVariants.{Dump, Verify}
 use Rattle.command_words.specs.declared.words.Task.TheVariants.{Tell}
@@ -51,11 +51,11 @@ module _ (held written : Option (List ℕ)) (text : List ℕ) where
   text_taken LeftOut told = absurd told
 
   -- no text ends with a number of an opening
-  numbers_of_text : (given : ℕ) → TellsText (Fault given) held written text → is_of_opening given ≡ true → ⊥
+  numbers_of_text : (given : ℕ) → TellsText (Fault given) held written text → is_opening_fault given ≡ true → ⊥
   numbers_of_text given (inl cut) of = other_number given OUTPUT cut.0 refl of
   numbers_of_text given (inr none) of = other_number given NO_MEMORY none.0 refl of
 
-  pub text_of_no_opening : (status : Status) (number : ℕ) → status ≡ Fault number → TellsText status held written text → is_of_opening number ≡ true → ⊥
+  pub text_of_no_opening : (status : Status) (number : ℕ) → status ≡ Fault number → TellsText status held written text → is_opening_fault number ≡ true → ⊥
   text_of_no_opening status number is told of = numbers_of_text number (subst (λ (s : Status). TellsText s held written text) is told) of
 
   number_of_text : (number : ℕ) → TellsText (Fault number) held written text → IsFaultNumber number
@@ -100,7 +100,7 @@ module _ (functions : Functions) {D R : Type 0} (state : D → State) (disk : D)
   verify_writes LeftOut told = absurd told.tells
 
   -- what a report writes that ends well, and one that is broken off
-  pub report_writes : (report : Report) (status : Status) (said : Told) (input : List ℕ) → IsReport functions state report disk macros held written status back
+  pub report_writes : (report : Report) (status : Status) (said : Remark) (input : List ℕ) → IsReport functions state report disk macros held written status back
       → TaskWrites functions (Tell report) status said input had written
   report_writes Dump status said input told = dump_writes status told
   report_writes Verify status said input told = verify_writes status told

@@ -8,7 +8,7 @@ use Rattle.sessions.specs.Account.{Account, AreUnderWay, first_account}
 use Rattle.prevalence_store.specs.calls.Store.{StoreView}
 use Rattle.sessions.specs.declared.ending.Ended.{Ended}
 use Rattle.session_ledger.specs.OutgoingLines.{Went, calls_in, handings_of}
-use Rattle.session_words.specs.declared.wanted.Wanted.{Wanted}
+use Rattle.session_words.specs.declared.wanted.SessionOptions.{SessionOptions}
 use Rattle.store_commands.specs.Sessions.{Earlier, InTurn, calls_before, calls_in_turn}
 use Rattle.store_laws.specs.Batches.{AreTogether}
 use Rattle.store_laws.specs.Sessions.{AreCalls, AreHanded, Handing, account_after, call_since, calls_of}
@@ -68,7 +68,7 @@ module _ (functions : Functions) {D : Type 0} (state : D → State) where
 
 -- ---- sessions
 
-module _ (functions : Functions) (wanted : Wanted) {D R : Type 0} (state : D → State)
+module _ (functions : Functions) (wanted : SessionOptions) {D R : Type 0} (state : D → State)
     (holds : (start : D) (world : WorldState) (earlier later : List (Call D)) → IsHonest (state start) → Keeps functions (state start) world
     → Run functions state start (Some world) (earlier ++ later) → Headline functions state start world earlier later)
     (ends : (first : Account D) (handings : List (Handing D R)) (closed : StoreView D R) (handed : AreHanded functions state first handings)

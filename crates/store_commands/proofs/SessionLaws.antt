@@ -11,23 +11,23 @@ use Rattle.sessions.specs.declared.ending.Ended.{Ended}
 use Rattle.sessions.specs.declared.ending.Ended.TheVariants as ways
 use Rattle.sessions.specs.declared.ending.Ended.TheVariants.{Unaccepted, Unreadable}
 use Rattle.sessions.specs.declared.ending.Place.{Place}
-use Rattle.session_words.specs.declared.wanted.Wanted.{Wanted}
+use Rattle.session_words.specs.declared.wanted.SessionOptions.{SessionOptions}
 use Rattle.user_macros.specs.Functions.{Functions}
 use Rattle.sessions.specs.Pace.{Pace}
 use Rattle.prevalence_store.specs.calls.Open.{fault_number}
 use Rattle.lisp_object.specs.Object.{Object}
 use Rattle.lisp_operators.specs.Evaluation.{Evaluation}
-use Rattle.lisp_reading.specs.Reading.{Outcome as Reading, empty, refused}
+use Rattle.lisp_reading.specs.Reading.{ReadingResult as Reading, empty, refused}
 use Rattle.sessions.specs.Answers.{Progress, after_forms, first_progress, form_progress, last_line, one_form, one_form_more, onward, refusal_line}
-use Rattle.sessions.specs.Serve.{IsUnaccepted, Serves, ServesInput, ServesWanted}
+use Rattle.sessions.specs.Serve.{IsFormUnaccepted, Serves, ServesInput, ServesWanted}
 use Rattle.prevalence_store.specs.calls.Store.{StoreView}
 use Rattle.prevalence_store.specs.meaning.Acceptance.{between, read_in}
-use Rattle.store_commands.specs.Commands.{is_of_opening}
+use Rattle.store_commands.specs.Commands.{is_opening_fault}
 use Rattle.store_commands.specs.Session.{AnswersInput, AnswersToRefusal, IsBrokenOff, LinesAreWritten, ReadsToEnd}
 use Rattle.store_commands.specs.Status.{HasFaultNumber, IsFaultNumber, status_of_ended}
 use Rattle.store_commands.specs.EndLines.{IsToldOf}
 use Rattle.diagnostics.specs.declared.refusal.Refusal.{Refusal}
-use Rattle.store_commands.specs.declared.told.Told.{Told}
+use Rattle.store_commands.specs.declared.told.Remark.{Remark}
 use Rattle.store_commands.proofs.Statuses.{other_number}
 
 module _ (functions : Functions) (mode : Mode) where
@@ -222,7 +222,7 @@ module _ (functions : Functions) (mode : Mode) where
     ]
 
     -- no session ends with a number of an opening
-    none_of_opening : {group : Bool} {pace : Pace} (number : ℕ) → ServesInput functions state group pace old new w mode had has held_now written (Store number) → is_of_opening number ≡ true → ⊥
+    none_of_opening : {group : Bool} {pace : Pace} (number : ℕ) → ServesInput functions state group pace old new w mode had has held_now written (Store number) → is_opening_fault number ≡ true → ⊥
     none_of_opening number served of =
         elim served.serves.ends [
           | inl stopped ↦ other_number number DEVICE stopped.device refl of
@@ -246,7 +246,7 @@ module _ (functions : Functions) (mode : Mode) where
 
 -- one refused form more has one line more
 refused_line : (functions : Functions) (mode : Mode) (w : WorldState) (text : List ℕ) (forms accepted : ℕ) (far before : Progress) (number start : ℕ) → forms ≡ accepted + 1
-    → after_forms functions forms w mode text ≡ Some far → after_forms functions accepted w mode text ≡ Some before → IsUnaccepted functions before.world mode before.rest number start
+    → after_forms functions forms w mode text ≡ Some far → after_forms functions accepted w mode text ≡ Some before → IsFormUnaccepted functions before.world mode before.rest number start
     → far.lines ≡ before.lines ++ refusal_line number
 refused_line functions mode w text forms accepted far before number start one_more far_is before_is refuses =
     let reads : one_form functions before.world mode before.rest (read_in functions before.world mode before.rest)
@@ -262,7 +262,7 @@ refused_line functions mode w text forms accepted far before number start one_mo
     sym far_is ∙ sym (ap (λ n. after_forms functions n w mode text) same) ∙ there in
     ap (λ (o : Option Progress). elim o [ None ↦ [] | Some p ↦ p.lines ]) both
 
-module _ (functions : Functions) (wanted : Wanted) {D R : Type 0} (state : D → State) (old new : StoreView D R) (w : WorldState) (had has held_now written : Option (List ℕ)) where
+module _ (functions : Functions) (wanted : SessionOptions) {D R : Type 0} (state : D → State) (old new : StoreView D R) (w : WorldState) (had has held_now written : Option (List ℕ)) where
   abbrev ServesSo : Ended → Type 0
   ServesSo = ServesWanted functions state wanted old new w had has held_now written
 
@@ -311,7 +311,7 @@ module _ (functions : Functions) (wanted : Wanted) {D R : Type 0} (state : D →
             ∙ ap (λ l. Some (held ++ l)) (refused_line functions wanted.mode w served.1 s.forms s.accepted s.far s.before number s.start s.one_more s.advances.far_is s.before_is s.refuses),
       ))
 
-  pub answers_input : (ended : Ended) (told : Told) → IsToldOf ended told → ServesSo ended → (input held : List ℕ) → had ≡ Some input → held_now ≡ Some held
+  pub answers_input : (ended : Ended) (told : Remark) → IsToldOf ended told → ServesSo ended → (input held : List ℕ) → had ≡ Some input → held_now ≡ Some held
       → AnswersInput functions wanted (status_of_ended ended) told input held written
   unfolding done_input
   answers_input ways.End told none served input held left holds =
@@ -366,7 +366,7 @@ module _ (functions : Functions) (wanted : Wanted) {D R : Type 0} (state : D →
   fault_of_session (ways.Store code) served = λ number is.
       let same : code ≡ number = cc in subst IsFaultNumber same (fault_of_input functions wanted.mode state old new w had has held_now written code served.0)
 
-  pub no_opening_at : (ended : Ended) (number : ℕ) → ended ≡ ways.Store number → ServesSo ended → is_of_opening number ≡ true → ⊥
+  pub no_opening_at : (ended : Ended) (number : ℕ) → ended ≡ ways.Store number → ServesSo ended → is_opening_fault number ≡ true → ⊥
   no_opening_at ended number is served =
       none_of_opening functions wanted.mode state old new w had has held_now written number (subst ServesSo is served).0
 

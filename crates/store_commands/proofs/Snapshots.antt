@@ -9,7 +9,7 @@ use Rattle.prevalence_store.specs.calls.Store.{StoreView}
 use Rattle.prevalence_store.specs.declared.outcome.Outcome.{Outcome}
 use Rattle.prevalence_store.specs.declared.outcome.Outcome.TheVariants.{Accepted, Snapshotted, Refused}
 use Rattle.user_macros.specs.Functions.{Functions}
-use Rattle.store_commands.specs.Commands.{TaskBreaksOff, is_of_opening}
+use Rattle.store_commands.specs.Commands.{TaskBreaksOff, is_opening_fault}
 use Rattle.store_commands.specs.Report.{HasNoValue, TellsHalf, TellsSnapshot, half_line, half_line_of}
 use Rattle.store_commands.specs.Status.{HasFaultNumber, IsFaultNumber, TakesWords}
 use Rattle.store_commands.specs.Texts.{TellsText}
@@ -31,7 +31,7 @@ module _ (functions : Functions) {D R : Type 0} (state : D → State) (old new :
   number_of number (inr (inl fault)) = inl fault.device
   number_of number (inr (inr memory)) = inr (inr memory.memory)
 
-  none_of_opening : (number : ℕ) → Snapshots functions state old new world (Refused number) → is_of_opening number ≡ true → ⊥
+  none_of_opening : (number : ℕ) → Snapshots functions state old new world (Refused number) → is_opening_fault number ≡ true → ⊥
   none_of_opening number (inl large) of = other_number number SNAPSHOT_TOO_LARGE large.large refl of
   none_of_opening number (inr (inl fault)) of = other_number number DEVICE fault.device refl of
   none_of_opening number (inr (inr memory)) of = other_number number NO_MEMORY memory.memory refl of
@@ -40,10 +40,10 @@ module _ (functions : Functions) {D R : Type 0} (state : D → State) (old new :
   refused_fault given status why is =
       subst HasFaultNumber (sym is) (λ number fault. let same : given ≡ number = cc in subst IsFaultNumber same (number_of given why))
 
-  pub refused_opening : (given number : ℕ) → Snapshots functions state old new world (Refused given) → Fault given ≡ Fault number → is_of_opening number ≡ true → ⊥
+  pub refused_opening : (given number : ℕ) → Snapshots functions state old new world (Refused given) → Fault given ≡ Fault number → is_opening_fault number ≡ true → ⊥
   refused_opening given number why both of =
       let same : given ≡ number = cc in
-      none_of_opening given why (ap is_of_opening same ∙ of)
+      none_of_opening given why (ap is_opening_fault same ∙ of)
 
   module _ (held written : Option (List ℕ)) where
     pub snapshot_taken : (outcome : Outcome) (status : Status) → TellsSnapshot outcome new status held written → TakesWords status
@@ -58,7 +58,7 @@ module _ (functions : Functions) {D R : Type 0} (state : D → State) (old new :
     snapshot_fault (Refused given) status why told = refused_fault given status why told.0
 
     pub snapshot_of_no_opening : (outcome : Outcome) (status : Status) (number : ℕ) → status ≡ Fault number
-        → Snapshots functions state old new world outcome → TellsSnapshot outcome new status held written → is_of_opening number ≡ true → ⊥
+        → Snapshots functions state old new world outcome → TellsSnapshot outcome new status held written → is_opening_fault number ≡ true → ⊥
     snapshot_of_no_opening (Accepted value) status number is none told of = none
     snapshot_of_no_opening Snapshotted status number is done told of = text_of_no_opening held written (half_line_of new) status number is told of
     snapshot_of_no_opening (Refused given) status number is why told of = refused_opening given number why (sym told.0 ∙ is) of

@@ -5,13 +5,13 @@ use Rattle.clap.specs.declared.error.kind.ErrorKind.{ErrorKind}
 use Rattle.clap.specs.declared.error.kind.ErrorKind.TheVariants.{OutOfMemory}
 use Rattle.sessions.specs.declared.ending.Ended.{Ended}
 use Rattle.sessions.specs.declared.ending.Ended.TheVariants.{End, Store, Unaccepted, Unreadable}
-use Rattle.session_words.specs.declared.wanted.Wanted.{Wanted}
+use Rattle.session_words.specs.declared.wanted.SessionOptions.{SessionOptions}
 use Rattle.store_commands.specs.declared.status.Status.{Status}
 use Rattle.store_commands.specs.declared.status.Status.TheVariants.{Done, Helped, FormRefused, Unanswered, WordsRefused, LeftOut, Fault}
-use Rattle.store_commands.specs.Commands.{IsEarlyFault, is_of_opening}
-use Rattle.store_commands.specs.Status.{EndsAfter, HasFaultNumber, IsAfterOneOf, IsAfterWords, IsCarriedOut, IsFaultNumber, IsOfWords, TakesWords, status_after, status_of_ended, status_of_host}
+use Rattle.store_commands.specs.Commands.{IsEarlyFault, is_opening_fault}
+use Rattle.store_commands.specs.Status.{EndsAfter, HasFaultNumber, IsAfterOneOf, IsStatusAfterWords, IsCarriedOut, IsFaultNumber, IsOfWords, TakesWords, status_after, status_of_ended, status_of_host}
 use Rattle.store_commands.specs.EndLines.{TellsFault}
-use Rattle.store_commands.specs.declared.told.Told.TheVariants.{Nothing}
+use Rattle.store_commands.specs.declared.told.Remark.TheVariants.{Nothing}
 use Rattle.lisp_object.specs.declared.refusal.TheConstants.{NO_MEMORY, OUTPUT}
 use Rattle.disk_trait.specs.declared.host.HostError.{HostError}
 use Rattle.disk_trait.specs.declared.host.HostError.TheVariants as host
@@ -27,16 +27,16 @@ pub taken_at_end : (status given : Status) (ended : Ended) → status ≡ given 
 taken_at_end status given ended same is = subst TakesWords (sym (same ∙ is)) (of_session ended)
 
 -- of out of memory, or of the output
-of_memory : (status : Status) → IsAfterWords OutOfMemory status → TakesWords status
+of_memory : (status : Status) → IsStatusAfterWords OutOfMemory status → TakesWords status
 of_memory status (inl is) = subst TakesWords (sym is) tt
 of_memory status (inr both) = subst TakesWords (sym both.1) tt
 
-pub taken_at_memory : (status given : Status) (kind : ErrorKind) → status ≡ given → kind ≡ OutOfMemory → IsAfterWords kind given → TakesWords status
+pub taken_at_memory : (status given : Status) (kind : ErrorKind) → status ≡ given → kind ≡ OutOfMemory → IsStatusAfterWords kind given → TakesWords status
 taken_at_memory status given kind same memory after =
-    subst TakesWords (sym same) (of_memory given (subst (λ k. IsAfterWords k given) memory after))
+    subst TakesWords (sym same) (of_memory given (subst (λ k. IsStatusAfterWords k given) memory after))
 
 -- the status after a session is that of its end, or a strict one answered nothing
-pub status_so : (wanted : Wanted) (ended : Ended) (unanswered : Bool) (status : Status) → status ≡ status_after wanted.strict unanswered ended
+pub status_so : (wanted : SessionOptions) (ended : Ended) (unanswered : Bool) (status : Status) → status ≡ status_after wanted.strict unanswered ended
     → ((status ≡ status_of_ended ended) ⊎ ((wanted.strict ≡ true) × (ended ≡ End) × (status ≡ Unanswered)))
 status_so wanted End unanswered status is = go wanted.strict unanswered is
   where
@@ -78,19 +78,19 @@ taken_early status (inr (inr is)) = subst TakesWords (sym is) tt
 
 -- ---- after words that have mistakes
 
-after_memory : (status : Status) → IsAfterWords OutOfMemory status → status ≡ Fault NO_MEMORY
+after_memory : (status : Status) → IsStatusAfterWords OutOfMemory status → status ≡ Fault NO_MEMORY
 after_memory status (inl is) = is
 after_memory status (inr both) = absurd (cc)
 
-after_one : (kinds : Kinds) (kind : ErrorKind) (status : Status) → IsAmong kind kinds → IsAfterWords kind status → IsAfterOneOf kinds status
+after_one : (kinds : Kinds) (kind : ErrorKind) (status : Status) → IsAmong kind kinds → IsStatusAfterWords kind status → IsAfterOneOf kinds status
 after_one [] kind status none after = absurd none
-after_one (k ∷ ks) kind status (inl is) after = inl (subst (λ x. IsAfterWords x status) is after)
+after_one (k ∷ ks) kind status (inl is) after = inl (subst (λ x. IsStatusAfterWords x status) is after)
 after_one (k ∷ ks) kind status (inr among) after = inr (after_one ks kind status among after)
 
-pub ends_after : (kinds : Kinds) (kind : ErrorKind) (status : Status) → (kind ≡ OutOfMemory) ⊎ IsAmong kind kinds → IsAfterWords kind status → EndsAfter kinds status
-ends_after [] kind status (inl memory) after = of_memory status (subst (λ k. IsAfterWords k status) memory after)
+pub ends_after : (kinds : Kinds) (kind : ErrorKind) (status : Status) → (kind ≡ OutOfMemory) ⊎ IsAmong kind kinds → IsStatusAfterWords kind status → EndsAfter kinds status
+ends_after [] kind status (inl memory) after = of_memory status (subst (λ k. IsStatusAfterWords k status) memory after)
 ends_after [] kind status (inr none) after = absurd none
-ends_after (k ∷ ks) kind status (inl memory) after = inl (after_memory status (subst (λ x. IsAfterWords x status) memory after))
+ends_after (k ∷ ks) kind status (inl memory) after = inl (after_memory status (subst (λ x. IsStatusAfterWords x status) memory after))
 ends_after (k ∷ ks) kind status (inr among) after = inr (after_one (k ∷ ks) kind status among after)
 
 -- where there is no mistake only memory can be refused
@@ -98,13 +98,13 @@ pub only_memory : (kinds : Kinds) (kind : ErrorKind) → kinds ≡ [] → (kind 
 only_memory kinds kind none (inl memory) = memory
 only_memory kinds kind none (inr among) = absurd (subst (IsAmong kind) none among)
 
-pub memory_at : (status given : Status) (kind : ErrorKind) → status ≡ given → kind ≡ OutOfMemory → IsAfterWords kind given → status ≡ Fault NO_MEMORY
-memory_at status given kind same memory after = same ∙ after_memory given (subst (λ k. IsAfterWords k given) memory after)
+pub memory_at : (status given : Status) (kind : ErrorKind) → status ≡ given → kind ≡ OutOfMemory → IsStatusAfterWords kind given → status ≡ Fault NO_MEMORY
+memory_at status given kind same memory after = same ∙ after_memory given (subst (λ k. IsStatusAfterWords k given) memory after)
 
 -- ---- the numbers of an opening are those of nothing else
 
-pub other_number : (number given : ℕ) → number ≡ given → is_of_opening given ≡ false → is_of_opening number ≡ true → ⊥
-other_number number given is other of = true≢false (sym of ∙ ap is_of_opening is ∙ other)
+pub other_number : (number given : ℕ) → number ≡ given → is_opening_fault given ≡ false → is_opening_fault number ≡ true → ⊥
+other_number number given is other of = true≢false (sym of ∙ ap is_opening_fault is ∙ other)
 
 -- ---- after words that gave no command
 
@@ -136,18 +136,18 @@ fault_of_words Helped of = λ number is. absurd (cc)
 fault_of_words WordsRefused of = λ number is. absurd (cc)
 fault_of_words (Fault given) of = λ number is. let same : given ≡ number = cc in subst IsFaultNumber same (number_of_words given of)
 
-opening_of_words : (given : ℕ) → (given ≡ NO_MEMORY) ⊎ (given ≡ OUTPUT) → is_of_opening given ≡ true → ⊥
+opening_of_words : (given : ℕ) → (given ≡ NO_MEMORY) ⊎ (given ≡ OUTPUT) → is_opening_fault given ≡ true → ⊥
 opening_of_words given (inl memory) = other_number given NO_MEMORY memory refl
 opening_of_words given (inr output) = other_number given OUTPUT output refl
 
-pub words_open : (status : Status) → IsOfWords status → (number : ℕ) → status ≡ Fault number → is_of_opening number ≡ true → ⊥
+pub words_open : (status : Status) → IsOfWords status → (number : ℕ) → status ≡ Fault number → is_opening_fault number ≡ true → ⊥
 words_open Done none number is of = none
 words_open FormRefused none number is of = none
 words_open Unanswered none number is of = none
 words_open LeftOut none number is of = none
 words_open Helped told number is of = absurd (cc)
 words_open WordsRefused told number is of = absurd (cc)
-words_open (Fault given) told number is of = let same : given ≡ number = cc in opening_of_words given told (ap is_of_opening same ∙ of)
+words_open (Fault given) told number is of = let same : given ≡ number = cc in opening_of_words given told (ap is_opening_fault same ∙ of)
 
 -- ---- what is told after them
 

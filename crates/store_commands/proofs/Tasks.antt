@@ -10,8 +10,8 @@ use Rattle.world_forms.specs.Forms.{forms}
 use Rattle.user_macros.specs.Functions.{Functions}
 use Rattle.sessions.specs.declared.ending.Ended.{Ended}
 use Rattle.sessions.specs.declared.ending.Ended.TheVariants.{End, Store, Unaccepted, Unreadable}
-use Rattle.session_words.specs.declared.wanted.Wanted.{Wanted}
-use Rattle.store_commands.specs.Commands.{IsCarriedOutOn, DoesOn, IsEarlyFault, IsUntouched, Performs, TaskBreaksOff, TaskReads, TaskWrites, TellsUnopened, is_of_opening}
+use Rattle.session_words.specs.declared.wanted.SessionOptions.{SessionOptions}
+use Rattle.store_commands.specs.Commands.{IsCarriedOutOn, DoesOn, IsEarlyFault, AreStreamsUntouched, Performs, TaskBreaksOff, TaskReads, TaskWrites, TellsUnopened, is_opening_fault}
 use Rattle.store_commands.specs.Report.{IsExport, IsReport, IsSnapshot, IsUpgrade, half_line, position_line, version_line}
 use Rattle.prevalence_store.specs.calls.Open.{IsUnopened}
 use Rattle.prevalence_store.specs.calls.Store.{StoreView}
@@ -19,8 +19,8 @@ use Rattle.sessions.specs.Serve.{ServesWanted}
 use Rattle.store_commands.specs.Session.{AnswersInput, IsSession, IsStatusAfter, ReadsToEnd, half_limit}
 use Rattle.store_commands.specs.Status.{HasFaultNumber, IsFaultNumber, TakesWords, status_of_ended}
 use Rattle.store_commands.specs.EndLines.{IsToldOf, left_out_of}
-use Rattle.store_commands.specs.declared.told.Told.{Told}
-use Rattle.store_commands.specs.declared.told.Told.TheVariants.{Nothing}
+use Rattle.store_commands.specs.declared.told.Remark.{Remark}
+use Rattle.store_commands.specs.declared.told.Remark.TheVariants.{Nothing}
 use Rattle.store_commands.specs.declared.status.Status.{Status}
 use Rattle.store_commands.specs.declared.status.Status.TheVariants.{Fault, Unanswered}
 use Rattle.command_words.specs.declared.words.Report.{Report}
@@ -43,7 +43,7 @@ no_fault number is = absurd (cc)
 same_number : (number given : ℕ) → Fault number ≡ Fault given → number ≡ given
 same_number number given is = cc
 
-cut_of_no_opening : (number : ℕ) → IsFaultOfCut number → is_of_opening number ≡ true → ⊥
+cut_of_no_opening : (number : ℕ) → IsFaultOfCut number → is_opening_fault number ≡ true → ⊥
 cut_of_no_opening number (inl device) of = other_number number DEVICE device refl of
 cut_of_no_opening number (inr memory) of = other_number number NO_MEMORY memory refl of
 
@@ -68,7 +68,7 @@ module _ (functions : Functions) (input had : List ℕ) (left written : Option (
   reads_nothing (Tell report) number holds = holds
   reads_nothing (Run wanted) number holds = tt
 
-  writes_nothing : (task : Task) (number : ℕ) (told : Told) → TaskWrites functions task (Fault number) told input had written
+  writes_nothing : (task : Task) (number : ℕ) (told : Remark) → TaskWrites functions task (Fault number) told input had written
   writes_nothing (Run wanted) number told = tt
   writes_nothing Snapshot number told = tt
   writes_nothing Upgrade number told = tt
@@ -76,12 +76,12 @@ module _ (functions : Functions) (input had : List ℕ) (left written : Option (
   writes_nothing (Tell Dump) number told = tt
   writes_nothing (Tell Verify) number told = tt
 
-module _ (functions : Functions) {I O : Type 0} (remaining : I → Option (List ℕ)) (contents : O → Option (List ℕ)) (input left : I) (held written : O) (told : Told) where
+module _ (functions : Functions) {I O : Type 0} (remaining : I → Option (List ℕ)) (contents : O → Option (List ℕ)) (input left : I) (held written : O) (told : Remark) where
   abbrev Performed : Text → Task → Status → Type 0
   Performed folder task status = Performs functions remaining contents input left held written folder task status told
 
   -- a fault before anything was read or written
-  untouched : (folder : Text) (task : Task) (given : ℕ) → IsUntouched input left held written → IsFaultNumber given
+  untouched : (folder : Text) (task : Task) (given : ℕ) → AreStreamsUntouched input left held written → IsFaultNumber given
       → (folder ≡ [] → IsEarlyFault (Fault given)) → Performed folder task (Fault given)
   untouched folder task given same number nameless = record {
     taken = tt;
@@ -96,7 +96,7 @@ module _ (functions : Functions) {I O : Type 0} (remaining : I → Option (List 
 
   -- there is no memory, no seed, or the folder is not opened
   pub performs_nothing : (folder : Text) (task : Task) (status : Status) → IsEarlyFault status
-      → IsUntouched input left held written → Performed folder task status
+      → AreStreamsUntouched input left held written → Performed folder task status
   performs_nothing folder task status (inl is) same =
       subst (Performed folder task) (sym is)
       (untouched folder task NO_MEMORY same (inr (inr refl)) (λ none. inl refl))
@@ -108,18 +108,18 @@ module _ (functions : Functions) {I O : Type 0} (remaining : I → Option (List 
       (untouched folder task DEVICE same (inl refl) (λ none. inr (inr refl)))
 
 module _ (functions : Functions) {D R : Type 0} (state : D → State) (macros : R) (whole : Bool)
-    {I O : Type 0} (remaining : I → Option (List ℕ)) (contents : O → Option (List ℕ)) (input left : I) (held written : O) (told : Told) where
+    {I O : Type 0} (remaining : I → Option (List ℕ)) (contents : O → Option (List ℕ)) (input left : I) (held written : O) (told : Remark) where
   abbrev PerformedHere : Text → Task → Status → Type 0
   PerformedHere folder task status = Performs functions remaining contents input left held written folder task status told
 
   -- the store is not opened
   performs_unopened : (disk back : D) (folder : Text) (task : Task) (status : Status) → (folder ≡ [] → ⊥)
-      → TellsUnopened functions state disk back whole status → IsUntouched input left held written → PerformedHere folder task status
+      → TellsUnopened functions state disk back whole status → AreStreamsUntouched input left held written → PerformedHere folder task status
   performs_unopened disk back folder task status named (number, is, unopened) same =
       subst (PerformedHere folder task) (sym is) (untouched functions remaining contents input left held written told folder task number same (number_of_opening number unopened.fault unopened.number_is)
       (λ none. absurd (named none)))
 
-  module _ (folder : Text) (wanted : Wanted) (status : Status) (opened served : StoreView D R) (world : WorldState) (named : folder ≡ [] → ⊥) where
+  module _ (folder : Text) (wanted : SessionOptions) (status : Status) (opened served : StoreView D R) (world : WorldState) (named : folder ≡ [] → ⊥) where
     abbrev ServesSo : Ended → Type 0
     ServesSo = ServesWanted functions state wanted opened served world (remaining input) (remaining left) (contents held) (contents written)
 
@@ -170,7 +170,7 @@ module _ (functions : Functions) {D R : Type 0} (state : D → State) (macros : 
           breaks_off = λ text had given reads holds fault. broken_anyhow functions wanted state opened served world _ _ _ _ served_ended serves text had reads holds;
         }
 
-  performs_session : (disk back : D) (folder : Text) (wanted : Wanted) (status : Status) → (folder ≡ [] → ⊥)
+  performs_session : (disk back : D) (folder : Text) (wanted : SessionOptions) (status : Status) → (folder ≡ [] → ⊥)
       → IsCarriedOutOn functions state macros whole remaining contents input left held written disk back (Run wanted) status told
       → PerformedHere folder (Run wanted) status
   performs_session disk back folder wanted status named (ended, after, tells, session) =
@@ -261,13 +261,13 @@ module _ (functions : Functions) {D R : Type 0} (state : D → State) (macros : 
 
   -- the store was not opened
   pub does_not : (disk back given : D) (task : Task) (status : Status) (number : ℕ) → status ≡ Fault number → back ≡ given
-      → IsUnopened functions state disk whole half_limit number given → IsUntouched input left held written
+      → IsUnopened functions state disk whole half_limit number given → AreStreamsUntouched input left held written
       → DoesOn functions state macros whole remaining contents input left held written disk back task status told
   does_not disk back given task status number is back_is unopened same =
       inr ((number, is, subst (IsUnopened functions state disk whole half_limit number) (sym back_is) unopened), same)
 
   -- what a session, and what a report, is over a disk
-  pub does_run : (disk back : D) (task : Task) (status : Status) (wanted : Wanted) (ended : Ended) → task ≡ Run wanted
+  pub does_run : (disk back : D) (task : Task) (status : Status) (wanted : SessionOptions) (ended : Ended) → task ≡ Run wanted
       → IsStatusAfter functions wanted ended status → IsToldOf ended told
       → IsSession functions wanted state disk macros (remaining input) (remaining left) (contents held) (contents written) ended back
       → DoesOn functions state macros whole remaining contents input left held written disk back task status told
@@ -276,7 +276,7 @@ module _ (functions : Functions) {D R : Type 0} (state : D → State) (macros : 
       (inl (ended, ends, tells, session))
 
   -- what was asked for is a session
-  pub does_asked : (disk back : D) (task : Task) (status : Status) (wanted : Wanted) → task ≡ Run wanted
+  pub does_asked : (disk back : D) (task : Task) (status : Status) (wanted : SessionOptions) → task ≡ Run wanted
       → DoesOn functions state macros whole remaining contents input left held written disk back (Run wanted) status told
       → DoesOn functions state macros whole remaining contents input left held written disk back task status told
   does_asked disk back task status wanted is does =
@@ -312,28 +312,28 @@ module _ (functions : Functions) {D R : Type 0} (state : D → State) (macros : 
 
 -- the same of what is equal
 pub moved_performs : (functions : Functions) {I O : Type 0} (remaining : I → Option (List ℕ)) (contents : O → Option (List ℕ))
-    (input v w : I) (held x y : O) (told : Told) (e f : Text) (t u : Task) (s r : Status) → e ≡ f → t ≡ u → s ≡ r → v ≡ w → x ≡ y
+    (input v w : I) (held x y : O) (told : Remark) (e f : Text) (t u : Task) (s r : Status) → e ≡ f → t ≡ u → s ≡ r → v ≡ w → x ≡ y
     → Performs functions remaining contents input w held y f u r told → Performs functions remaining contents input v held x e t s told
 moved_performs functions remaining contents input v w held x y told e f t u s r same_folder same_task same_status same_left same_written given =
     rw (same_folder, same_task, same_status, same_left, same_written) given
 
 -- what is told of a session, or of what was left out, is told after it too
-abbrev IsToldAfter : (told later : Told) → Type 0
+abbrev IsToldAfter : (told later : Remark) → Type 0
 IsToldAfter told later = ((told ≡ Nothing) × (left_out_of later ≡ [])) ⊎ (later ≡ told)
 
-pub kept_so : (ended : Ended) (told later : Told) → IsToldAfter told later → IsToldOf ended told → IsToldOf ended later
+pub kept_so : (ended : Ended) (told later : Remark) → IsToldAfter told later → IsToldOf ended told → IsToldOf ended later
 kept_so ended told later (inr same) tells = subst (IsToldOf ended) (sym same) tells
 kept_so End told later (inl none) tells = tt
 kept_so (Unreadable number place) told later (inl none) (refusal, is, same_number, same_place) = absurd (cc)
 kept_so (Unaccepted number place) told later (inl none) (refusal, is, same_number, same_place) = absurd (cc)
 kept_so (Store number) told later (inl none) tells = tt
 
-kept_out : (told later : Told) → IsToldAfter told later → left_out_of told ≡ left_out_of later
+kept_out : (told later : Remark) → IsToldAfter told later → left_out_of told ≡ left_out_of later
 kept_out told later (inl none) = ap left_out_of none.0 ∙ sym none.1
 kept_out told later (inr same) = ap left_out_of (sym same)
 
 pub told_so : (functions : Functions) {D R I O : Type 0} (state : D → State) (macros : R) (whole : Bool) (remaining : I → Option (List ℕ)) (contents : O → Option (List ℕ))
-    (input left : I) (held written : O) (told later : Told) (disk back : D) (task : Task) (status : Status) → IsToldAfter told later
+    (input left : I) (held written : O) (told later : Remark) (disk back : D) (task : Task) (status : Status) → IsToldAfter told later
     → DoesOn functions state macros whole remaining contents input left held written disk back task status told
     → DoesOn functions state macros whole remaining contents input left held written disk back task status later
 told_so functions state macros whole remaining contents input left held written told later disk back (Run wanted) status kept (inl (ended, is, tells, session)) =

@@ -7,7 +7,7 @@ use Rattle.disk_trait.specs.Disk.{State}
 use Rattle.plist_state.specs.State.{WorldState}
 use Rattle.sessions.specs.declared.ending.Ended.{Ended}
 use Rattle.sessions.specs.declared.ending.Ended.TheVariants.{End, Store, Unaccepted, Unreadable}
-use Rattle.session_words.specs.declared.wanted.Wanted.{Wanted}
+use Rattle.session_words.specs.declared.wanted.SessionOptions.{SessionOptions}
 use Rattle.prevalence_store.specs.calls.Store.{StoreView}
 use Rattle.user_macros.specs.Functions.{Functions}
 use Rattle.diagnostics.specs.Refusals.{IsRefusalOf}
@@ -54,7 +54,7 @@ drops_none last byte there mid has true dropped is no_more = absurd (cc)
 drops_none last byte there mid has false (bytes, of, before, none) is no_more =
     (bytes, of, subst (Consumes there has) (append-nil bytes) (Consumes-trans there mid has bytes [] before no_more))
 
-module _ (functions : Functions) (wanted : Wanted) {D R : Type 0} (state : D → State) (old : StoreView D R) (world : WorldState) (had held : Option (List ℕ)) where
+module _ (functions : Functions) (wanted : SessionOptions) {D R : Type 0} (state : D → State) (old : StoreView D R) (world : WorldState) (had held : Option (List ℕ)) where
   -- the sessions so far, the last of which ended so
   abbrev pub Row : (new : StoreView D R) (has written : Option (List ℕ)) → Ended → Type 0
   Row new has written ended =
@@ -121,7 +121,7 @@ dropped_to None has rest line is some = absurd (cc)
 dropped_to (Some xs) None rest line is none = absurd none
 dropped_to (Some xs) (Some ys) rest line is some = (ys, refl)
 
-module _ (functions : Functions) (wanted : Wanted) {D R : Type 0} (state : D → State) where
+module _ (functions : Functions) (wanted : SessionOptions) {D R : Type 0} (state : D → State) where
   session_goes : (old new : StoreView D R) (world : WorldState) (had has held written : Option (List ℕ)) (ended : Ended) → EndsRefused ended
       → ServesWanted functions state wanted old new world had has held written ended → Goes had has held written
   session_goes old new world had has held written End none served = absurd none

@@ -13,7 +13,7 @@ use Rattle.world_forms.specs.Forms.{forms}
 use Rattle.world_forms.specs.Properties.{left_out_lines}
 use Rattle.lisp_object.specs.declared.refusal.TheConstants.{NO_MEMORY}
 use Rattle.std.specs.Option.{IfSome}
-use Rattle.store_commands.specs.Commands.{TaskBreaksOff, is_of_opening}
+use Rattle.store_commands.specs.Commands.{TaskBreaksOff, is_opening_fault}
 use Rattle.store_commands.specs.Report.{HasNoValue, TellsForms, TellsUpgrade, TellsVersion, Upgrades, WritesForms, version_line}
 use Rattle.store_commands.specs.Status.{HasFaultNumber, TakesWords}
 use Rattle.store_commands.specs.Texts.{TellsText}
@@ -52,7 +52,7 @@ module _ (functions : Functions) {D R : Type 0} (state : D → State) (old new :
     upgrade_fault (Refused given) status upgrades told = refused_fault functions state old new world given status (refused_is given upgrades) told.0
 
     pub upgrade_of_no_opening : (outcome : Outcome) (status : Status) (number : ℕ) → status ≡ Fault number
-        → Upgrades functions state old new world outcome → TellsUpgrade outcome new status held written → is_of_opening number ≡ true → ⊥
+        → Upgrades functions state old new world outcome → TellsUpgrade outcome new status held written → is_opening_fault number ≡ true → ⊥
     upgrade_of_no_opening (Accepted value) status number is upgrades told of = told
     upgrade_of_no_opening Snapshotted status number is upgrades told of = text_of_no_opening held written (version_line new.version) status number is told of
     upgrade_of_no_opening (Refused given) status number is upgrades told of =
@@ -105,7 +105,7 @@ module _ (held written : Option (List ℕ)) (world : WorldState) (content : Cont
   forms_fault Unanswered told = absurd told
   forms_fault WordsRefused told = absurd told
 
-  pub forms_of_no_opening : (status : Status) (number : ℕ) → status ≡ Fault number → Tells status → is_of_opening number ≡ true → ⊥
+  pub forms_of_no_opening : (status : Status) (number : ℕ) → status ≡ Fault number → Tells status → is_opening_fault number ≡ true → ⊥
   forms_of_no_opening status number is told =
       text_of_no_opening held written (forms world content) (Fault number) number refl (subst Tells is told)
 

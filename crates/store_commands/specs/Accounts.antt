@@ -19,7 +19,7 @@ EndsAccount functions {D} state store account = (kept : Account D) → account �
 
 -- The account of the recipient, if it keeps one, is of sessions in a row, from the opening of the store to its end: so it was as the
 -- first of them began, and so it is after the last.
-pub record IsAccounted (functions : Functions) {D R : Type 0} (state : D → State) (mode : Mode) (had : Option (List ℕ))
+pub record IsAccountOfSessions (functions : Functions) {D R : Type 0} (state : D → State) (mode : Mode) (had : Option (List ℕ))
     (opened closed : StoreView D R) (first account : Option (Account D)) : Type 0 where
   pub begins : BeginsAccount mode had opened first
   pub ends : EndsAccount functions state closed account

@@ -11,32 +11,32 @@ use Rattle.world_forms.specs.Forms.{forms}
 use Rattle.user_macros.specs.Functions.{Functions}
 use Rattle.prevalence_store.specs.calls.Open.{IsUnopened}
 use Rattle.sessions.specs.declared.ending.Ended.{Ended}
-use Rattle.session_words.specs.declared.wanted.Wanted.{Wanted}
+use Rattle.session_words.specs.declared.wanted.SessionOptions.{SessionOptions}
 use Rattle.store_commands.specs.Report.{DumpsWorld, IsExport, IsReport, IsSnapshot, IsUpgrade, TellsHalf, TellsHalfAndPosition, TellsVersion, WritesForms, half_line, position_line, version_line}
 use Rattle.store_commands.specs.Session.{AnswersInput, IsBrokenOff, IsSession, IsStatusAfter, ReadsToEnd, half_limit}
 use Rattle.store_commands.specs.Sessions.{AreSessions}
 use Rattle.store_commands.specs.Status.{HasFaultNumber, IsCarriedOut, TakesWords, status_of_ended, status_of_host}
-use Rattle.diagnostics.specs.Texts.{IsFront}
+use Rattle.diagnostics.specs.Texts.{IsFrontWritten}
 use Rattle.store_commands.specs.EndLines.{IsToldOf, left_out_of}
 use Rattle.store_commands.specs.declared.status.Status.{Status}
 use Rattle.store_commands.specs.declared.status.Status.TheVariants.{Fault, WordsRefused}
-use Rattle.store_commands.specs.declared.told.Told.{Told}
-use Rattle.store_commands.specs.declared.told.Told.TheVariants.{Cause}
+use Rattle.store_commands.specs.declared.told.Remark.{Remark}
+use Rattle.store_commands.specs.declared.told.Remark.TheVariants.{Cause}
 use Rattle.command_words.specs.declared.words.Report.TheVariants.{Dump, Verify}
 use Rattle.command_words.specs.declared.words.Task.{Task}
 use Rattle.command_words.specs.declared.words.Task.TheVariants.{Export, Run, Snapshot, Tell, Upgrade}
 
 -- nothing was read, and nothing written
-abbrev pub IsUntouched : {I O : Type 0} → I → I → O → O → Type 0
-IsUntouched input left held written = (left ≡ input) × (written ≡ held)
+abbrev pub AreStreamsUntouched : {I O : Type 0} → I → I → O → O → Type 0
+AreStreamsUntouched input left held written = (left ≡ input) × (written ≡ held)
 
 -- before the store is opened: there is no memory for the words, no seed is had, or the folder is not opened
 abbrev pub IsEarlyFault : Status → Type 0
 IsEarlyFault status = (status ≡ Fault NO_MEMORY) ⊎ ((status ≡ Fault INPUT) ⊎ (status ≡ Fault DEVICE))
 
 -- numbers that nothing but the opening of a store answers
-abbrev pub is_of_opening : ℕ → Bool
-is_of_opening number = number == DAMAGED || (number == MISSING_MACRO || number == VERSION)
+abbrev pub is_opening_fault : ℕ → Bool
+is_opening_fault number = number == DAMAGED || (number == MISSING_MACRO || number == VERSION)
 
 -- `run` alone reads
 abbrev pub reads_input : Task → Bool
@@ -58,7 +58,7 @@ TaskReads (Tell report) status input left = left ≡ Some input
 
 module _ (functions : Functions) where
   -- what a command writes if it ends well, and what of a refusal is told
-  abbrev pub TaskWrites : Task → Status → Told → List ℕ → List ℕ → Option (List ℕ) → Type 0
+  abbrev pub TaskWrites : Task → Status → Remark → List ℕ → List ℕ → Option (List ℕ) → Type 0
   TaskWrites (Run wanted) status told input held written = AnswersInput functions wanted status told input held written
   TaskWrites Snapshot status told input held written = TellsHalf status held written
   TaskWrites Upgrade status told input held written = TellsVersion status held written
@@ -69,12 +69,12 @@ module _ (functions : Functions) where
   -- what a command wrote that met a fault is the first part of what it would have written, over the store of some world
   abbrev pub TaskBreaksOff : Task → List ℕ → List ℕ → Option (List ℕ) → Type 0
   TaskBreaksOff (Run wanted) input held written = IsBrokenOff functions wanted.mode input held written
-  TaskBreaksOff Snapshot input held written = (half : Half) × (generation : ℕ) × (records : ℕ) × IsFront held written (half_line half generation records)
-  TaskBreaksOff Upgrade input held written = (version : ℕ) × IsFront held written (version_line version)
-  TaskBreaksOff (Export content) input held written = (world : WorldState) × IsFront held written (forms world content)
-  TaskBreaksOff (Tell Dump) input held written = (world : WorldState) × IsFront held written (snapshot world)
+  TaskBreaksOff Snapshot input held written = (half : Half) × (generation : ℕ) × (records : ℕ) × IsFrontWritten held written (half_line half generation records)
+  TaskBreaksOff Upgrade input held written = (version : ℕ) × IsFrontWritten held written (version_line version)
+  TaskBreaksOff (Export content) input held written = (world : WorldState) × IsFrontWritten held written (forms world content)
+  TaskBreaksOff (Tell Dump) input held written = (world : WorldState) × IsFrontWritten held written (snapshot world)
   TaskBreaksOff (Tell Verify) input held written =
-      (half : Half) × (generation : ℕ) × (records : ℕ) × (found : Option ℕ) × IsFront held written (half_line half generation records ++ position_line found)
+      (half : Half) × (generation : ℕ) × (records : ℕ) × (found : Option ℕ) × IsFrontWritten held written (half_line half generation records ++ position_line found)
 
 -- The store that a disk holds was not opened, all macro functions registered or not, and the status tells why; the disk is left as
 -- the opening left it.
@@ -88,7 +88,7 @@ module _ (functions : Functions) {D R : Type 0} (state : D → State) (macros : 
     {I O : Type 0} (remaining : I → Option (List ℕ)) (contents : O → Option (List ℕ)) (input left : I) (held written : O) where
   -- It was carried out over the store that a disk holds: a session went so, and the status is that of its end; or a snapshot was
   -- taken, the store was upgraded or exported, or something was told of it. The disk is left as the store that was closed left it.
-  abbrev pub IsCarriedOutOn : D → D → Task → Status → Told → Type 0
+  abbrev pub IsCarriedOutOn : D → D → Task → Status → Remark → Type 0
   IsCarriedOutOn disk back (Run wanted) status told =
       (ended : Ended) × IsStatusAfter functions wanted ended status × IsToldOf ended told
       × IsSession functions wanted state disk macros (remaining input) (remaining left) (contents held) (contents written) ended back
@@ -103,19 +103,19 @@ module _ (functions : Functions) {D R : Type 0} (state : D → State) (macros : 
 
   -- It is carried out over the store that a disk holds; or the store is not opened, and nothing is read or written. The first disk
   -- becomes the second.
-  abbrev pub DoesOn : D → D → Task → Status → Told → Type 0
+  abbrev pub DoesOn : D → D → Task → Status → Remark → Type 0
   DoesOn disk back task status told =
-      IsCarriedOutOn disk back task status told ⊎ (TellsUnopened functions state disk back whole status × IsUntouched input left held written)
+      IsCarriedOutOn disk back task status told ⊎ (TellsUnopened functions state disk back whole status × AreStreamsUntouched input left held written)
 
 module _ (functions : Functions) {I O : Type 0} (remaining : I → Option (List ℕ)) (contents : O → Option (List ℕ)) (input left : I) (held written : O) where
   -- A task, for the store in a folder, was done, whatever that holds: this is the status, and this is to be told.
-  pub record Performs (folder : Text) (task : Task) (status : Status) (told : Told) : Type 0 where
+  pub record Performs (folder : Text) (task : Task) (status : Status) (told : Remark) : Type 0 where
     -- neither is help written nor are the words refused
     pub taken : TakesWords status
     -- no folder has an empty name
-    pub nameless : folder ≡ [] → IsEarlyFault status × IsUntouched input left held written
+    pub nameless : folder ≡ [] → IsEarlyFault status × AreStreamsUntouched input left held written
     pub unread : reads_input task ≡ false → left ≡ input
-    pub unopened : (number : ℕ) → status ≡ Fault number → is_of_opening number ≡ true → IsUntouched input left held written
+    pub unopened : (number : ℕ) → status ≡ Fault number → is_opening_fault number ≡ true → AreStreamsUntouched input left held written
     pub fault : HasFaultNumber status
     pub reads : (text : List ℕ) → remaining input ≡ Some text → TaskReads task status text (remaining left)
     pub writes : (text had : List ℕ) → remaining input ≡ Some text → contents held ≡ Some had
@@ -133,16 +133,16 @@ IsBeforeFolder folder status = (status ≡ Fault NO_MEMORY) ⊎ ((status ≡ Fau
 module _ {D I O : Type 0} (input left : I) (held written : O) where
   -- An opening of the folder gave this, with or without `--existing`. If no store is opened there, nothing is read or written, and a cause is
   -- told.
-  abbrev pub OpensFolder : (opens : Text → Bool → Result D HostError → Type 0) (follows : D → Type 0) → Text → Bool → Status → Told → Type 0
+  abbrev pub OpensFolder : (opens : Text → Bool → Result D HostError → Type 0) (follows : D → Type 0) → Text → Bool → Status → Remark → Type 0
   OpensFolder opens follows folder existing status told =
-      (IsBeforeFolder folder status × IsUntouched input left held written)
-      ⊎ (((error : HostError) × opens folder existing (Err error) × (status ≡ status_of_host error) × (told ≡ Cause error) × IsUntouched input left held written)
+      (IsBeforeFolder folder status × AreStreamsUntouched input left held written)
+      ⊎ (((error : HostError) × opens folder existing (Err error) × (status ≡ status_of_host error) × (told ≡ Cause error) × AreStreamsUntouched input left held written)
       ⊎ ((disk : D) × opens folder existing (Ok disk) × follows disk))
 
 module _ (functions : Functions) {D R : Type 0} (state : D → State) (macros : R) (whole : Bool)
     {I O : Type 0} (remaining : I → Option (List ℕ)) (contents : O → Option (List ℕ)) (input left : I) (held written : O) where
   -- the task is done over the disk that the opening gave
-  abbrev pub DoesAfter : Task → Status → Told → D → Type 0
+  abbrev pub DoesAfter : Task → Status → Remark → D → Type 0
   DoesAfter task status told disk = (back : D) × DoesOn functions state macros whole remaining contents input left held written disk back task status told
 
 -- ---- at a terminal
@@ -151,14 +151,14 @@ module _ (functions : Functions) {D R : Type 0} (state : D → State) (macros : 
     {I O : Type 0} (remaining : I → Option (List ℕ)) (contents : O → Option (List ℕ)) (input left : I) (held written : O) where
   -- Sessions in a row went so over the store that a disk holds, and the status is that of the last one; or the store is not opened,
   -- and nothing is read or written. The first disk becomes the second.
-  abbrev pub SitsOn : D → D → Wanted → Status → Told → Type 0
+  abbrev pub SitsOn : D → D → SessionOptions → Status → Remark → Type 0
   SitsOn disk back wanted status told =
       ((ended : Ended) × (status ≡ status_of_ended ended) × IsToldOf ended told
       × AreSessions functions wanted state disk macros (remaining input) (remaining left) (contents held) (contents written) ended back)
-      ⊎ (TellsUnopened functions state disk back whole status × IsUntouched input left held written)
+      ⊎ (TellsUnopened functions state disk back whole status × AreStreamsUntouched input left held written)
 
   -- sessions in a row went so over the disk that the opening gave; each other task is as anywhere
-  abbrev pub SitsAfter : Task → Status → Told → D → Type 0
+  abbrev pub SitsAfter : Task → Status → Remark → D → Type 0
   SitsAfter (Run wanted) status told disk = (back : D) × SitsOn disk back wanted status told
   SitsAfter Snapshot status told disk = DoesAfter functions state macros whole remaining contents input left held written Snapshot status told disk
   SitsAfter Upgrade status told disk = DoesAfter functions state macros whole remaining contents input left held written Upgrade status told disk
@@ -167,17 +167,17 @@ module _ (functions : Functions) {D R : Type 0} (state : D → State) (macros : 
 
 module _ (functions : Functions) {I O : Type 0} (remaining : I → Option (List ℕ)) (contents : O → Option (List ℕ)) (input left : I) (held written : O) where
   -- `run` was sessions in a row, for the store in a folder: this is the status, and this is to be told.
-  pub record PerformsInTurn (folder : Text) (wanted : Wanted) (status : Status) (told : Told) : Type 0 where
+  pub record PerformsInTurn (folder : Text) (wanted : SessionOptions) (status : Status) (told : Remark) : Type 0 where
     pub taken : TakesWords status
-    pub nameless : folder ≡ [] → IsEarlyFault status × IsUntouched input left held written
-    pub unopened : (number : ℕ) → status ≡ Fault number → is_of_opening number ≡ true → IsUntouched input left held written
+    pub nameless : folder ≡ [] → IsEarlyFault status × AreStreamsUntouched input left held written
+    pub unopened : (number : ℕ) → status ≡ Fault number → is_opening_fault number ≡ true → AreStreamsUntouched input left held written
     pub fault : HasFaultNumber status
     -- after a fault: what the last session wrote, over the store of some world, after those before it
     pub breaks_off : (text had : List ℕ) (number : ℕ) → remaining input ≡ Some text → contents held ≡ Some had → status ≡ Fault number
         → (rest : List ℕ) × (said : List ℕ) × IsBrokenOff functions wanted.mode rest (had ++ said) (contents written)
 
   -- `run` is sessions in a row there; each other task is as anywhere
-  abbrev pub PerformsAtTerminal : Text → Task → Status → Told → Type 0
+  abbrev pub PerformsAtTerminal : Text → Task → Status → Remark → Type 0
   PerformsAtTerminal folder (Run wanted) status told = PerformsInTurn folder wanted status told
   PerformsAtTerminal folder Snapshot status told = Performs functions remaining contents input left held written folder Snapshot status told
   PerformsAtTerminal folder Upgrade status told = Performs functions remaining contents input left held written folder Upgrade status told
@@ -189,6 +189,6 @@ module _ (functions : Functions) {I O : Type 0} (remaining : I → Option (List 
 pub record PerformsNone {I O : Type 0} (input left : I) (held written : O) (status : Status) : Type 0 where
   pub unread : left ≡ input
   pub not_carried_out : IsCarriedOut status → ⊥
-  pub no_opening : (number : ℕ) → status ≡ Fault number → is_of_opening number ≡ true → ⊥
+  pub no_opening : (number : ℕ) → status ≡ Fault number → is_opening_fault number ≡ true → ⊥
   pub refused : status ≡ WordsRefused → written ≡ held
   pub memory : status ≡ Fault NO_MEMORY → written ≡ held

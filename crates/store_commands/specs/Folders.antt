@@ -7,7 +7,7 @@ use Rattle.disk_trait.specs.declared.host.HostError.{HostError}
 use Rattle.disk_trait.specs.declared.host.HostError.TheVariants.{NoStore}
 use Rattle.disk_trait.specs.declared.host.IfMissing.{IfMissing}
 use Rattle.disk_trait.specs.declared.host.IfMissing.TheVariants.{Make, Refuse}
-use Rattle.gate_log.specs.Layout.{IsOpen}
+use Rattle.gate_log.specs.Layout.{HasOpenGate}
 use Rattle.gate_log.specs.Step.{WritesNothing}
 use Rattle.lisp_object.specs.declared.refusal.TheConstants.{DEVICE}
 use Rattle.store_commands.specs.Status.{status_of_host}
@@ -15,7 +15,7 @@ use Rattle.store_commands.specs.declared.status.Status.TheVariants.{Fault}
 
 -- one of both files is an open half
 abbrev pub HoldsStore : Image → Type 0
-HoldsStore image = IsOpen image.a ⊎ IsOpen image.b
+HoldsStore image = HasOpenGate image.a ⊎ HasOpenGate image.b
 
 -- The files are looked at for whether this holds of them, and nothing is written. Of an honest disk the answer is true.
 pub record LooksWhether (P : Image → Type 0) (old new : State) (result : Result Bool DeviceFault) : Type 0 where

@@ -7,13 +7,13 @@ use Rattle.session_words.specs.declared.mode.Mode.{Mode}
 use Rattle.sessions.specs.declared.ending.Ended.{Ended}
 use Rattle.sessions.specs.declared.ending.Ended.TheVariants.{End}
 use Rattle.sessions.specs.declared.ending.Place.{Place}
-use Rattle.session_words.specs.declared.wanted.Wanted.{Wanted}
+use Rattle.session_words.specs.declared.wanted.SessionOptions.{SessionOptions}
 use Rattle.prevalence_store.specs.meaning.Acceptance.{read_in}
 use Rattle.user_macros.specs.Functions.{Functions}
 use Rattle.sessions.specs.Account.{first_account}
 use Rattle.prevalence_store.specs.calls.Open.{IsOpened}
 use Rattle.sessions.specs.Answers.{Progress, after_forms, last_line, refusal_line}
-use Rattle.sessions.specs.Serve.{IsPlace, IsUnaccepted, ServesWanted, ended_after_cut}
+use Rattle.sessions.specs.Serve.{IsPlace, IsFormUnaccepted, ServesWanted, ended_after_cut}
 use Rattle.prevalence_store.specs.calls.Store.{StoreView}
 use Rattle.prevalence_store.specs.calls.Zeros.{TriesToCutZeros}
 use Rattle.diagnostics.specs.declared.refusal.Refusal.{Refusal}
@@ -21,8 +21,8 @@ use Rattle.session_ledger.specs.OutgoingLines.{Went}
 use Rattle.store_commands.specs.Status.{status_of_ended}
 use Rattle.store_commands.specs.declared.status.Status.{Status}
 use Rattle.store_commands.specs.declared.status.Status.TheVariants.{Done, Helped, FormRefused, Unanswered, WordsRefused, LeftOut, Fault}
-use Rattle.store_commands.specs.declared.told.Told.{Told}
-use Rattle.store_commands.specs.declared.told.Told.TheVariants.{Refused}
+use Rattle.store_commands.specs.declared.told.Remark.{Remark}
+use Rattle.store_commands.specs.declared.told.Remark.TheVariants.{Refused}
 
 -- how many bytes each of the two files of a store may have
 abbrev pub half_limit : ℕ
@@ -30,7 +30,7 @@ half_limit = 1073741824
 
 -- The store that a disk holds was opened with these macro functions, and it served the input as was wanted. It may have written zeros ahead,
 -- which were cut then, and it was closed: this is its disk. What failed in the cut is how the session ended.
-pub record IsSession (functions : Functions) (wanted : Wanted) {D R : Type 0} (state : D → State) (disk : D) (macros : R) (had has held written : Option (List ℕ)) (ended : Ended) (back : D) : Type 0 where
+pub record IsSession (functions : Functions) (wanted : SessionOptions) {D R : Type 0} (state : D → State) (disk : D) (macros : R) (had has held written : Option (List ℕ)) (ended : Ended) (back : D) : Type 0 where
   pub opened : StoreView D R
   pub is_opened : IsOpened functions state disk macros half_limit opened
   pub served : StoreView D R
@@ -67,7 +67,7 @@ module _ (functions : Functions) (mode : Mode) where
     pub lines : far.lines ++ last_line (read_in functions far.world mode far.rest) ≡ front ++ unwritten
     pub all : written ≡ Some (held ++ front)
 
-module _ (functions : Functions) (wanted : Wanted) where
+module _ (functions : Functions) (wanted : SessionOptions) where
   -- Of what was read of the input this is left after its first forms, and in it something is refused at a place, which is told: so many
   -- forms and so many bytes of the input come before it.
   pub record IsAtPlace (world : WorldState) (input : List ℕ) (place : Place) (refuses : Progress → ℕ → Type 0) : Type 0 where
@@ -89,7 +89,7 @@ module _ (functions : Functions) (wanted : Wanted) where
 
   -- in a strict session, the form that begins at this place was refused
   abbrev pub StopsAtForm : Refusal → Progress → ℕ → Type 0
-  StopsAtForm refusal far start = (wanted.strict ≡ true) × IsUnaccepted functions far.world wanted.mode far.rest refusal.number start
+  StopsAtForm refusal far start = (wanted.strict ≡ true) × IsFormUnaccepted functions far.world wanted.mode far.rest refusal.number start
 
   -- The answers to the input end with the line of this refusal, by the reader, or of a form of a strict session.
   abbrev pub AnswersToRefusal : WorldState → Refusal → List ℕ → List ℕ → Option (List ℕ) → Type 0
@@ -111,7 +111,7 @@ module _ (functions : Functions) (wanted : Wanted) where
   IsStatusAfter ended status = (status ≡ status_of_ended ended) ⊎ ((wanted.strict ≡ true) × (ended ≡ End) × (status ≡ Unanswered))
 
   -- The input was answered as the store of some world answers it: to its end, or to a refusal, which is told.
-  abbrev pub AnswersInput : Status → Told → List ℕ → List ℕ → Option (List ℕ) → Type 0
+  abbrev pub AnswersInput : Status → Remark → List ℕ → List ℕ → Option (List ℕ) → Type 0
   AnswersInput Done told input held written = AnswersWhole input held written
   AnswersInput Unanswered told input held written = (wanted.strict ≡ true) × AnswersWhole input held written
   AnswersInput FormRefused told input held written =

@@ -6,7 +6,7 @@ use Rattle.disk_trait.specs.Disk.{State}
 use Rattle.plist_state.specs.State.{WorldState}
 use Rattle.sessions.specs.declared.ending.Ended.{Ended}
 use Rattle.sessions.specs.declared.ending.Ended.TheVariants.{End, Store, Unaccepted, Unreadable}
-use Rattle.session_words.specs.declared.wanted.Wanted.{Wanted}
+use Rattle.session_words.specs.declared.wanted.SessionOptions.{SessionOptions}
 use Rattle.prevalence_store.specs.Theorem.{Call}
 use Rattle.sessions.specs.Account.{first_account}
 use Rattle.prevalence_store.specs.calls.Open.{IsOpened}
@@ -36,7 +36,7 @@ abbrev pub DropsByte : Bool → ℕ → Option (List ℕ) → Option (List ℕ) 
 DropsByte true byte there has = Consumes there has (byte ∷ [])
 DropsByte false byte there has = Consumes there has []
 
-module _ (functions : Functions) (wanted : Wanted) {D R : Type 0} (state : D → State) where
+module _ (functions : Functions) (wanted : SessionOptions) {D R : Type 0} (state : D → State) where
   -- One of them: it served so, and this went out of it.
   abbrev pub ServesOut : (old new : StoreView D R) → WorldState → (had has held written : Option (List ℕ)) → Ended → Type 0
   ServesOut old new world had has held written ended =

@@ -81,8 +81,8 @@ TakesWords (Fault number) = Unit {0}
 
 -- the status after words that gave no command: that of their kind of error, or a fault of the output where help was not
 -- written
-abbrev pub IsAfterWords : ErrorKind → Status → Type 0
-IsAfterWords kind status = (status ≡ status_of_kind kind) ⊎ ((status_of_kind kind ≡ Helped) × (status ≡ Fault OUTPUT))
+abbrev pub IsStatusAfterWords : ErrorKind → Status → Type 0
+IsStatusAfterWords kind status = (status ≡ status_of_kind kind) ⊎ ((status_of_kind kind ≡ Helped) × (status ≡ Fault OUTPUT))
 
 -- no command was carried out: help was written or not, the words were refused, or memory ran out
 abbrev pub IsOfWords : Status → Type 0
@@ -97,7 +97,7 @@ IsOfWords (Fault number) = (number ≡ NO_MEMORY) ⊎ (number ≡ OUTPUT)
 -- after words that have these mistakes, one of which is told
 abbrev pub IsAfterOneOf : Kinds → Status → Type 0
 IsAfterOneOf [] status = ⊥
-IsAfterOneOf (kind ∷ kinds) status = IsAfterWords kind status ⊎ IsAfterOneOf kinds status
+IsAfterOneOf (kind ∷ kinds) status = IsStatusAfterWords kind status ⊎ IsAfterOneOf kinds status
 
 -- How the program ends after words that have these mistakes. Where there is none the words are taken. Else one of them is told, or
 -- memory ran out.

@@ -3,13 +3,13 @@ ghost use Rattle.std.specs.Prelude.{◌≡◌, ◌⊎◌, Bool, [], map, None, E
 ghost use Rattle.clap.specs.Words.{Text, kind_of};
 ghost use Rattle.user_macros.specs.Functions.{are_registered};
 ghost use Rattle.command_words.specs.declared.words.Task.{Task};
-ghost use Rattle.command_words.specs.CommandLine.{AsksFor, IsTaken, faults_of};
+ghost use Rattle.command_words.specs.CommandLine.{AsksFor, IsTakenByLine, faults_of};
 ghost use Rattle.store_commands.specs.Commands.{DoesAfter, OpensFolder, Performs, PerformsAtTerminal, PerformsInTurn, PerformsNone, SitsAfter};
 ghost use Rattle.store_commands.specs.Folders.{OpensStore};
 ghost use Rattle.store_commands.specs.Output.{held_by};
-ghost use Rattle.store_commands.specs.Status.{EndsAfter, HasFaultNumber, IsAfterWords, IsOfWords, IsQuiet, TakesWords};
+ghost use Rattle.store_commands.specs.Status.{EndsAfter, HasFaultNumber, IsStatusAfterWords, IsOfWords, IsQuiet, TakesWords};
 ghost use Rattle.store_commands.specs.EndLines.{TellsFault, left_out_of};
-ghost use Rattle.store_commands.specs.declared.told.Told.{Told};
+ghost use Rattle.store_commands.specs.declared.told.Remark.{Remark};
 
 use crate::folders::{Folders, TellsCause, open_folder};
 use crate::in_a_row::sessions_on;
@@ -19,7 +19,7 @@ use crate::output::SessionOutput;
 use crate::recipient::SessionRecipient;
 use crate::status::Status;
 use crate::terminal::Sessions;
-use crate::told::{Told, end_with, end_with_told};
+use crate::told::{Remark, end_with, end_with_told};
 use clap::Error;
 use command_words::{Asked, Task, asked_in};
 use diagnostics::Places;
@@ -69,11 +69,11 @@ where
     requires answers { M.answers macros }
     ensures words { (folder : Text) (existing : Bool) (task : Task)
         → AsksFor (map S.text words.now) folder existing task
-        → IsTaken (map S.text words.now) folder existing task }
+        → IsTakenByLine (map S.text words.now) folder existing task }
     ensures ends { EndsAfter (faults_of (map S.text words.now)) result }
     ensures taken { (folder : Text) (existing : Bool) (task : Task)
-        → IsTaken (map S.text words.now) folder existing task
-        → (told : Told) × Performs M.Meaning.functions I.remaining (held_by O.contents)
+        → IsTakenByLine (map S.text words.now) folder existing task
+        → (told : Remark) × Performs M.Meaning.functions I.remaining (held_by O.contents)
         input.old input.new output.old output.new folder task result told
         × TellsFault result told (F.contents faults.old) (F.contents faults.new)
         × OpensFolder input.old input.new output.old output.new
@@ -85,7 +85,7 @@ where
     ensures untaken { (faults_of (map S.text words.now) ≡ [] → ⊥)
         → PerformsNone input.old input.new output.old output.new result }
     ensures fault { HasFaultNumber result }
-    ensures told { (told : Told) × TellsFault result told (F.contents faults.old) (F.contents faults.new) }
+    ensures told { (told : Remark) × TellsFault result told (F.contents faults.old) (F.contents faults.new) }
     ensures quiet { IsQuiet result → faults.new ≡ faults.old }
 {
     // The words come first: if they are refused, no folder is opened and nothing is read.
@@ -123,8 +123,8 @@ where
     requires answers { M.answers macros }
     ensures ends { EndsAfter (faults_of (map S.text words.now)) result }
     ensures taken { (folder : Text) (existing : Bool) (task : Task)
-        → IsTaken (map S.text words.now) folder existing task
-        → (told : Told) × PerformsAtTerminal M.Meaning.functions I.remaining (held_by O.contents)
+        → IsTakenByLine (map S.text words.now) folder existing task
+        → (told : Remark) × PerformsAtTerminal M.Meaning.functions I.remaining (held_by O.contents)
         input.old input.new output.old output.new folder task result told
         × TellsFault result told (F.contents faults.old) (F.contents faults.new)
         × OpensFolder input.old input.new output.old output.new
@@ -135,7 +135,7 @@ where
         folder existing result told }
     ensures untaken { (faults_of (map S.text words.now) ≡ [] → ⊥)
         → PerformsNone input.old input.new output.old output.new result }
-    ensures told { (told : Told) × TellsFault result told (F.contents faults.old) (F.contents faults.new) }
+    ensures told { (told : Remark) × TellsFault result told (F.contents faults.old) (F.contents faults.new) }
     ensures quiet { IsQuiet result → faults.new ≡ faults.old }
 {
     match asked_in(rt.alloc(), words) {
@@ -157,7 +157,7 @@ fn carry_out_at_terminal<R, M, I, O, T>(
     asked: Asked<'_>,
     input: &mut I,
     output: &mut SessionOutput<'_, O, T>,
-) -> (Status, Told)
+) -> (Status, Remark)
 where
     R: Folders + RandomSource + AllocGlobal,
     M: MacroFunctions + Drop,
@@ -189,7 +189,7 @@ fn sit<R, M, I, O>(
     wanted: Wanted,
     input: &mut I,
     output: &mut O,
-) -> (Status, Told)
+) -> (Status, Remark)
 where
     R: Folders + RandomSource + AllocGlobal,
     M: MacroFunctions + Drop,
@@ -208,11 +208,11 @@ where
 {
     // the seed comes before the folder, so that nothing is made if there is none
     let Ok(seed) = Seed::draw(rt) else {
-        return (Status::Fault(INPUT), Told::Nothing);
+        return (Status::Fault(INPUT), Remark::Nothing);
     };
     let disk = match open_folder(rt, asked.folder, asked.existing) {
         Ok(disk) => disk,
-        Err(error) => return (Status::of_host(&error), Told::Cause(error)),
+        Err(error) => return (Status::of_host(&error), Remark::Cause(error)),
     };
     let alloc = rt.alloc();
     let opening = Opening {
@@ -224,7 +224,7 @@ where
     match sessions_on(opening, wanted, input, output) {
         Ok((ended, disk, _macros)) => (
             Status::of_ended(ended),
-            told_after(Told::of_session(ended, input), &disk),
+            told_after(Remark::of_session(ended, input), &disk),
         ),
         Err(unopened) => (Status::Fault(unopened.number), cause_of(&unopened.disk)),
     }
@@ -232,7 +232,7 @@ where
 
 /// Words that gave no command: the text on them is written, help to `output` and another one to `faults`.
 pub fn answer_words<O: Write, F: Write>(error: &Error, output: &mut O, faults: &mut F) -> Status
-    ensures status { IsAfterWords (kind_of error.now) result }
+    ensures status { IsStatusAfterWords (kind_of error.now) result }
     ensures of_words { IsOfWords result }
     ensures refused { result ≡ Status.WordsRefused → output.new ≡ output.old }
     ensures memory { result ≡ Status.Fault NO_MEMORY → output.new ≡ output.old }
@@ -271,7 +271,7 @@ fn carry_out<R, M, I, O, T>(
     asked: Asked<'_>,
     input: &mut I,
     output: &mut SessionOutput<'_, O, T>,
-) -> (Status, Told)
+) -> (Status, Remark)
 where
     R: Folders + RandomSource + AllocGlobal,
     M: MacroFunctions + Drop,
@@ -290,11 +290,11 @@ where
 {
     // the seed comes before the folder, so that nothing is made if there is none
     let Ok(seed) = Seed::draw(rt) else {
-        return (Status::Fault(INPUT), Told::Nothing);
+        return (Status::Fault(INPUT), Remark::Nothing);
     };
     let disk = match open_folder(rt, asked.folder, asked.existing) {
         Ok(disk) => disk,
-        Err(error) => return (Status::of_host(&error), Told::Cause(error)),
+        Err(error) => return (Status::of_host(&error), Remark::Cause(error)),
     };
     let alloc = rt.alloc();
     let opening = Opening {
@@ -308,21 +308,21 @@ where
 }
 
 // What is to be told on standard error after a task; if that is nothing, the cause of a fault of the device.
-fn told_after<D: TellsCause>(told: Told, disk: &D) -> Told
-    ensures { ((told ≡ Told.Nothing) × (left_out_of result ≡ [])) ⊎ (result ≡ told) }
+fn told_after<D: TellsCause>(told: Remark, disk: &D) -> Remark
+    ensures { ((told ≡ Remark.Nothing) × (left_out_of result ≡ [])) ⊎ (result ≡ told) }
 {
     match told {
-        Told::Nothing => cause_of(disk),
+        Remark::Nothing => cause_of(disk),
         told => told,
     }
 }
 
 // The cause of a fault of the device, if there was one.
-fn cause_of<D: TellsCause>(disk: &D) -> Told
+fn cause_of<D: TellsCause>(disk: &D) -> Remark
     ensures { left_out_of result ≡ [] }
 {
     match disk.cause() {
-        Some(error) => Told::Cause(HostError::System(error)),
-        None => Told::Nothing,
+        Some(error) => Remark::Cause(HostError::System(error)),
+        None => Remark::Nothing,
     }
 }

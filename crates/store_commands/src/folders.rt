@@ -4,7 +4,7 @@ ghost use Rattle.clap.specs.Words.{Text};
 ghost use Rattle.disk_trait.specs.Disk.{file_of};
 ghost use Rattle.disk_trait.specs.declared.host.HostError.{HostError};
 ghost use Rattle.disk_trait.specs.declared.host.IfMissing.{IfMissing};
-ghost use Rattle.gate_log.specs.Layout.{IsOpen};
+ghost use Rattle.gate_log.specs.Layout.{HasOpenGate};
 ghost use Rattle.store_commands.specs.Folders.{HoldsStore, IsFailureOf, LooksWhether, OpensStore};
 
 use disk_trait::{DeviceFault, Disk, Half, HostDisk, HostError, IfMissing};
@@ -105,7 +105,7 @@ pub fn holds_store<D: Disk>(disk: &mut D) -> Result<bool, DeviceFault>
 fn is_open_half<D: Disk>(disk: &mut D, half: Half) -> Result<bool, DeviceFault>
     requires { (D.state disk.old).failures < 2 ^ 64 - 1 }
     ensures { LooksWhether
-        (λ image. IsOpen (file_of half image)) (D.state disk.old) (D.state disk.new) result }
+        (λ image. HasOpenGate (file_of half image)) (D.state disk.old) (D.state disk.new) result }
 {
     let mut head = [0u8; 2];
     match disk.read(half, 0, &mut head) {
@@ -116,7 +116,7 @@ fn is_open_half<D: Disk>(disk: &mut D, half: Half) -> Result<bool, DeviceFault>
 
 // Whether the file that begins with these two bytes, or has no more than these, is an open half.
 fn begins_open(head: &[u8]) -> bool
-    ensures { Decides result (IsOpen head.now) }
+    ensures { Decides result (HasOpenGate head.now) }
 {
     head.len() >= 2 && head[0] == OPEN
 }

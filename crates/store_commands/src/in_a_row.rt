@@ -3,8 +3,8 @@ ghost use Rattle.std.specs.Prelude.{◌≡◌, ◌<◌, ◌-◌, ◌^◌, None, 
 ghost use Rattle.plist_state.specs.State.{WorldState};
 ghost use Rattle.prevalence_store.specs.calls.Open.{IsUnopened};
 ghost use Rattle.user_macros.specs.Functions.{are_registered};
-ghost use Rattle.store_commands.specs.Accounts.{BeginsAccount, EndsAccount, IsAccounted};
-ghost use Rattle.store_commands.specs.Commands.{IsUntouched};
+ghost use Rattle.store_commands.specs.Accounts.{BeginsAccount, EndsAccount, IsAccountOfSessions};
+ghost use Rattle.store_commands.specs.Commands.{AreStreamsUntouched};
 ghost use Rattle.store_commands.specs.Session.{half_limit};
 ghost use Rattle.store_commands.specs.Sessions.{AreSessions, InTurn};
 
@@ -41,12 +41,12 @@ where
     ensures served { IfOk result (λ p. (sessions : AreSessions M.Meaning.functions wanted
         D.state opening.disk opening.macros (I.remaining input.old) (I.remaining input.new)
         (O.contents output.old) (O.contents output.new) p.0 p.1)
-        × IsAccounted M.Meaning.functions D.state wanted.mode (I.remaining input.old)
+        × IsAccountOfSessions M.Meaning.functions D.state wanted.mode (I.remaining input.old)
         sessions.opened sessions.closed (O.first output.new) (O.account output.new)) }
     ensures kept { IfOk result (λ p. p.2 ≡ opening.macros) }
     ensures refused { IfErr result (λ e. IsUnopened M.Meaning.functions D.state opening.disk
         (are_registered M.Meaning.functions (M.functions opening.macros)) half_limit e.number e.disk
-        × IsUntouched input.old input.new output.old output.new) }
+        × AreStreamsUntouched input.old input.new output.old output.new) }
     ensures given_back { IfErr result (λ e. e.macros ≡ opening.macros) }
 {
     let mut store = opening.open()?;

@@ -8,7 +8,7 @@ ghost use Rattle.prevalence_store.specs.calls.Store.{StoreView};
 ghost use Rattle.sessions.specs.declared.ending.Ended.{Ended};
 ghost use Rattle.session_ledger.specs.OutgoingLines.{calls_in, disk_at};
 ghost use Rattle.session_words.specs.declared.mode.Mode.{Mode};
-ghost use Rattle.session_words.specs.declared.wanted.Wanted.{Wanted};
+ghost use Rattle.session_words.specs.declared.wanted.SessionOptions.{SessionOptions};
 ghost use Rattle.store_commands.specs.Accounts.{AccountGoesOn};
 ghost use Rattle.store_commands.specs.Folders.{HoldsStore, OpensStore};
 ghost use Rattle.store_commands.specs.Session.{IsSession};
@@ -49,7 +49,7 @@ pub fn sessions_go_on<D: Disk, R>()
 /// which acknowledges nothing. So wherever they are parted, a crash from then on leaves the world after all forms of the earlier ones, and of no
 /// call a part; and a store that is opened on it has that world.
 pub fn what_a_session_wrote_is_there<D: Disk, R>()
-    ensures one { (functions : Functions) (wanted : Wanted) (disk back : D) (macros : R)
+    ensures one { (functions : Functions) (wanted : SessionOptions) (disk back : D) (macros : R)
         → (had has held written : Option (List ℕ)) (ended : Ended)
         → IsHonest (D.state disk)
         → (session : IsSession functions wanted D.state disk macros had has held written ended back)
@@ -59,7 +59,7 @@ pub fn what_a_session_wrote_is_there<D: Disk, R>()
         → MeansCalls functions session.is_opened.world (calls_in functions D.state
         (first_account session.is_opened.world wanted.mode had session.opened.disk) session.closed session.went) k image }
 
-    ensures in_turn { (functions : Functions) (wanted : Wanted) (disk back : D) (macros : R)
+    ensures in_turn { (functions : Functions) (wanted : SessionOptions) (disk back : D) (macros : R)
         → (had has held written : Option (List ℕ)) (ended : Ended)
         → IsHonest (D.state disk)
         → (row : AreSessions functions wanted D.state disk macros had has held written ended back)

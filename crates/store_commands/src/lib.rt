@@ -72,5 +72,5 @@ pub use session::serve_on;
 pub use snapshot::snapshot_on;
 pub use status::Status;
 pub use terminal::{Sessions, Terminal};
-pub use told::{Told, end_with, end_with_told};
+pub use told::{Remark, end_with, end_with_told};
 pub use upgrade::upgrade_on;

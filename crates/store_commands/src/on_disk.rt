@@ -13,7 +13,7 @@ use crate::report::report_on;
 use crate::session::serve_on;
 use crate::snapshot::snapshot_on;
 use crate::status::Status;
-use crate::told::Told;
+use crate::told::Remark;
 use crate::upgrade::upgrade_on;
 use command_words::Task;
 use diagnostics::Places;
@@ -30,7 +30,7 @@ pub(crate) fn carry_out_on<D, M, I, O, T>(
     task: Task,
     input: &mut I,
     output: &mut SessionOutput<'_, O, T>,
-) -> (Status, D, Told)
+) -> (Status, D, Remark)
 where
     D: Disk + Drop,
     M: MacroFunctions + Drop,
@@ -46,19 +46,19 @@ where
     match task {
         Task::Run(wanted) => run_on(opening, wanted, input, output),
         Task::Snapshot => match snapshot_on(opening, &mut output.output) {
-            Ok((status, disk, _macros)) => (status, disk, Told::Nothing),
+            Ok((status, disk, _macros)) => (status, disk, Remark::Nothing),
             Err(unopened) => without_store(unopened),
         },
         Task::Upgrade => match upgrade_on(opening, &mut output.output) {
-            Ok((status, disk, _macros)) => (status, disk, Told::Nothing),
+            Ok((status, disk, _macros)) => (status, disk, Remark::Nothing),
             Err(unopened) => without_store(unopened),
         },
         Task::Export(content) => match export_on(opening, content, &mut output.output) {
-            Ok((status, disk, _macros, left_out)) => (status, disk, Told::LeftOut(left_out)),
+            Ok((status, disk, _macros, left_out)) => (status, disk, Remark::LeftOut(left_out)),
             Err(unopened) => without_store(unopened),
         },
         Task::Tell(report) => match report_on(opening, report, &mut output.output) {
-            Ok((status, disk, _macros)) => (status, disk, Told::Nothing),
+            Ok((status, disk, _macros)) => (status, disk, Remark::Nothing),
             Err(unopened) => without_store(unopened),
         },
     }
@@ -71,7 +71,7 @@ fn run_on<D, M, I, O>(
     wanted: Wanted,
     input: &mut I,
     output: &mut O,
-) -> (Status, D, Told)
+) -> (Status, D, Remark)
 where
     D: Disk + Drop,
     M: MacroFunctions + Drop,
@@ -88,16 +88,20 @@ where
         Ok((ended, disk, _macros)) => (
             Status::after_session(ended, wanted.strict, input.is_unanswered()),
             disk,
-            Told::of_session(ended, input),
+            Remark::of_session(ended, input),
         ),
         Err(unopened) => without_store(unopened),
     }
 }
 
 // A store was not opened: the status, and the disk.
-fn without_store<D: Drop, M: Drop>(unopened: Unopened<D, M>) -> (Status, D, Told)
+fn without_store<D: Drop, M: Drop>(unopened: Unopened<D, M>) -> (Status, D, Remark)
     ensures status { result.0 ≡ Status.Fault unopened.number }
     ensures disk { result.1 ≡ unopened.disk }
 {
-    (Status::Fault(unopened.number), unopened.disk, Told::Nothing)
+    (
+        Status::Fault(unopened.number),
+        unopened.disk,
+        Remark::Nothing,
+    )
 }

@@ -2,8 +2,8 @@
 ghost use Rattle.std.specs.Prelude.{◌≡◌, ◌<◌, ◌-◌, ◌^◌, None, IfOk, IfErr};
 ghost use Rattle.prevalence_store.specs.calls.Open.{IsUnopened};
 ghost use Rattle.user_macros.specs.Functions.{are_registered};
-ghost use Rattle.store_commands.specs.Commands.{IsUntouched};
-ghost use Rattle.store_commands.specs.Accounts.{IsAccounted};
+ghost use Rattle.store_commands.specs.Commands.{AreStreamsUntouched};
+ghost use Rattle.store_commands.specs.Accounts.{IsAccountOfSessions};
 ghost use Rattle.store_commands.specs.Session.{IsSession, half_limit};
 
 use crate::opening::Opening;
@@ -40,12 +40,12 @@ where
     ensures served { IfOk result (λ p. (session : IsSession M.Meaning.functions wanted
         D.state opening.disk opening.macros (I.remaining input.old) (I.remaining input.new)
         (O.contents output.old) (O.contents output.new) p.0 p.1)
-        × IsAccounted M.Meaning.functions D.state wanted.mode (I.remaining input.old)
+        × IsAccountOfSessions M.Meaning.functions D.state wanted.mode (I.remaining input.old)
         session.opened session.closed (O.first output.new) (O.account output.new)) }
     ensures kept { IfOk result (λ p. p.2 ≡ opening.macros) }
     ensures refused { IfErr result (λ e. IsUnopened M.Meaning.functions D.state opening.disk
         (are_registered M.Meaning.functions (M.functions opening.macros)) half_limit e.number e.disk
-        × IsUntouched input.old input.new output.old output.new) }
+        × AreStreamsUntouched input.old input.new output.old output.new) }
     ensures given_back { IfErr result (λ e. e.macros ≡ opening.macros) }
 {
     let mut store = opening.open()?;

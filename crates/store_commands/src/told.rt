@@ -15,7 +15,7 @@ const UNANSWERED: &[u8] =
 
 /// What is told on standard error beside the line of a fault.
 #[derive(Drop)]
-pub enum Told {
+pub enum Remark {
     Nothing,
     /// The cause of a fault of the device.
     Cause(HostError),
@@ -28,16 +28,16 @@ pub enum Told {
 /// Ends so: after a fault its line is written.
 pub fn end_with<F: Write>(faults: &mut F, status: Status) -> Status
     ensures status { result ≡ status }
-    ensures told { TellsFault status Told.Nothing (F.contents faults.old) (F.contents faults.new) }
+    ensures told { TellsFault status Remark.Nothing (F.contents faults.old) (F.contents faults.new) }
     ensures quiet { IsQuiet status ⊎ (status ≡ Status.WordsRefused) → faults.new ≡ faults.old }
 {
-    end_with_told(faults, status, &Told::Nothing)
+    end_with_told(faults, status, &Remark::Nothing)
 }
 
 /// Ends so: after a fault its line is written, and after one of the device a line with the cause, if it is known; after an export
 /// what was left out of it; after a refusal that ended the session the line on it; and a line after a strict session that answered
 /// nothing.
-pub fn end_with_told<F: Write>(faults: &mut F, status: Status, told: &Told) -> Status
+pub fn end_with_told<F: Write>(faults: &mut F, status: Status, told: &Remark) -> Status
     ensures status { result ≡ status }
     ensures told { TellsFault status told.now (F.contents faults.old) (F.contents faults.new) }
     ensures quiet { IsQuiet status ⊎ (status ≡ Status.WordsRefused) → faults.new ≡ faults.old }
@@ -64,32 +64,32 @@ pub fn end_with_told<F: Write>(faults: &mut F, status: Status, told: &Told) -> S
 }
 
 // Writes the line on a refusal, if one is told.
-fn tell_refusal<F: Write>(faults: &mut F, told: &Told)
+fn tell_refusal<F: Write>(faults: &mut F, told: &Remark)
     ensures { TellsRefusal told.now (F.contents faults.old) (F.contents faults.new) }
 {
     match told {
-        Told::Refused(refusal) => {
+        Remark::Refused(refusal) => {
             let _ = write_refusal(faults, refusal);
         }
         _ => {}
     }
 }
 
-impl Told {
+impl Remark {
     /// What is told after a session over this input that ended so.
-    pub(crate) fn of_session<I: Places>(ended: Ended, input: &I) -> Told
+    pub(crate) fn of_session<I: Places>(ended: Ended, input: &I) -> Remark
         ensures { IsToldOf ended result }
     {
         match Refusal::of(ended, input) {
-            Some(refusal) => Told::Refused(refusal),
-            None => Told::Nothing,
+            Some(refusal) => Remark::Refused(refusal),
+            None => Remark::Nothing,
         }
     }
 
     // The cause of a fault of the device, if that is what is told.
     fn cause(&self) -> Option<&HostError> {
         match self {
-            Told::Cause(cause) => Some(cause),
+            Remark::Cause(cause) => Some(cause),
             _ => None,
         }
     }
@@ -98,7 +98,7 @@ impl Told {
         ensures { result.now ≡ left_out_of self.now }
     {
         match self {
-            Told::LeftOut(lines) => lines.as_slice(),
+            Remark::LeftOut(lines) => lines.as_slice(),
             _ => &[],
         }
     }

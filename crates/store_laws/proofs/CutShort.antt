@@ -7,10 +7,10 @@ use Rattle.plist_state.specs.State.{WorldState}
 use Rattle.session_words.specs.declared.mode.Mode.{Mode}
 use Rattle.sessions.specs.declared.ending.Ended.TheVariants.{Store}
 use Rattle.sessions.specs.declared.ending.Ending.TheVariants as ending
-use Rattle.session_words.specs.declared.wanted.Wanted.{Wanted}
+use Rattle.session_words.specs.declared.wanted.SessionOptions.{SessionOptions}
 use Rattle.prevalence_store.specs.meaning.Acceptance.{read_in}
 use Rattle.sessions.specs.Answers.{Progress, after_forms, last_line}
-use Rattle.sessions.specs.Serve.{Ends, IsAfter, IsUnwritten, Serves, ServesWanted, StaysOrEnds, StaysRefused}
+use Rattle.sessions.specs.Serve.{Ends, IsAfter, EndsAtFailedWrite, Serves, ServesWanted, StaysOrEnds, StaysRefused}
 use Rattle.prevalence_store.specs.calls.Store.{StoreView}
 use Rattle.store_laws.specs.Outcomes.{BreaksOff, HasForms, answers}
 use Rattle.user_macros.specs.Functions.{Functions}
@@ -55,7 +55,7 @@ module _ (functions : Functions) {D R : Type 0} (state : D → State) (old new :
         let grown = fewer_first functions w mode text (served.lines + 1) served.forms next served.far (omega arith) next_is served.far_is in
         (rest ++ grown.lines, grown.lines_are ∙ ap (λ l. l ++ grown.lines) parts ∙ append_assoc bytes rest grown.lines)
 
-    unwritten : IsUnwritten functions state old new w mode text held written served.forms served.far served.lines served.answered served.part number → IsWithin ⊎ IsInLast
+    unwritten : EndsAtFailedWrite functions state old new w mode text held written served.forms served.far served.lines served.answered served.part number → IsWithin ⊎ IsInLast
     unwritten is = elim (cases_eq served.lines served.forms) [
       | inl same ↦ inr (record { output = is.output; all = same; rest = is.unwritten; front = is.front })
       | inr other ↦
@@ -130,7 +130,7 @@ module _ (functions : Functions) {D R : Type 0} (state : D → State) (old new :
       subst (λ l. after_forms functions forms w mode (text ++ l) ≡ Some (record far { rest = far.rest ++ l })) (sym none)
       (ap (after_forms functions forms w mode) (append-nil text) ∙ far_is ∙ ap (λ l. Some (record far { rest = l })) (sym (append-nil far.rest)))
 
-  pub front_of_all : (wanted : Wanted) (input : List ℕ) (has held written : Option (List ℕ)) (number forms : ℕ) (far : Progress) → HasForms functions w wanted.mode input forms far
+  pub front_of_all : (wanted : SessionOptions) (input : List ℕ) (has held written : Option (List ℕ)) (number forms : ℕ) (far : Progress) → HasForms functions w wanted.mode input forms far
       → ServesWanted functions state wanted old new w (Some input) has held written (Store number) → BreaksOff functions state old new w wanted.mode input held written far forms
   front_of_all wanted input has held written number forms far all wants =
       let over = wants.0 in

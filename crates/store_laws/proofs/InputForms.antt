@@ -3,14 +3,14 @@ use Rattle.std.proofs.Common.{◌≡◌, ℕ, zero, suc, ◌+◌, ◌<◌, ◌�
 use Rattle.std.specs.Option.{option_and_then, option_map}
 use Rattle.std.proofs.lemmas.Bool.{cases_eq, cases_lt}
 use Rattle.gate_log.specs.Layout.{LogRecord}
-use Rattle.lisp_reading.specs.Reading.{Outcome as Reading, form, empty, refused}
+use Rattle.lisp_reading.specs.Reading.{ReadingResult as Reading, form, empty, refused}
 use Rattle.lisp_object.specs.Object.{Object}
 use Rattle.lisp_operators.specs.Evaluation.{Evaluation}
 use Rattle.plist_state.specs.State.{WorldState}
 use Rattle.session_words.specs.declared.mode.Mode.{Mode}
 use Rattle.prevalence_store.specs.meaning.Acceptance.{between, read_in, transaction_value}
 use Rattle.sessions.specs.Answers.{Progress, after_forms, first_progress, form_progress, last_line, one_form, one_form_more, onward}
-use Rattle.sessions.specs.Serve.{IsUnaccepted}
+use Rattle.sessions.specs.Serve.{IsFormUnaccepted}
 use Rattle.store_laws.specs.Outcomes.{EndsAtRefusal, HasForms, answers}
 use Rattle.user_macros.specs.Functions.{Functions}
 
@@ -159,7 +159,7 @@ module _ (functions : Functions) (world : WorldState) (mode : Mode) where
 
   -- the last of some forms is refused
   pub refused_last : (text : List ℕ) (n m : ℕ) (far before : Progress) (number start : ℕ) → n ≡ m + 1 → after n text ≡ Some far → after m text ≡ Some before
-      → IsUnaccepted functions before.world mode before.rest number start → far.refused ≡ before.refused ++ number ∷ []
+      → IsFormUnaccepted functions before.world mode before.rest number start → far.refused ≡ before.refused ++ number ∷ []
   refused_last text n m far before number start one_more far_is before_is refuses =
       let one : Progress = form_progress before.world mode (between start refuses.stop before.rest) (drop refuses.next before.rest) (Err number) in
       let reads : one_form functions before.world mode before.rest (read_in functions before.world mode before.rest) ≡ Some one =

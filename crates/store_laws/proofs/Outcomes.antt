@@ -8,7 +8,7 @@ use Rattle.sessions.specs.declared.ending.Ended.{Ended}
 use Rattle.sessions.specs.declared.ending.Ended.TheVariants.{End, Unreadable, Unaccepted, Store}
 use Rattle.sessions.specs.declared.ending.Ending.TheVariants as ending
 use Rattle.sessions.specs.declared.ending.Place.{Place}
-use Rattle.session_words.specs.declared.wanted.Wanted.{Wanted}
+use Rattle.session_words.specs.declared.wanted.SessionOptions.{SessionOptions}
 use Rattle.prevalence_store.specs.meaning.Acceptance.{read_in}
 use Rattle.sessions.specs.Answers.{Progress, after_forms, last_line, one_form}
 use Rattle.sessions.specs.Serve.{HasRead, IsAfter, Serves, ServesInput, ServesWanted, StaysRefused, StaysStopped, pace_wanted}
@@ -75,7 +75,7 @@ module _ (functions : Functions) {D R : Type 0} (state : D → State) (old new :
   all_read : (input text left : List ℕ) → input ≡ text ++ left → left ≡ [] → text ≡ input
   all_read input text left is none = sym (is ∙ ap (λ l. text ++ l) none ∙ append-nil text)
 
-  module _ (wanted : Wanted) (input : List ℕ) (has held written : Option (List ℕ)) where
+  module _ (wanted : SessionOptions) (input : List ℕ) (has held written : Option (List ℕ)) where
     pub completed : (ended : Ended) → ServesWanted functions state wanted old new w (Some input) has held written ended → IsByInput ended → CompletesOver wanted.mode held written input ended
     completed End wants by_input =
         let over = wants.0 in
@@ -108,7 +108,7 @@ module _ (functions : Functions) {D R : Type 0} (state : D → State) (old new :
   some_refused [] number refusals is none = absurd (cc)
   some_refused (x ∷ xs) number refusals is none = absurd (cc)
 
-  module _ (wanted : Wanted) (input : List ℕ) (has held written : Option (List ℕ)) where
+  module _ (wanted : SessionOptions) (input : List ℕ) (has held written : Option (List ℕ)) where
     pub stopped : (number : ℕ) (place : Place) → ServesWanted functions state wanted old new w (Some input) has held written (Unaccepted number place) → StopsOver wanted.mode held written input
     stopped number place (strict, text, stops, reads, stays) = by_rest (stays input refl) where
       last_refused : stops.far.refused ≢ []

@@ -19,12 +19,12 @@ use Rattle.messages.specs.Position.{position_property}
 use Rattle.messages.proofs.Settling.{unchanged_or_failed}
 use Rattle.prevalence_store.proofs.Surviving.{one_world}
 use Rattle.store_laws.specs.Messages.{IsBeforeOrAfter}
-use Rattle.store_laws.specs.Rounds.{AreSteps, HasCome, IsStep, IsThere, Place, Step, requested, quiet, after_rounds, answered_in, begun_from, begun_in, rounds_of, store_after, store_by, with_round}
+use Rattle.store_laws.specs.Rounds.{AreSteps, HasCome, IsStep, IsWorldAtPlace, Place, Step, requested, quiet, after_rounds, answered_in, begun_from, begun_in, rounds_of, store_after, store_by, with_round}
 use Rattle.store_laws.proofs.MessagesDone.{at_any_moment, closed_at}
 use Rattle.user_macros.specs.Functions.{Functions}
 
 -- the place after a round that wrote is what the round says
-wrote_there : (place : Place) (round : Round) (now : WorldState) → round.wrote ≡ true → now ≡ round.left → position_property now ≡ Some (integer (pos round.last)) → IsThere (with_round place round) now
+wrote_there : (place : Place) (round : Round) (now : WorldState) → round.wrote ≡ true → now ≡ round.left → position_property now ≡ Some (integer (pos round.last)) → IsWorldAtPlace (with_round place round) now
 wrote_there place round now wrote here told =
     (here ∙ sym (ap (λ b. left_after b place.world round.left) wrote), told ∙ sym (ap (λ b. if b then Some (integer (pos round.last)) else place.position) wrote))
 
@@ -102,14 +102,14 @@ module _ (functions : Functions) {D R : Type 0} (state : D → State) where
       (come_after steps (store_by step) (after_rounds functions place (answered_in step)) (after_step old place come step are.0 are.1) are.2)
 
   module _ (sound : (d : D) → IsHonest (state d) → IsSoundDisk (state d)) (old : StoreView D R) (place : Place) (come : HasCome functions state old place) (image : Image) (now : WorldState) (means : MeansWorld functions image now) where
-    before : now ≡ place.world → IsThere place now
+    before : now ≡ place.world → IsWorldAtPlace place now
     before same = (same, ap position_property same ∙ come.position)
 
     in_step : (step : Step D R) → IsStep functions state old place step → (state (store_by step).disk).left_since (state old.disk).moment image
-        → IsThere place now ⊎ IsThere (after_rounds functions place (begun_in step)) now
+        → IsWorldAtPlace place now ⊎ IsWorldAtPlace (after_rounds functions place (begun_in step)) now
     in_step (requested requests result new) is left =
         by (at_any_moment functions state sound old new place.world come.world come.honest come.keeps place.last requests result image now is left means) where
-          by : IsBeforeOrAfter place.world (round_at functions place requests) now → IsThere place now ⊎ IsThere (with_round place (round_at functions place requests)) now
+          by : IsBeforeOrAfter place.world (round_at functions place requests) now → IsWorldAtPlace place now ⊎ IsWorldAtPlace (with_round place (round_at functions place requests)) now
           by (inl same) = inl (before same)
           by (inr is_after) = inr (wrote_there place (round_at functions place requests) now is_after.0 is_after.1 is_after.2)
     in_step (quiet new) is left =
@@ -118,7 +118,7 @@ module _ (functions : Functions) {D R : Type 0} (state : D → State) where
   pub at_one_moment : (sound : (d : D) → IsHonest (state d) → IsSoundDisk (state d)) (old : StoreView D R) (first : Place) (come : HasCome functions state old first) (steps : List (Step D R))
       → AreSteps functions state old first steps → (step : Step D R) → IsStep functions state (store_after old steps) (after_rounds functions first (rounds_of steps)) step
       → (image : Image) (now : WorldState) → (state (store_by step).disk).left_since (state (store_after old steps).disk).moment image → MeansWorld functions image now
-      → IsThere (after_rounds functions first (rounds_of steps)) now ⊎ IsThere (after_rounds functions first (rounds_of steps ++ begun_in step)) now
+      → IsWorldAtPlace (after_rounds functions first (rounds_of steps)) now ⊎ IsWorldAtPlace (after_rounds functions first (rounds_of steps ++ begun_in step)) now
   at_one_moment sound old first come steps are step is image now left means =
-      subst (λ far. IsThere (after_rounds functions first (rounds_of steps)) now ⊎ IsThere far now) (sym (rounds_append functions first (rounds_of steps) (begun_in step)))
+      subst (λ far. IsWorldAtPlace (after_rounds functions first (rounds_of steps)) now ⊎ IsWorldAtPlace far now) (sym (rounds_append functions first (rounds_of steps) (begun_in step)))
       (in_step sound (store_after old steps) (after_rounds functions first (rounds_of steps)) (come_after steps old first come are) image now means step is left)

@@ -3,7 +3,7 @@
 use Rattle.std.specs.Prelude.{◌≡◌, ◌≢◌, ℕ, ◌+◌, ◌≤◌, List, [], ◌++◌, Option, None, Some}
 use Rattle.disk_trait.specs.Disk.{State}
 use Rattle.gate_log.specs.Layout.{LogRecord}
-use Rattle.lisp_reading.specs.Reading.{Outcome as Reading, form, empty, refused}
+use Rattle.lisp_reading.specs.Reading.{ReadingResult as Reading, form, empty, refused}
 use Rattle.plist_state.specs.State.{WorldState}
 use Rattle.session_words.specs.declared.mode.Mode.{Mode}
 use Rattle.sessions.specs.declared.ending.Ended.{Ended}

@@ -40,8 +40,8 @@ abbrev pub after_rounds : Functions → Place → List (List Request) → Place
 after_rounds functions place rounds = fold (λ far requests. with_round far (round_after_requests functions (begun_from far) requests)) place rounds
 
 -- this world is there, and tells this position
-abbrev pub IsThere : Place → WorldState → Type 0
-IsThere place now = (now ≡ place.world) × (position_property now ≡ place.position)
+abbrev pub IsWorldAtPlace : Place → WorldState → Type 0
+IsWorldAtPlace place now = (now ≡ place.world) × (position_property now ≡ place.position)
 
 -- A message of these rounds that wrote: its number, and the requests around it.
 pub record HasWritten (functions : Functions) (first : Place) (rounds : List (List Request)) (number : ℕ) : Type 0 where

@@ -6,7 +6,7 @@ ghost use Rattle.prevalence_store.specs.calls.Store.{StoreView};
 ghost use Rattle.session_words.specs.declared.mode.Mode.{Mode};
 ghost use Rattle.sessions.specs.declared.ending.Ended.{Ended};
 ghost use Rattle.sessions.specs.declared.ending.Place.{Place};
-ghost use Rattle.session_words.specs.declared.wanted.Wanted.{Wanted};
+ghost use Rattle.session_words.specs.declared.wanted.SessionOptions.{SessionOptions};
 ghost use Rattle.sessions.specs.Answers.{Progress};
 ghost use Rattle.store_laws.specs.Outcomes.{BreaksOff, Completes, HasForms, IsByInput, StopsAtRefusal};
 ghost use Rattle.user_macros.specs.Functions.{Functions};
@@ -34,14 +34,14 @@ pub fn one_outcome<D: Disk, E: Disk, R, S>()
         → HasForms functions world mode input forms far
         → HasForms functions world mode input others other
         → (forms ≡ others) × (far ≡ other) }
-    ensures completed { (functions : Functions) (wanted : Wanted) (old new : StoreView D R)
+    ensures completed { (functions : Functions) (wanted : SessionOptions) (old new : StoreView D R)
         (world : WorldState)
         → (input : List ℕ) (has held written : Option (List ℕ)) (ended : Ended)
         → ServesWanted functions D.state wanted old new world (Some input) has held written ended
         → IsByInput ended
         → (forms : ℕ) × (far : Progress)
         × Completes functions D.state old new world wanted.mode input held written ended forms far }
-    ensures same { (functions : Functions) (wanted other : Wanted)
+    ensures same { (functions : Functions) (wanted other : SessionOptions)
         → (old new : StoreView D R) (before after : StoreView E S) (world : WorldState)
         → (input : List ℕ) (has held written : Option (List ℕ)) (ended : Ended)
         → (others_has others_held others_written : Option (List ℕ)) (ending : Ended)
@@ -53,12 +53,12 @@ pub fn one_outcome<D: Disk, E: Disk, R, S>()
         → (forms : ℕ) × (far : Progress)
         × Completes functions D.state old new world wanted.mode input held written ended forms far
         × Completes functions E.state before after world wanted.mode input others_held others_written ending forms far }
-    ensures stopped { (functions : Functions) (wanted : Wanted) (old new : StoreView D R) (world : WorldState)
-        → (input : List ℕ) (has held written : Option (List ℕ)) (number : ℕ) (place : Place)
+    ensures stopped { (functions : Functions) (wanted : SessionOptions) (old new : StoreView D R)
+        → (world : WorldState) (input : List ℕ) (has held written : Option (List ℕ)) (number : ℕ) (place : Place)
         → ServesWanted functions D.state wanted old new world (Some input) has held written (Ended.Unaccepted number place)
         → (forms : ℕ) × (far : Progress)
         × StopsAtRefusal functions D.state old new world wanted.mode input held written forms far }
-    ensures both_stopped { (functions : Functions) (wanted other : Wanted)
+    ensures both_stopped { (functions : Functions) (wanted other : SessionOptions)
         → (old new : StoreView D R) (before after : StoreView E S) (world : WorldState)
         → (input : List ℕ) (has held written : Option (List ℕ)) (number : ℕ) (place : Place)
         → (others_has others_held others_written : Option (List ℕ)) (code : ℕ) (others_place : Place)
@@ -69,8 +69,8 @@ pub fn one_outcome<D: Disk, E: Disk, R, S>()
         → (forms : ℕ) × (far : Progress)
         × StopsAtRefusal functions D.state old new world wanted.mode input held written forms far
         × StopsAtRefusal functions E.state before after world wanted.mode input others_held others_written forms far }
-    ensures front { (functions : Functions) (wanted : Wanted) (old new : StoreView D R) (world : WorldState)
-        → (input : List ℕ) (has held written : Option (List ℕ)) (number : ℕ)
+    ensures front { (functions : Functions) (wanted : SessionOptions) (old new : StoreView D R)
+        → (world : WorldState) (input : List ℕ) (has held written : Option (List ℕ)) (number : ℕ)
         → (forms : ℕ) (far : Progress)
         → HasForms functions world wanted.mode input forms far
         → ServesWanted functions D.state wanted old new world (Some input) has held written (Ended.Store number)
@@ -82,7 +82,7 @@ pub fn one_outcome<D: Disk, E: Disk, R, S>()
 /// A session with groups that comes to the end of its input, or to what the reader refuses in it, gives what one without groups gives
 /// over the same input, from the same world on: the same bytes and the same world. So does a strict one that ends at a refused form.
 pub fn groups_change_nothing<D: Disk, E: Disk, R, S>()
-    ensures strict { (functions : Functions) (wanted : Wanted)
+    ensures strict { (functions : Functions) (wanted : SessionOptions)
         → (old new : StoreView D R) (before after : StoreView E S) (world : WorldState)
         → (input : List ℕ) (has held written : Option (List ℕ)) (number : ℕ) (place : Place)
         → (others_has others_held others_written : Option (List ℕ)) (code : ℕ) (others_place : Place)
@@ -93,7 +93,7 @@ pub fn groups_change_nothing<D: Disk, E: Disk, R, S>()
         → (forms : ℕ) × (far : Progress)
         × StopsAtRefusal functions D.state old new world wanted.mode input held written forms far
         × StopsAtRefusal functions E.state before after world wanted.mode input others_held others_written forms far }
-    ensures completed { (functions : Functions) (wanted : Wanted)
+    ensures completed { (functions : Functions) (wanted : SessionOptions)
         → (old new : StoreView D R) (before after : StoreView E S) (world : WorldState)
         → (input : List ℕ) (has held written : Option (List ℕ)) (ended : Ended)
         → (others_has others_held others_written : Option (List ℕ)) (ending : Ended)

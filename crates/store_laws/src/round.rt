@@ -6,7 +6,7 @@ ghost use Rattle.prevalence_store.specs.Theorem.{Keeps};
 ghost use Rattle.prevalence_store.specs.calls.Store.{StoreView};
 ghost use Rattle.messages.specs.declared.request.Request.{Request};
 ghost use Rattle.prevalence_store.specs.meaning.Files.{MeansWorld};
-ghost use Rattle.store_laws.specs.Rounds.{AreSteps, HasCome, HasWritten, IsStep, IsThere, IsUpToPosition, Place, Step, after_rounds, begun_in, place_at, rounds_of, store_after, store_by};
+ghost use Rattle.store_laws.specs.Rounds.{AreSteps, HasCome, HasWritten, IsStep, IsWorldAtPlace, IsUpToPosition, Place, Step, after_rounds, begun_in, place_at, rounds_of, store_after, store_by};
 ghost use Rattle.user_macros.specs.Functions.{Functions};
 
 use disk_trait::Disk;
@@ -33,8 +33,8 @@ pub fn rounds<D: Disk, R>()
         → AreSteps functions D.state old (place_at last world) steps
         → IsStep functions D.state (store_after old steps) (after_rounds functions (place_at last world) (rounds_of steps)) step
         → (D.state (store_by step).disk).left_since (D.state (store_after old steps).disk).moment image → MeansWorld functions image now
-        → IsThere (after_rounds functions (place_at last world) (rounds_of steps)) now
-        ⊎ IsThere (after_rounds functions (place_at last world) (rounds_of steps ++ begun_in step)) now }
+        → IsWorldAtPlace (after_rounds functions (place_at last world) (rounds_of steps)) now
+        ⊎ IsWorldAtPlace (after_rounds functions (place_at last world) (rounds_of steps ++ begun_in step)) now }
     ensures none_over { (functions : Functions) (first : Place) (rounds : List (List Request)) (number : ℕ)
         → HasWritten functions first rounds number → IsUpToPosition (after_rounds functions first rounds).position number }
 {}

@@ -33,12 +33,12 @@ use Rattle.store_commands.specs.declared.status.Status.TheVariants as statuses
 use Rattle.store_looks.specs.FailedLooks.{IsOfBackup, of_log, of_show, status_of}
 use Rattle.store_looks.specs.declared.unlooked.Unlooked.{Unlooked}
 use Rattle.store_looks.specs.declared.unlooked.Unlooked.TheVariants as unlooked
-use Rattle.store_reports.specs.Backup.{IsBackupMade, IsUnmade}
+use Rattle.store_reports.specs.Backup.{IsBackupMade, HasNoBackup}
 use Rattle.store_reports.specs.Figures.{AreFiguresOf, file_info_text, info_text, verified_text}
 use Rattle.store_reports.specs.Log.{IsLogText, least_records}
 use Rattle.store_reports.specs.Places.{Deed}
 use Rattle.store_reports.specs.PropertyCounts.{IsCountText, IsNoCount}
-use Rattle.store_reports.specs.ShownProperties.{IsShown, IsUnshown}
+use Rattle.store_reports.specs.ShownProperties.{ArePropertiesShown, ArePropertiesUnshown}
 use Rattle.store_reports.specs.declared.backups.BackupError.{BackupError}
 use Rattle.store_reports.specs.declared.figures.HalfFigures.{HalfFigures}
 use Rattle.store_reports.specs.declared.log.LogPart.{LogPart}
@@ -71,7 +71,7 @@ abbrev pub system_of : (Text → Result Figures HostError → Type 0) → {D : T
 system_of measures state does = record {
   measures = measures;
   made = λ dir world. IsBackupMade state does half_limit world dir;
-  unmade = λ dir world error. IsUnmade state does half_limit world dir error;
+  unmade = λ dir world error. HasNoBackup state does half_limit world dir error;
 }
 
 -- ---- what the words ask for
@@ -90,12 +90,12 @@ notation_of json = if json then notations.Json else notations.Lines
 
 -- the properties that are asked for are shown, or counted
 abbrev pub TellsProperties : Bool → Notation → Selection → WorldState → List ℕ → Type 0
-TellsProperties false notation selection world text = IsShown selection world text
+TellsProperties false notation selection world text = ArePropertiesShown selection world text
 TellsProperties true notation selection world text = IsCountText selection world notation text
 
 -- why properties are not shown, or not counted
 abbrev pub WithholdsProperties : Bool → Selection → WorldState → ShowError → Type 0
-WithholdsProperties false selection world error = IsUnshown selection world error
+WithholdsProperties false selection world error = ArePropertiesUnshown selection world error
 WithholdsProperties true selection world error = IsNoCount selection world error
 
 -- the part of the log that was asked for
@@ -147,14 +147,14 @@ module _ (functions : Functions) {R : Type 0} (macros : R) where
     pub tells : TellsText status held written text
 
   -- The files that were seen opened as a store, and this is so of its world.
-  pub record Has (Is : WorldState → Type 0) (sight : Sight) : Type 0 where
+  pub record HasWorldThat (Is : WorldState → Type 0) (sight : Sight) : Type 0 where
     pub opened : StoreView Sight R
     pub is_opened : IsOpened functions state_of_sight sight macros half_limit opened
     pub is : Is is_opened.world
 
   -- a backup was made of its world
   unfoldable pub BacksUp : (WorldState → Type 0) → Sight → Status → Type 0
-  BacksUp made sight status = Has made sight × (status ≡ statuses.Done)
+  BacksUp made sight status = HasWorldThat made sight × (status ≡ statuses.Done)
 
   -- what is told
 
@@ -230,7 +230,7 @@ module _ (functions : Functions) {R : Type 0} (macros : R) (whole : Bool) where
   WithholdsShown shown sight why =
       Unopens functions whole sight why
       ⊎ ((selection : Selection) × IsSelection shown selection
-      × ((error : ShowError) × Has functions macros (λ world. WithholdsProperties shown.count selection world error) sight × (why ≡ of_show error)))
+      × ((error : ShowError) × HasWorldThat functions macros (λ world. WithholdsProperties shown.count selection world error) sight × (why ≡ of_show error)))
 
   unfoldable pub WithholdsDump : RecordPlace → Sight → Unlooked → Type 0
   WithholdsDump place sight why =
@@ -241,7 +241,7 @@ module _ (functions : Functions) {R : Type 0} (macros : R) (whole : Bool) where
   unfoldable pub WithholdsBackup : (WorldState → BackupError → Type 0) → Sight → Unlooked → Type 0
   WithholdsBackup unmade sight why =
       Unopens functions whole sight why
-      ⊎ ((error : BackupError) × Has functions macros (λ world. unmade world error) sight × IsOfBackup error why)
+      ⊎ ((error : BackupError) × HasWorldThat functions macros (λ world. unmade world error) sight × IsOfBackup error why)
 
   unfoldable pub WithholdsLook : System → Text → Look → Sight → Unlooked → Type 0
   WithholdsLook system folder (Show shown) sight why = WithholdsShown shown sight why

@@ -8,9 +8,9 @@ ghost use Rattle.plist_state.specs.Sound.{IsSoundWorldState as IsSoundState};
 ghost use Rattle.world_text.specs.Snapshot.{snapshot};
 ghost use Rattle.store_commands.specs.Status.{IsQuiet};
 ghost use Rattle.store_commands.specs.EndLines.{TellsFault};
-ghost use Rattle.store_commands.specs.declared.told.Told.{Told};
+ghost use Rattle.store_commands.specs.declared.told.Remark.{Remark};
 ghost use Rattle.store_looks.specs.CheckReports.{AreRefusalsOf, Checks, EndsSo, FindsIn, IsCheckText, IsRefusalOfUnreadable, IsTextOf, IsWorldOfFolder, TellsForms, unreadable_text};
-ghost use Rattle.store_looks.specs.LookReports.{Has};
+ghost use Rattle.store_looks.specs.LookReports.{HasWorldThat};
 
 use crate::looks::{end_unlooked, notation_for, opened, sight_of};
 use crate::seeds::Seeds;
@@ -62,7 +62,7 @@ where
     requires answers { M.answers macros }
     ensures checks { Checks M.Meaning.functions (M.functions macros) macros (I.remaining input.old)
         (O.contents output.old) (O.contents output.new) (map S.text words.now) result }
-    ensures told { (told : Told) × TellsFault result told (F.contents faults.old) (F.contents faults.new) }
+    ensures told { (told : Remark) × TellsFault result told (F.contents faults.old) (F.contents faults.new) }
     ensures quiet { IsQuiet result → faults.new ≡ faults.old }
 {
     match checked_in(rt.alloc(), words) {
@@ -181,7 +181,7 @@ where
     requires answers { M.answers macros }
     ensures macros { IfOk result (λ p. p.1 ≡ macros) }
     ensures world { IfOk result (λ p. (sight : Seen)
-        × Has M.Meaning.functions macros (λ had. p.0.0 ≡ had) sight) }
+        × HasWorldThat M.Meaning.functions macros (λ had. p.0.0 ≡ had) sight) }
 {
     let alloc = rt.alloc();
     let sight = sight_of(&Looking::new(rt), folder)?;

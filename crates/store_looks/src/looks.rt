@@ -5,11 +5,11 @@ ghost use Rattle.clap.specs.Words.{Text};
 ghost use Rattle.command_words.specs.declared.looks.Look.TheVariants as looking;
 ghost use Rattle.store_commands.specs.Status.{IsQuiet};
 ghost use Rattle.store_commands.specs.EndLines.{TellsFault};
-ghost use Rattle.store_commands.specs.declared.told.Told.{Told};
+ghost use Rattle.store_commands.specs.declared.told.Remark.{Remark};
 ghost use Rattle.prevalence_store.specs.calls.Open.{IsOpened};
 ghost use Rattle.store_commands.specs.Session.{half_limit};
 ghost use Rattle.command_words.specs.LookLine.{AsksToLook};
-ghost use Rattle.store_reports.specs.Backup.{IsBackupMade, IsUnmade};
+ghost use Rattle.store_reports.specs.Backup.{IsBackupMade, HasNoBackup};
 ghost use Rattle.store_commands.specs.Texts.{TellsText};
 ghost use Rattle.store_looks.specs.Looks.{EndsUnlooked, Prints};
 ghost use Rattle.store_looks.specs.LookReports.{BacksUp, LooksAsAsked, LooksAt, Sees, TellsDump, TellsLog, TellsLook, Unopens, WithholdsBackup, WithholdsDump, WithholdsLog, WithholdsLook, notation_of, system_of};
@@ -34,8 +34,8 @@ use std::convert::AsStr;
 use std::fmt::{Display, Write as WriteText};
 use std::io::Write;
 use store_commands::{
-    Folders, HALF_LIMIT, Opening, Status, TellsCause, Told, answer_words, end_with, end_with_told,
-    open_folder, report_on, status_of_output,
+    Folders, HALF_LIMIT, Opening, Remark, Status, TellsCause, answer_words, end_with,
+    end_with_told, open_folder, report_on, status_of_output,
 };
 use store_reports::{BackupError, LogPart, Notation, ShowError, StorePlaces, backup, log_lines};
 use user_macros::MacroFunctions;
@@ -72,7 +72,7 @@ where
         (system_of (R.measures rt.now) R.Disk.state (R.does rt.now)) (R.lacks rt.now)
         (Sees ⟦<Sight as TellsCause>⟧.tells (L.opens folders.now))
         (map S.text words.now) (O.contents output.old) (O.contents output.new) result }
-    ensures told { (told : Told) × TellsFault result told (F.contents faults.old) (F.contents faults.new) }
+    ensures told { (told : Remark) × TellsFault result told (F.contents faults.old) (F.contents faults.new) }
     ensures quiet { IsQuiet result → faults.new ≡ faults.old }
 {
     match looked_in(rt.alloc(), words) {
@@ -93,7 +93,7 @@ pub(crate) fn end_unlooked<F: Write>(
     unlooked: Unlooked,
     look: Option<Look<'_>>,
 ) -> Status
-    ensures told { (told : Told) × TellsFault result told (F.contents faults.old) (F.contents faults.new) }
+    ensures told { (told : Remark) × TellsFault result told (F.contents faults.old) (F.contents faults.new) }
     ensures quiet { IsQuiet result → faults.new ≡ faults.old }
     ensures refused { EndsUnlooked result }
     ensures status { result ≡ status_of unlooked }
@@ -102,7 +102,7 @@ pub(crate) fn end_unlooked<F: Write>(
         Unlooked::Fault(number) => end_with(faults, Status::Fault(number)),
         Unlooked::Host(error) => {
             let status = Status::of_host(&error);
-            end_with_told(faults, status, &Told::Cause(error))
+            end_with_told(faults, status, &Remark::Cause(error))
         }
         Unlooked::Show(error) => {
             match name_sought(look, &error) {
@@ -348,7 +348,7 @@ where
     ensures { MatchResult result
         (BacksUp M.Meaning.functions macros (λ world. IsBackupMade P.Disk.state (P.does places.now) half_limit world to.now) sight)
         (WithholdsBackup M.Meaning.functions macros (are_registered M.Meaning.functions (M.functions macros))
-        (λ world error. IsUnmade P.Disk.state (P.does places.now) half_limit world to.now error) sight) }
+        (λ world error. HasNoBackup P.Disk.state (P.does places.now) half_limit world to.now error) sight) }
 {
     let store = opened(alloc, sight, macros, seed)?;
     let made = backed_up(alloc, places, &store, to);
@@ -367,7 +367,7 @@ fn backed_up<P: StorePlaces, M: MacroFunctions>(
     requires may { P.may places.now to.now }
     ensures { IfSome store.now.world (λ world. MatchResult result
         (λ _. IsBackupMade P.Disk.state (P.does places.now) half_limit world to.now)
-        (IsUnmade P.Disk.state (P.does places.now) half_limit world to.now)) }
+        (HasNoBackup P.Disk.state (P.does places.now) half_limit world to.now)) }
 {
     match store.world() {
         Some(world) => backup(alloc, places, world, to, HALF_LIMIT),

@@ -29,17 +29,17 @@ pub record HoldsWorld (world : WorldState) (disk : State) : Type 0 where
   pub durable : IsDurable disk
 
 -- a half is open, of the version that is written, and has no record
-abbrev pub IsAlone : Option Contents → Type 0
-IsAlone None = ⊥
-IsAlone (Some k) = (k.version ≡ written_version) × (k.entries ≡ [])
+abbrev pub HoldsNoRecord : Option Contents → Type 0
+HoldsNoRecord None = ⊥
+HoldsNoRecord (Some k) = (k.version ≡ written_version) × (k.entries ≡ [])
 
 -- a half is open with this snapshot, in the version that is written, and has no record
-abbrev pub IsBare : List ℕ → Option Contents → Type 0
-IsBare text None = ⊥
-IsBare text (Some k) = IsAlone (Some k) × (k.snapshot ≡ text)
+abbrev pub HoldsTextAlone : List ℕ → Option Contents → Type 0
+HoldsTextAlone text None = ⊥
+HoldsTextAlone text (Some k) = HoldsNoRecord (Some k) × (k.snapshot ≡ text)
 
 -- the disk held a log already, and nothing was written
-pub record IsLeft (old new : State) : Type 0 where
+pub record IsLogLeft (old new : State) : Type 0 where
   pub contents : Contents
   pub held : FilesMean (Some contents) old.reads
   pub rests : WritesNothing old new
@@ -61,7 +61,7 @@ pub record IsHalfUnread (number : ℕ) (old new : State) : Type 0 where
   pub whole : IsHonest old → error ≢ reading.Damaged
 
 -- its half was not started: the device failed, or the text is too long, or there was no memory
-pub record IsUnstarted (limit : ℕ) (text : List ℕ) (number : ℕ) (old new : State) : Type 0 where
+pub record IsHalfUnstarted (limit : ℕ) (text : List ℕ) (number : ℕ) (old new : State) : Type 0 where
   pub error : StartError
   pub number_is : number ≡ start_number error
   pub told : Told (is_start_fault error) old new
@@ -69,11 +69,11 @@ pub record IsUnstarted (limit : ℕ) (text : List ℕ) (number : ℕ) (old new :
 
 -- why a log was not begun with a world
 abbrev pub IsNotBegun : ℕ → WorldState → State → State → BackupError → Type 0
-IsNotBegun limit world old new errors.Exists = IsHonest old → IsLeft old new
+IsNotBegun limit world old new errors.Exists = IsHonest old → IsLogLeft old new
 IsNotBegun limit world old new errors.OutOfMemory = Unit {0}
 IsNotBegun limit world old new (errors.Unfinished name) = ⊥
 IsNotBegun limit world old new (errors.Host error) = ⊥
-IsNotBegun limit world old new (errors.Refused number) = IsBackupUnopened number old new ⊎ IsUnstarted limit (snapshot world) number old new
+IsNotBegun limit world old new (errors.Refused number) = IsBackupUnopened number old new ⊎ IsHalfUnstarted limit (snapshot world) number old new
 IsNotBegun limit world old new errors.Differs = ⊥
 
 -- ---- a backup at a place, by what was done
@@ -85,7 +85,7 @@ IsToldAs does disk why error =
 
 module _ {D : Type 0} (state : D → State) (does : Deed D → Type 0) (limit : ℕ) (world : WorldState) (dir : List ℕ) where
   -- The files were opened, and the world was written to them: of an honest disk it is what they hold then.
-  pub record IsWritten : Type 0 where
+  pub record IsCopyWritten : Type 0 where
     pub first : D
     pub last : D
     pub opens : does (opened dir Make (Ok first))
@@ -102,11 +102,11 @@ module _ {D : Type 0} (state : D → State) (does : Deed D → Type 0) (limit : 
   pub record IsCompared : Type 0 where
     pub again : D
     pub opens : does (opened dir Refuse (Ok again))
-    pub holds : IsHonest (state again) → (k : Option Contents) × FilesMean k (state again).reads × IsBare (snapshot world) k
+    pub holds : IsHonest (state again) → (k : Option Contents) × FilesMean k (state again).reads × HoldsTextAlone (snapshot world) k
 
   -- of an honest disk they hold something else
   pub record HoldsOther (again : D) : Type 0 where
-    pub other : IsHonest (state again) → (k : Option Contents) × FilesMean k (state again).reads × (IsBare (snapshot world) k → ⊥)
+    pub other : IsHonest (state again) → (k : Option Contents) × FilesMean k (state again).reads × (HoldsTextAlone (snapshot world) k → ⊥)
 
   -- the files were not opened again, or not read; or they hold something else; or there was no memory for the text
   abbrev pub IsUncompared : BackupError → Type 0
@@ -120,13 +120,13 @@ module _ {D : Type 0} (state : D → State) (does : Deed D → Type 0) (limit : 
 
   -- the new store was written, opened again and compared, and then got its name
   pub record HasItsName : Type 0 where
-    pub written : IsWritten
+    pub written : IsCopyWritten
     pub compared : IsCompared
     pub named : does (placed dir)
 
   -- the new store was not written, or not compared, or did not get its name
-  abbrev pub IsUnplaced : BackupError → Type 0
-  IsUnplaced error = IsCopyUnwritten error ⊎ (IsUncompared error ⊎ does (not_placed dir error))
+  abbrev pub IsCopyUnplaced : BackupError → Type 0
+  IsCopyUnplaced error = IsCopyUnwritten error ⊎ (IsUncompared error ⊎ does (not_placed dir error))
 
   -- The new store is at the place.
   pub record IsBackupMade : Type 0 where
@@ -134,5 +134,5 @@ module _ {D : Type 0} (state : D → State) (does : Deed D → Type 0) (limit : 
     pub ends : HasItsName
 
   -- No new store is at the place, and this is why. What was begun was taken away.
-  abbrev pub IsUnmade : BackupError → Type 0
-  IsUnmade error = does (not_begun dir error) ⊎ (does (begun dir) × does (taken_away dir) × IsUnplaced error)
+  abbrev pub HasNoBackup : BackupError → Type 0
+  HasNoBackup error = does (not_begun dir error) ⊎ (does (begun dir) × does (taken_away dir) × IsCopyUnplaced error)

@@ -32,16 +32,16 @@ module _ (wanted : Selection) (world : WorldState) where
   taken_properties x = if takes_symbol wanted x then count_by (λ p. is_wanted_name wanted.indicator p.0.1) (plist world x) else 0
 
   -- a symbol is asked for, and by this text
-  unfoldable pub is_printed : List ℕ → Symbol → Bool
-  is_printed text x = takes_symbol wanted x && is_asked wanted text (shown_symbol world.packages x) x.1
+  unfoldable pub is_printed_so : List ℕ → Symbol → Bool
+  is_printed_so text x = takes_symbol wanted x && is_asked wanted text (shown_symbol world.packages x) x.1
 
   -- what it counts for then
   unfoldable pub printed_properties : List ℕ → Symbol → ℕ
-  printed_properties text x = if is_printed text x then taken_properties x else 0
+  printed_properties text x = if is_printed_so text x then taken_properties x else 0
 
   -- one, if the symbol is printed as this text, and else none
   unfoldable pub printed_symbols : List ℕ → Symbol → ℕ
-  printed_symbols text x = if is_printed text x then 1 else 0
+  printed_symbols text x = if is_printed_so text x then 1 else 0
 
   -- How many properties are shown: those of the symbol that is asked for by its text, or those of all symbols.
   abbrev pub shown_properties : ℕ

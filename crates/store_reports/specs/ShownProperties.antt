@@ -97,18 +97,18 @@ module _ (wanted : Selection) (world : WorldState) where
   has_wanted = option_map_or (λ (name : Bor Name). finite.contains_key world.packages name.now) wanted.package true
 
   -- what is asked for is shown; of a symbol or an indicator that is asked for there is something
-  pub record IsShown (text : List ℕ) : Type 0 where
+  pub record ArePropertiesShown (text : List ℕ) : Type 0 where
     pub there : has_wanted ≡ true
     pub is : text ≡ asked_text
     pub symbol : is_some wanted.symbol ≡ true → text ≢ []
     pub indicator : is_some wanted.indicator ≡ true → text ≢ []
 
   -- why no property is shown
-  abbrev pub IsUnshown : ShowError → Type 0
-  IsUnshown showing.OutOfMemory = Unit {0}
-  IsUnshown showing.NoPackage = has_wanted ≡ false
-  IsUnshown showing.NoSymbol = (has_wanted ≡ true) × (is_some wanted.symbol ≡ true) × (asked_text ≡ [])
-  IsUnshown showing.NoIndicator = (has_wanted ≡ true) × (is_some wanted.symbol ≡ false) × (is_some wanted.indicator ≡ true) × (asked_text ≡ [])
+  abbrev pub ArePropertiesUnshown : ShowError → Type 0
+  ArePropertiesUnshown showing.OutOfMemory = Unit {0}
+  ArePropertiesUnshown showing.NoPackage = has_wanted ≡ false
+  ArePropertiesUnshown showing.NoSymbol = (has_wanted ≡ true) × (is_some wanted.symbol ≡ true) × (asked_text ≡ [])
+  ArePropertiesUnshown showing.NoIndicator = (has_wanted ≡ true) × (is_some wanted.symbol ≡ false) × (is_some wanted.indicator ≡ true) × (asked_text ≡ [])
 
 -- a text of something, or this refusal of nothing
 abbrev pub GivesSome : ShowError → List ℕ → Result (Vec ℕ) ShowError → Type 0

@@ -5,7 +5,7 @@ ghost use Rattle.gate_log.specs.Failures.{is_read_fault};
 ghost use Rattle.gate_log.specs.HalfInUse.{IsAt, Shows};
 ghost use Rattle.gate_log.specs.Layout.{Contents};
 ghost use Rattle.gate_log.specs.Log.{FilesMean};
-ghost use Rattle.store_reports.specs.Backup.{HoldsWorld, IsAlone, IsBare, IsCompared, IsBackupMade, IsNotBegun, HasItsName, IsToldAs, IsUncompared, IsUnmade, IsBackupUnopened, IsUnplaced, IsHalfUnread, IsCopyUnwritten, IsWritten};
+ghost use Rattle.store_reports.specs.Backup.{HoldsWorld, HoldsNoRecord, HoldsTextAlone, IsCompared, IsBackupMade, IsNotBegun, HasItsName, IsToldAs, IsUncompared, HasNoBackup, IsBackupUnopened, IsCopyUnplaced, IsHalfUnread, IsCopyUnwritten, IsCopyWritten};
 ghost use Rattle.store_reports.specs.Numbers.{open_number, read_number, start_number};
 ghost use Rattle.store_reports.specs.declared.backups.BackupError.TheVariants as errors;
 
@@ -167,7 +167,7 @@ pub fn backup_onto<D: Disk>(
 ///
 /// # Errors
 ///
-/// Each with its cause (`IsUnmade`); what was begun is taken away. `Exists` where something is at `dir`, and `Unfinished` where something is
+/// Each with its cause (`HasNoBackup`); what was begun is taken away. `Exists` where something is at `dir`, and `Unfinished` where something is
 /// beside it: none of that is touched. `Host` with the cause where a call of the system failed. `Refused` with its number. `Differs`
 /// where what was opened again has another text.
 pub fn backup<P: StorePlaces>(
@@ -180,7 +180,7 @@ pub fn backup<P: StorePlaces>(
     requires may { P.may places.now dir.now }
     ensures made { IfOk result
         (λ _. IsBackupMade P.Disk.state (P.does places.now) limit world.now.0 dir.now) }
-    ensures refused { IfErr result (IsUnmade P.Disk.state (P.does places.now) limit world.now.0 dir.now) }
+    ensures refused { IfErr result (HasNoBackup P.Disk.state (P.does places.now) limit world.now.0 dir.now) }
 {
     places.begin(dir)?;
     match make_and_place(alloc, places, world, dir, limit) {
@@ -202,7 +202,7 @@ fn make_and_place<P: StorePlaces>(
 ) -> Result<(), BackupError>
     requires may { P.may places.now dir.now }
     ensures { MatchResult result (λ _. HasItsName P.Disk.state (P.does places.now) limit world.now.0 dir.now)
-        (IsUnplaced P.Disk.state (P.does places.now) limit world.now.0 dir.now) }
+        (IsCopyUnplaced P.Disk.state (P.does places.now) limit world.now.0 dir.now) }
 {
     write_at(alloc, places, world, dir, limit)?;
     compare_at(alloc, places, world, dir, limit)?;
@@ -219,7 +219,7 @@ fn write_at<P: StorePlaces>(
 ) -> Result<(), BackupError>
     requires may { P.may places.now dir.now }
     ensures written { IfOk result
-        (λ _. IsWritten P.Disk.state (P.does places.now) limit world.now.0 dir.now) }
+        (λ _. IsCopyWritten P.Disk.state (P.does places.now) limit world.now.0 dir.now) }
     ensures refused { IfErr result
         (IsCopyUnwritten P.Disk.state (P.does places.now) limit world.now.0 dir.now) }
 {
@@ -278,7 +278,7 @@ fn holds_text<D: Disk + Drop>(
 ) -> Result<bool, Unread<D>>
     requires { (D.state disk).failures < 2 ^ 64 - 1 }
     ensures answer { IfOk result (λ same. IsHonest (D.state disk)
-        → (k : Option Contents) × FilesMean k (D.state disk).reads × Decides same (IsBare text.now k)) }
+        → (k : Option Contents) × FilesMean k (D.state disk).reads × Decides same (HoldsTextAlone text.now k)) }
     ensures refused { IfErr result
         (λ refused. IsBackupUnopened refused.number (D.state disk) (D.state refused.disk)
         ⊎ IsHalfUnread refused.number (D.state disk) (D.state refused.disk)) }
@@ -309,7 +309,7 @@ fn is_bare<D: Disk>(alloc: Global, log: &mut Halves<D>, text: &[u8]) -> Result<b
     ensures tells { Tells is_read_fault (D.state log.old.disk) (D.state log.new.disk) result }
     ensures answer { (k : Option Contents) → IsHonest (D.state log.old.disk)
         → IsAt log.old.used (D.state log.old.disk) k
-        → MatchResult result (λ same. Decides same (IsBare text.now k)) (λ e. e ≢ ReadError.Damaged) }
+        → MatchResult result (λ same. Decides same (HoldsTextAlone text.now k)) (λ e. e ≢ ReadError.Damaged) }
 {
     if !is_alone(log) {
         return Ok(false);
@@ -323,7 +323,7 @@ fn is_bare<D: Disk>(alloc: Global, log: &mut Halves<D>, text: &[u8]) -> Result<b
 // Whether a log has a half in use, of the version that is written, with no record.
 fn is_alone<D: Disk>(log: &Halves<D>) -> bool
     ensures alone { (k : Option Contents) (image : Image) → Shows log.now.used k image
-        → Decides result (IsAlone k) }
+        → Decides result (HoldsNoRecord k) }
     ensures in_use { IsTrue result → IsSome log.now.used }
 {
     if !log.is_started() {

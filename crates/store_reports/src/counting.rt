@@ -209,7 +209,7 @@ fn tally_named(
 }
 
 // Of the symbol of this home and this name, if it is the one that is asked for.
-#[tactic(auto, unfolding(crate::specs::PropertyCounts::printed_properties, crate::specs::PropertyCounts::printed_symbols, crate::specs::PropertyCounts::is_printed))]
+#[tactic(auto, unfolding(crate::specs::PropertyCounts::printed_properties, crate::specs::PropertyCounts::printed_symbols, crate::specs::PropertyCounts::is_printed_so))]
 fn tally_symbol(
     alloc: Global,
     world: &World,

@@ -5,7 +5,7 @@ ghost use Rattle.std.specs.List.{flat_map};
 ghost use Rattle.lisp_object.specs.Datum.{is_proper};
 ghost use Rattle.plist_state.specs.Readers.{borrowed_symbols};
 ghost use Rattle.plist_state.specs.Views.{property_of};
-ghost use Rattle.store_reports.specs.ShownProperties.{asked_text, has_wanted, property_text, shown_list, shown_property, shown_symbol, IsShown, GivesSome, IsUnshown};
+ghost use Rattle.store_reports.specs.ShownProperties.{asked_text, has_wanted, property_text, shown_list, shown_property, shown_symbol, ArePropertiesShown, GivesSome, ArePropertiesUnshown};
 ghost use Rattle.store_reports.specs.declared.showing.ShowError.TheVariants as showing;
 
 use crate::escaped::push_escaped;
@@ -53,8 +53,8 @@ impl From<AllocError> for ShowError {
 /// `NoPackage` where a package is asked for that there is not; `NoSymbol` where a symbol is; `NoIndicator` where an indicator is asked for
 /// that none of the properties has. Out of memory.
 pub fn show(alloc: Global, world: &World, selection: &Selection<'_>) -> Result<Vec<u8>, ShowError>
-    ensures shown { IfOk result (λ text. IsShown selection.now world.now.0 text.items) }
-    ensures refused { IfErr result (IsUnshown selection.now world.now.0) }
+    ensures shown { IfOk result (λ text. ArePropertiesShown selection.now world.now.0 text.items) }
+    ensures refused { IfErr result (ArePropertiesUnshown selection.now world.now.0) }
 {
     if !has_wanted(world, selection) {
         return Err(ShowError::NoPackage);

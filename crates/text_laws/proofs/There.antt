@@ -15,7 +15,7 @@ use Rattle.package_table.specs.Symbols.{are_there, symbols}
 use Rattle.package_table.specs.Table as packages
 use Rattle.package_table.specs.Table.{Name, Table, Present, IsPresent, common_lisp, common_lisp_names, entry_at}
 use Rattle.package_table.proofs.FirstNames.{lisp_present}
-use Rattle.plist_state.specs.Sound.{IsKnown}
+use Rattle.plist_state.specs.Sound.{IsSymbolStorable}
 
 module _ (t : Table) where
   -- a symbol that is present in its home is one
@@ -34,7 +34,7 @@ module _ (t : Table) where
       list_all-append (λ s. is_symbol t s.0 s.1) (symbols a) (symbols b)
       ∙ and_from _ _ first second
 
-  pub value_there : (x : Object) → AllAtoms (IsKnown t) x → are_there t x ≡ true
+  pub value_there : (x : Object) → AllAtoms (IsSymbolStorable t) x → are_there t x ≡ true
   value_there (symbol home name) known = there_alone home name known
   value_there (pair a b) known = pair_there a b (value_there a known.0) (value_there b known.1)
   value_there (vector xs) known = value_there xs known

@@ -10,7 +10,7 @@ use Rattle.lisp_object.specs.Object as object
 use Rattle.lisp_object.specs.Object.{Object, integer, rational, character, text, symbol, uninterned, pair, vector, nil, is_nil, is_proper_list, list_of, AllAtoms, object_depth, depth_along}
 use Rattle.package_table.specs.Table as packages
 use Rattle.package_table.proofs.Names.{same_some, none_some}
-use Rattle.plist_state.specs.Sound.{IsKnown, IsValue}
+use Rattle.plist_state.specs.Sound.{IsSymbolStorable, IsValue}
 use Rattle.lisp_operators.specs.Kinds.{a_character}
 use Rattle.lisp_operators.proofs.Storable.{AreValues, nil_value, text_value}
 use Rattle.value_functions.specs.FunctionAnswers.{FunctionValue, then_value}
@@ -30,7 +30,7 @@ module _ (u : packages.Table) where
   -- sound, of any depth, and its symbols are there
   pub record IsMadeOf (x : Object) : Type 0 where
     pub object : object.IsSound x
-    pub symbols : AllAtoms (IsKnown u) x
+    pub symbols : AllAtoms (IsSymbolStorable u) x
 
   -- a value that fits into a list of depth at most 100
   pub record IsItem (x : Object) : Type 0 where

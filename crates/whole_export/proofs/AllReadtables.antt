@@ -19,7 +19,7 @@ use Rattle.package_table.specs.Table.{Name, keyword, name_cmp}
 use Rattle.user_macros.specs.Functions.{Functions}
 use Rattle.user_macros.specs.Registry.{is_covered}
 use Rattle.plist_state.specs.Readers.{readtable_names}
-use Rattle.plist_state.specs.Sound.{IsNamed, IsReadtables, IsSymbol}
+use Rattle.plist_state.specs.Sound.{HasKeywordFunctions, IsReadtables, IsSymbol}
 use Rattle.plist_state.specs.State.{Readtables, WorldState, first_readtables, standard_name, user_name}
 use Rattle.plist_state.proofs.Orders.{name_exact, name_tied, name_total, one_name}
 use Rattle.snapshot_text.specs.BuiltWorlds.{CanBeMade}
@@ -168,7 +168,7 @@ module _ (s : WorldState) (are : IsReadtables s.packages s.readtables) where
           | false ↦ λ other made.
               let can : CanBeMade m n = record { other = other; standard = has; room = room_for m n (table_named s n) few } in
               table_made functions first whole (with_tables m) (subst packages.AreSoundPackages (sym same) sound) (record { current = reads.current; base = reads.base; user = reads.user }) n
-              (subst (λ p. IsSymbol p (keyword, n)) (sym same) (are.names n there)) can (table_named s n) (subst (λ p. IsNamed p (table_named s n)) (sym same) (are.each n (table_named s n) (table_is n there))) covered rest
+              (subst (λ p. IsSymbol p (keyword, n)) (sym same) (are.names n there)) can (table_named s n) (subst (λ p. HasKeywordFunctions p (table_named s n)) (sym same) (are.each n (table_named s n) (table_is n there))) covered rest
               (subst (λ o. Makes functions first whole (with_tables m) (10 ∷ option_map_or (table_lines n) o [] ++ rest)) (table_is n there) made)
         ] refl made
 

@@ -15,7 +15,7 @@ use Rattle.form_reader.proofs.Objects.{takes_is}
 use Rattle.lisp_reading.specs.declared.found.Found.{Found}
 use Rattle.lisp_reading.specs.declared.found.Found.TheVariants.{Nothing as nothing}
 use Rattle.lisp_reading.specs.Plans.{Read, run, scans}
-use Rattle.lisp_reading.specs.Reading.{Outcome, alone, empty, inner, outcome, reads, reads_in, stands_alone, token_found}
+use Rattle.lisp_reading.specs.Reading.{ReadingResult, alone, empty, inner, outcome, reads, reads_in, stands_alone, token_found}
 use Rattle.lisp_reading.specs.Setting.{Setting}
 use Rattle.lisp_reading.proofs.Forms.{first, the_end_there}
 use Rattle.session_words.specs.declared.mode.Mode.TheVariants.{Current}
@@ -46,7 +46,7 @@ module _ (setting : Setting) where
   blank_there : (entry_at setting.table 10).syntax ≡ Whitespace → 0 < setting.limits.text → reads setting (10 ∷ []) ≡ empty
   unfolding reads reads_in run
   blank_there blank room =
-      let begins : Read Found → Outcome = outcome setting.table 0 (λ next cs. reads_in setting 1 next cs) in
+      let begins : Read Found → ReadingResult = outcome setting.table 0 (λ next cs. reads_in setting 1 next cs) in
       let found : first setting (10 ∷ []) ≡ Ok (nothing false, 1, [])
       = takes_is setting.table setting.limits (scans false setting.limits.token (token_found setting)) (λ c. stands_alone (entry_at setting.table c).syntax)
       (λ c. alone setting (setting.limits.nesting - setting.limits.nesting) (inner setting setting.limits.nesting) c (entry_at setting.table c).syntax) 0 10 [] room (ap stands_alone blank)

@@ -15,7 +15,7 @@ use Rattle.package_table.specs.Table as packages
 use Rattle.package_table.specs.Table.{Name, keyword}
 use Rattle.user_macros.specs.Functions.{Functions}
 use Rattle.user_macros.specs.Registry.{is_covered}
-use Rattle.plist_state.specs.Sound.{IsNamed, IsSymbol}
+use Rattle.plist_state.specs.Sound.{HasKeywordFunctions, IsSymbol}
 use Rattle.plist_state.specs.State.{WorldState}
 use Rattle.snapshot_text.specs.BuiltWorlds.{CanBeMade, IsNamedEntry}
 use Rattle.snapshot_text.proofs.Filling.{filled, put_all, updates}
@@ -43,7 +43,7 @@ all_entries u many =
 
 module _ (functions : Functions) (first : WorldState) (whole : List ℕ) (base : WorldState) (sound : packages.AreSoundPackages base.packages) (reads : ReadsStandard base)
     (n : Name) (there : IsSymbol base.packages (keyword, n)) (can : CanBeMade base.readtables n)
-    (u : Table) (named : IsNamed base.packages u) (covered : list_all (is_covered functions.names) (functions_of u) ≡ true) where
+    (u : Table) (named : HasKeywordFunctions base.packages u) (covered : list_all (is_covered functions.names) (functions_of u) ≡ true) where
   abbrev Made : Table → List ℕ → Type 0
   Made = MadeTable functions first whole base sound reads n there can
 

@@ -13,7 +13,7 @@ use Rattle.session_words.specs.declared.mode.Mode.{Mode}
 use Rattle.session_words.specs.declared.mode.Mode.TheVariants.{Current}
 use Rattle.sessions.specs.declared.ending.Ended.{Ended}
 use Rattle.sessions.specs.declared.ending.Ended.TheVariants.{End, Unreadable, Unaccepted, Store}
-use Rattle.session_words.specs.declared.wanted.Wanted.{Wanted}
+use Rattle.session_words.specs.declared.wanted.SessionOptions.{SessionOptions}
 use Rattle.prevalence_store.specs.meaning.Acceptance.{read_in}
 use Rattle.sessions.specs.Answers.{Progress, after_forms, one_form, one_form_more, onward}
 use Rattle.store_laws.specs.Outcomes.{EndsAtRefusal, HasForms, IsEndBy}
@@ -62,7 +62,7 @@ module _ (functions : Functions) (s w : WorldState) (made : Makes functions init
   has_forms : HasForms functions initial Current (forms s World) made.count made.progress
   has_forms = record { far_is = made.given; no_more = ap (one_form functions made.progress.world Current made.progress.rest) at_end }
 
-  module _ {D R : Type 0} (state : D → State) (wanted : Wanted) (mode : wanted.mode ≡ Current) (old new : StoreView D R) (has held written : Option (List ℕ)) where
+  module _ {D R : Type 0} (state : D → State) (wanted : SessionOptions) (mode : wanted.mode ≡ Current) (old new : StoreView D R) (has held written : Option (List ℕ)) where
     abbrev text : List ℕ
     text = forms s World
 

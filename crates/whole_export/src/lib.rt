@@ -27,7 +27,7 @@ ghost use Rattle.sessions.specs.Serve.{ServesWanted};
 ghost use Rattle.prevalence_store.specs.calls.Store.{StoreView};
 ghost use Rattle.session_words.specs.declared.mode.Mode.TheVariants.{Current};
 ghost use Rattle.sessions.specs.declared.ending.Ended.{Ended};
-ghost use Rattle.session_words.specs.declared.wanted.Wanted.{Wanted};
+ghost use Rattle.session_words.specs.declared.wanted.SessionOptions.{SessionOptions};
 ghost use Rattle.prevalence_store.specs.meaning.Acceptance.{read_in};
 ghost use Rattle.snapshot_text.specs.NamedFunctions.{are_covered};
 ghost use Rattle.user_macros.specs.Functions.{Functions};
@@ -87,13 +87,13 @@ pub fn export_makes_a_world()
 pub fn export_is_taken<D: Disk, R>()
     ensures world { (functions : Functions) (s : WorldState)
         → IsSoundWorldState s → are_covered functions.names s ≡ true → left_out_lines s ≡ []
-        → (wanted : Wanted) (old new : StoreView D R)
+        → (wanted : SessionOptions) (old new : StoreView D R)
         → (has held written : Option (List ℕ)) (ended : Ended) → wanted.mode ≡ Current
         → ServesWanted functions D.state wanted old new initial (Some (forms s World)) has held written ended
         → EndsWith new.world s ended }
     ensures without { (functions : Functions) (s : WorldState)
         → IsSoundWorldState s → are_covered functions.names s ≡ true
-        → (wanted : Wanted) (old new : StoreView D R)
+        → (wanted : SessionOptions) (old new : StoreView D R)
         → (has held written : Option (List ℕ)) (ended : Ended) → wanted.mode ≡ Current
         → ServesWanted functions D.state wanted old new initial (Some (forms s World)) has held written ended
         → (w : WorldState) × IsWithoutLeftOut s w × EndsWith new.world w ended }

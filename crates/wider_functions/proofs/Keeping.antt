@@ -25,7 +25,7 @@ use Rattle.user_macros.proofs.Covered.{weaker}
 use Rattle.plist_state.specs.State.{WorldState}
 use Rattle.plist_state.specs.Readers.{readtable_names}
 use Rattle.lisp_operators.specs.Evaluation.{Done, Evaluation}
-use Rattle.lisp_reading.specs.Reading.{Outcome as Reading, form, empty, refused}
+use Rattle.lisp_reading.specs.Reading.{ReadingResult as Reading, form, empty, refused}
 use Rattle.lisp_reading.proofs.Widening.{form_widens}
 use Rattle.evaluator.proofs.Widening.{standard_among}
 use Rattle.evaluator.proofs.EarlierOperators.{before_deciding_among, before_places_among}

@@ -25,7 +25,7 @@ use Rattle.lisp_reading.specs.declared.way.Way.TheVariants.{Nothing, Next, List 
 use Rattle.lisp_reading.specs.InvokedCalls.{InvokedCall, caller}
 use Rattle.lisp_reading.specs.Plans.{Plan, gives, refuses, takes, scans, then_plan, next_byte, character, loop_in, loop, Fault, Read, within, limited_token, token_at_front, run}
 use Rattle.lisp_reading.specs.Setting.{Setting, setting_of, macro_call, user_way, way_in, function_of}
-use Rattle.lisp_reading.specs.Reading.{text_to, line_after, block_after, number_after, Piece, item, dot, closed, is_whitespace, without_space, piece_of, or_closed, next_item_turn, next_item, Items, items_step, items_turn, items_after, undotted_plan, after_tail, after_dot, list_end, one_piece, plan_after_answer, completed_call, opened_plan, gathering_plan, gathered_by, call_plan, sub_called, sub_there, dispatch_plan, macro_called, stands_alone, alone, token_found, attempt_by, inner, attempt, Outcome, form, outcome, reads_in, reads}
+use Rattle.lisp_reading.specs.Reading.{text_to, line_after, block_after, number_after, Piece, item, dot, closed, is_whitespace, without_space, piece_of, or_closed, next_item_turn, next_item, Items, items_step, items_turn, items_after, undotted_plan, after_tail, after_dot, list_end, one_piece, plan_after_answer, completed_call, opened_plan, gathering_plan, gathered_by, call_plan, sub_called, sub_there, dispatch_plan, macro_called, stands_alone, alone, token_found, attempt_by, inner, attempt, ReadingResult, form, outcome, reads_in, reads}
 use Rattle.lisp_reading.proofs.Steps.{and_then, run_then}
 use Rattle.wider_functions.specs.Among.{AreAmong}
 
@@ -50,7 +50,7 @@ byte_too true true at r s r2 s2 h g = tt
 byte_too true false at r s r2 s2 h g = h
 byte_too false full at r s r2 s2 h g = g
 
-outcome_too : (table : Table) (x : Object) (from «end» next : ℕ) (again again2 : ℕ → List ℕ → Outcome) (start : ℕ) (r r2 : Read Found)
+outcome_too : (table : Table) (x : Object) (from «end» next : ℕ) (again again2 : ℕ → List ℕ → ReadingResult) (start : ℕ) (r r2 : Read Found)
     → ((at : ℕ) (cs : List ℕ) → again at cs ≡ form x from «end» next → again2 at cs ≡ form x from «end» next) → GivesToo r r2
     → outcome table start again r ≡ form x from «end» next → outcome table start again2 r2 ≡ form x from «end» next
 outcome_too table x from «end» next again again2 start (Ok (nothing token, at, cs)) r2 all h e = ap (outcome table start again2) h ∙ all (start + at) cs e

@@ -8,7 +8,7 @@ use Rattle.package_table.specs.Table.{Table, common_lisp_user}
 use Rattle.user_macros.specs.Functions.{no_functions}
 use Rattle.canon_printer.specs.Printed.{printed}
 use Rattle.lisp_reading.specs.Setting.{Setting, setting_of}
-use Rattle.lisp_reading.specs.Reading.{Outcome, form, reads}
+use Rattle.lisp_reading.specs.Reading.{ReadingResult, form, reads}
 use Rattle.plist_state.specs.Properties.{Symbol}
 use Rattle.plist_state.specs.State.{WorldState}
 use Rattle.plist_state.specs.Changes.{plist}
@@ -27,7 +27,7 @@ form_setting t =
     setting_of (record { text = 1048576; token = 4096; nesting = 100 }) readtable.standard 10 t common_lisp_user no_functions
 
 -- whether a form was read that ends here
-abbrev pub ends_at : Outcome → ℕ → Bool
+abbrev pub ends_at : ReadingResult → ℕ → Bool
 ends_at (form x start end next) n = end == n
 ends_at _ n = false
 

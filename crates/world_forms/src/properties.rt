@@ -4,7 +4,7 @@ ghost use Rattle.std.specs.Prelude.{◌≡◌, ◌++◌, true, codes, IfOk, OnOk
 ghost use Rattle.std.specs.List.{flat_map};
 ghost use Rattle.lisp_object.specs.Datum.{object_of, is_proper};
 ghost use Rattle.readtable_core.specs.Tables.{standard};
-ghost use Rattle.lisp_reading.specs.Reading.{Outcome, reads};
+ghost use Rattle.lisp_reading.specs.Reading.{ReadingResult, reads};
 ghost use Rattle.form_reader.specs.Reader.{IsOutcome};
 ghost use Rattle.plist_state.specs.Readers.{borrowed_symbol, borrowed_symbols};
 ghost use Rattle.plist_state.specs.Views.{property_of};
@@ -83,7 +83,7 @@ fn read_form(
 
 /// Whether it is a form that ends at this place.
 fn ends_at(read: &ReadOutcome, len: usize) -> bool
-    ensures { (outcome : Outcome) → IsOutcome read.now outcome → result ≡ ends_at outcome len }
+    ensures { (outcome : ReadingResult) → IsOutcome read.now outcome → result ≡ ends_at outcome len }
 {
     match read {
         ReadOutcome::Form { end, .. } => *end == len,

@@ -27,8 +27,8 @@ use Rattle.canon_printer.specs.Names.{with_backslashes, is_escaped_in_bars, prin
 use Rattle.canon_printer.specs.Written.{printed_ratio}
 use Rattle.canon_printer.specs.Printed.{is_accessible, printed}
 use Rattle.canon_printer.proofs.Resolved.{accessible_resolved, home_there, external_resolved, internal_resolved}
-use Rattle.lisp_reading.specs.declared.told.Told.{Told}
-use Rattle.lisp_reading.specs.declared.told.Told.TheVariants.{Object as told_object}
+use Rattle.lisp_reading.specs.declared.told.ResolvedToken.{ResolvedToken}
+use Rattle.lisp_reading.specs.declared.told.ResolvedToken.TheVariants.{Object as told_object}
 use Rattle.lisp_reading.specs.Naming.{symbol_at, symbol_in, told_meaning}
 use Rattle.world_text.proofs.Marked.{plain_marks, name_marks, quoted_marks, printed_marks}
 use Rattle.world_text.proofs.Characters.{in_number, is_kept, digit_kept, in_number_below}
@@ -50,7 +50,7 @@ barred_text own ascii = record { spelled = barred_spelled own ascii; starts = re
 
 module _ (t : Table) (current : Name) where
   -- what these marks mean, in capital letters
-  abbrev pub meant : List Mark → Result Told ℕ
+  abbrev pub meant : List Mark → Result ResolvedToken ℕ
   meant marks = told_meaning t current (meaning_of 10 (in_upper_case marks))
 
   -- the text spells the marks, of which there are some, and they mean the object

@@ -26,7 +26,7 @@ use Rattle.plist_state.specs.State.{WorldState}
 use Rattle.plist_state.specs.Changes.{plist}
 use Rattle.plist_state.specs.Readers.{symbols_with_properties}
 use Rattle.plist_state.specs.Sound as state
-use Rattle.plist_state.specs.Sound.{IsKnown, IsSymbol, IsValue, IsPlist}
+use Rattle.plist_state.specs.Sound.{IsSymbolStorable, IsSymbol, IsValue, IsPlist}
 use Rattle.plist_state.proofs.Orders.{symbol_tied}
 use Rattle.world_text.specs.Tokens.{token_length, AreTokensWithin, ends_with_token}
 use Rattle.world_text.specs.Snapshot.{symbol_object, plist_object, properties_object}
@@ -38,9 +38,9 @@ use Rattle.user_macros.specs.Functions.{no_functions}
 -- an object that is read back with these packages
 pub record IsGood (t : Table) (x : Object) : Type 0 where
   pub sound : IsSound x
-  pub known : AllAtoms (IsKnown t) x
+  pub known : AllAtoms (IsSymbolStorable t) x
 
-known_symbol : (t : Table) (x : Object) → IsKnown t x → OfSymbol (λ home name. packages.IsPresent t home name home) x
+known_symbol : (t : Table) (x : Object) → IsSymbolStorable t x → OfSymbol (λ home name. packages.IsPresent t home name home) x
 known_symbol t (o.symbol home name) k = k
 known_symbol t (o.integer n) k = tt
 known_symbol t (o.rational n d) k = tt
@@ -51,7 +51,7 @@ known_symbol t (o.pair a b) k = tt
 known_symbol t (o.vector xs) k = tt
 
 pub good_symbols : (t : Table) (x : Object) → IsGood t x → HasAllSymbols t x
-good_symbols t x good = atoms_weaker (IsKnown t) (OfSymbol (λ home name. packages.IsPresent t home name home)) (known_symbol t) x good.known
+good_symbols t x good = atoms_weaker (IsSymbolStorable t) (OfSymbol (λ home name. packages.IsPresent t home name home)) (known_symbol t) x good.known
 
 pub plain_good : (t : Table) → packages.AreSoundPackages t → (x : Object) → IsPlain x → IsGood t x
 plain_good t sound x p = record { sound = plain_sound x p; known = plain_known t sound x p }

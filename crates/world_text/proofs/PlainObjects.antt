@@ -15,7 +15,7 @@ use Rattle.package_table.proofs.Names.{name_total}
 use Rattle.package_table.proofs.Found.{found_is}
 use Rattle.canon_printer.specs.Printed.{printed, printed_prefix, is_accessible, has_home}
 use Rattle.canon_printer.specs.Written.{written, written_rest}
-use Rattle.plist_state.specs.Sound.{IsKnown}
+use Rattle.plist_state.specs.Sound.{IsSymbolStorable}
 use Rattle.canon_printer.proofs.Resolved.{nil_present}
 use Rattle.world_text.specs.Snapshot.{texts, imported_name}
 use Rattle.world_text.proofs.Ascii.{are_ascii_names, are_ascii_imports, is_ascii_name}
@@ -37,7 +37,7 @@ plain_sound (o.character c) p = absurd p
 plain_sound (o.uninterned name) p = absurd p
 plain_sound (o.vector xs) p = absurd p
 
-pub plain_known : (t : Table) → packages.AreSoundPackages t → (x : Object) → IsPlain x → AllAtoms (IsKnown t) x
+pub plain_known : (t : Table) → packages.AreSoundPackages t → (x : Object) → IsPlain x → AllAtoms (IsSymbolStorable t) x
 plain_known t sound (o.integer n) p = tt
 plain_known t sound (o.text bytes) p = tt
 plain_known t sound (o.symbol home name) p =

@@ -25,7 +25,7 @@ use Rattle.plist_state.specs.State.{WorldState, standard_name}
 use Rattle.plist_state.specs.Changes.{plist}
 use Rattle.plist_state.specs.Readers.{readtable_names, symbols_with_properties}
 use Rattle.plist_state.specs.Sound as state
-use Rattle.plist_state.specs.Sound.{IsKnown, IsValue}
+use Rattle.plist_state.specs.Sound.{IsSymbolStorable, IsValue}
 use Rattle.world_text.specs.Tokens.{token_length, AreTokensWithin}
 use Rattle.world_text.specs.Snapshot.{texts, made_names, shown_names, imported_name, package_object, packages_object, symbol_object, plist_object, properties_object, number, dispatch_object, dispatch_objects, entry_object, entry_objects, readtable_object, table_named, readtables_object, tables_object, tables_object_1, tables_object_in}
 use Rattle.world_text.proofs.Versions.{third_by}
@@ -65,7 +65,7 @@ module _ (t : Table) (current : Name) (sound : packages.AreSoundPackages t) wher
       let name_short : length name ≤ 4096 = (sound.within.symbol_names home name home there).short in
       omega (arith, prefix_short (is_accessible t current home name) (bytes_eq home keyword) (is_symbol t home name && is_external t home name) (length home))
 
-  pub tokens_short : (x : Object) → IsSound x → AllAtoms (IsKnown t) x → AreTokensWithin t current 8192 x
+  pub tokens_short : (x : Object) → IsSound x → AllAtoms (IsSymbolStorable t) x → AreTokensWithin t current 8192 x
   tokens_short (o.pair a b) s k = (tokens_short a s.0 k.0, tokens_short b s.1 k.1)
   tokens_short (o.vector xs) s k = tokens_short xs s.0 k
   tokens_short (o.integer n) s k = omega (arith, signed_short n s)

@@ -12,13 +12,13 @@ ghost use Rattle.evaluator.specs.ArgumentValues.{first_value, conditional, asser
 ghost use Rattle.evaluator.specs.Operations.{HasRightCount};
 ghost use Rattle.evaluator.specs.StandIns.{seen};
 ghost use Rattle.evaluator.specs.declared.operation.Operation.TheVariants.{Decides};
-ghost use Rattle.evaluator.specs.declared.wanted.Wanted.TheVariants.{Truth};
+ghost use Rattle.evaluator.specs.declared.wanted.ValueUse.TheVariants.{Truth};
 
 use crate::clauses::{are_clauses, clause};
 use crate::control::{after, nothing};
 use crate::decision::Decision;
 use crate::evaluation::{evaluate_for, sequence};
-use crate::wanted::{Wanted, seen, wanted_of_test};
+use crate::wanted::{ValueUse, seen, wanted_of_test};
 use lisp_object::Datum;
 use lisp_object::refusal::{ARGUMENT_KIND, ASSERTION_FAILED};
 use lisp_operators::EvaluationError::Refused;
@@ -36,7 +36,7 @@ pub(crate) fn decided(
     names: &[FnName],
     decision: Decision,
     items: &[Datum],
-    wanted: Wanted,
+    wanted: ValueUse,
 ) -> Result<Evaluated, EvaluationError>
     requires counted { HasRightCount (Decides decision) (length items.now) }
     requires names { AreFunctionNames names.now }
@@ -54,7 +54,7 @@ pub(crate) fn decided(
         Decision::Unless => guarded(alloc, world, names, items, wanted, false),
         Decision::Prog1 => first_kept(alloc, world, names, items, wanted),
         Decision::Assert => {
-            let test = evaluate_for(alloc, world, names, &items[1], Wanted::Truth);
+            let test = evaluate_for(alloc, world, names, &items[1], ValueUse::Truth);
             seen(asserted(alloc, test), wanted)
         }
     }
@@ -68,7 +68,7 @@ pub(crate) fn chosen(
     world: &mut World,
     names: &[FnName],
     items: &[Datum],
-    wanted: Wanted,
+    wanted: ValueUse,
 ) -> Result<Evaluated, EvaluationError>
     requires counted { 3 ≤ length items.now }
     requires names { AreFunctionNames names.now }
@@ -78,7 +78,7 @@ pub(crate) fn chosen(
     ensures proper { IfOk result IsProperValue }
     ensures marked { world.new.1 ≡ world.old.1 }
 {
-    let test = match evaluate_for(alloc, world, names, &items[1], Wanted::Truth) {
+    let test = match evaluate_for(alloc, world, names, &items[1], ValueUse::Truth) {
         Ok(test) => test,
         Err(error) => return Err(error),
     };
@@ -104,7 +104,7 @@ fn sought(
     world: &mut World,
     names: &[FnName],
     items: &[Datum],
-    wanted: Wanted,
+    wanted: ValueUse,
     truth: bool,
 ) -> Result<Evaluated, EvaluationError>
     requires counted { 1 ≤ length items.now }
@@ -144,7 +144,7 @@ fn selected(
     world: &mut World,
     names: &[FnName],
     items: &[Datum],
-    wanted: Wanted,
+    wanted: ValueUse,
 ) -> Result<Evaluated, EvaluationError>
     requires counted { 1 ≤ length items.now }
     requires names { AreFunctionNames names.now }
@@ -186,7 +186,7 @@ fn guarded(
     world: &mut World,
     names: &[FnName],
     items: &[Datum],
-    wanted: Wanted,
+    wanted: ValueUse,
     truth: bool,
 ) -> Result<Evaluated, EvaluationError>
     requires counted { 2 ≤ length items.now }
@@ -197,7 +197,7 @@ fn guarded(
     ensures proper { IfOk result IsProperValue }
     ensures marked { world.new.1 ≡ world.old.1 }
 {
-    let guard = match evaluate_for(alloc, world, names, &items[1], Wanted::Truth) {
+    let guard = match evaluate_for(alloc, world, names, &items[1], ValueUse::Truth) {
         Ok(guard) => guard,
         Err(error) => return Err(error),
     };
@@ -217,7 +217,7 @@ fn first_kept(
     world: &mut World,
     names: &[FnName],
     items: &[Datum],
-    wanted: Wanted,
+    wanted: ValueUse,
 ) -> Result<Evaluated, EvaluationError>
     requires counted { 2 ≤ length items.now }
     requires names { AreFunctionNames names.now }
@@ -231,7 +231,7 @@ fn first_kept(
         Ok(first) => first,
         Err(error) => return Err(error),
     };
-    match sequence(alloc, world, names, arguments(items), Wanted::Nothing) {
+    match sequence(alloc, world, names, arguments(items), ValueUse::Nothing) {
         Ok(others) => Ok(Evaluated {
             value: first.value,
             wrote: either(first.wrote, others.wrote),

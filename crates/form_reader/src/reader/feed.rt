@@ -5,7 +5,7 @@ ghost use Rattle.package_table.specs.Table.{IsPackage};
 ghost use Rattle.lisp_reading.specs.Setting.{setting_of};
 ghost use Rattle.lisp_reading.specs.Reading.{is_whitespace};
 ghost use Rattle.form_reader.specs.declared.reader.Advance.TheVariants.{More as AdvanceMore, Refused as AdvanceRefused};
-ghost use Rattle.form_reader.specs.Reader.{limits_of, fed, begun, RanOutOfMemory, HasRefused, IsBetween, LeavesBetween, IsAfterBytes, HasBegun, StepsBegun, IsSoundStep, FeedsReader, AdvancesFed, is_more};
+ghost use Rattle.form_reader.specs.Reader.{limits_of, fed, begun, RanOutOfMemory, HasRefused, IsBetweenForms, LeavesBetween, IsAfterBytes, HasBegunAfter, StepsBegun, IsSoundStep, FeedsReader, AdvancesFed, is_more};
 
 use crate::reader::{Advance, FormReader};
 use package_table::Packages;
@@ -72,17 +72,17 @@ impl FormReader {
         ensures spent { RanOutOfMemory self.old → IsErr result }
 
         // Between forms whitespace leaves the reader there.
-        ensures between { IsBetween self.old → list_all (is_whitespace readtable.now) bytes.now ≡ true
-            → 0 < (limits_of self.old).text → (result ≡ Ok (length bytes.now, AdvanceMore)) × IsBetween self.new }
+        ensures between { IsBetweenForms self.old → list_all (is_whitespace readtable.now) bytes.now ≡ true
+            → 0 < (limits_of self.old).text → (result ≡ Ok (length bytes.now, AdvanceMore)) × IsBetweenForms self.new }
         ensures between_forms { IfOk result (λ got. LeavesBetween self.new got.1) }
         ensures nothing_open { IfOk result (λ got. got.1 ≡ AdvanceMore
-            → begun self.new ≡ fed self.new → IsBetween self.new) }
+            → begun self.new ≡ fed self.new → IsBetweenForms self.new) }
 
         // If it knew where the form began that is open, it still does.
         ensures has_begun { (before : List ℕ) → IsAfterBytes
             (setting_of (limits_of self.old) readtable.now base packages.now.0 current.now
             (R.functions macros.now))
-            self.old before → HasBegun
+            self.old before → HasBegunAfter
             (setting_of (limits_of self.old) readtable.now base packages.now.0 current.now
             (R.functions macros.now))
             self.old before → IfOk result (λ got. StepsBegun

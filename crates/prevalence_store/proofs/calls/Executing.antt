@@ -11,7 +11,7 @@ use Rattle.form_reader.specs.declared.reader.ReadOutcome.{ReadOutcome}
 use Rattle.form_reader.specs.declared.reader.ReadOutcome.TheVariants.{Form as ReadForm}
 use Rattle.form_reader.specs.Reader.{IsOutcome}
 use Rattle.lisp_object.specs.declared.refusal.TheConstants.{NO_MEMORY, TEXT_LEFT_OVER}
-use Rattle.lisp_reading.specs.Reading.{Outcome as Reading, form}
+use Rattle.lisp_reading.specs.Reading.{ReadingResult as Reading, form}
 use Rattle.lisp_reading.proofs.Forms.{form_framed}
 use Rattle.plist_state.specs.State.{WorldState}
 use Rattle.session_words.specs.declared.mode.Mode.{Mode}

@@ -22,7 +22,7 @@ use Rattle.user_macros.specs.Registry.{is_covered}
 use Rattle.user_macros.proofs.Covered.{standard_covered}
 use Rattle.lisp_operators.specs.Readtables.{AreCovered}
 use Rattle.lisp_operators.specs.Evaluation.{Evaluation}
-use Rattle.lisp_reading.specs.Reading.{Outcome as Reading, form, empty, refused}
+use Rattle.lisp_reading.specs.Reading.{ReadingResult as Reading, form, empty, refused}
 use Rattle.snapshot_text.specs.NamedFunctions.{are_covered}
 use Rattle.world_text.specs.Snapshot.{table_named}
 use Rattle.world_text.proofs.Ascii.{keys_pass}

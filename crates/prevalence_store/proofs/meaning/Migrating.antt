@@ -8,7 +8,7 @@ use Rattle.gate_log.specs.Layout.{Contents, LogRecord, form_limit}
 use Rattle.lisp_object.specs.Object.{Object}
 use Rattle.lisp_object.specs.declared.refusal.TheConstants.{TEXT_LEFT_OVER}
 use Rattle.lisp_operators.specs.Evaluation.{Evaluation}
-use Rattle.lisp_reading.specs.Reading.{Outcome as Reading, form, empty, refused}
+use Rattle.lisp_reading.specs.Reading.{ReadingResult as Reading, form, empty, refused}
 use Rattle.lisp_reading.proofs.Widening.{form_widens}
 use Rattle.evaluator.specs.Operators.{standard_operator_of}
 use Rattle.form_eval.specs.Acceptance.{accept_over}

@@ -30,7 +30,7 @@ use Rattle.evaluator.specs.Operators.{Operator, OperatorTable, pazturrok}
 use Rattle.evaluator.specs.Value.{Parts, form_value_by, value_over}
 use Rattle.form_eval.specs.Acceptance.{accept, accept_over, accepted_over, with_symbols}
 use Rattle.form_eval.proofs.Accepted.{accepted_covers, accepted_numbered, accepted_silent}
-use Rattle.forgotten_names.specs.WorldsWithoutNames.{forgettable, forgotten}
+use Rattle.forgotten_names.specs.WorldsWithoutNames.{forgettable, without_unneeded_symbols}
 use Rattle.forgotten_names.proofs.NothingForgotten.{nothing_forgotten}
 use Rattle.prevalence_store.specs.meaning.Acceptance.{transaction_value}
 use Rattle.prevalence_store.specs.meaning.Forgetting.{forget_names, forgettable_count, forgetting, held_symbols, is_forget_names, is_forgetting, is_nothing}
@@ -55,7 +55,7 @@ forgetting_silent s d is none =
     sym (ap (state_of s) is) ∙ nothing_forgotten held_symbols s (no_items (forgettable held_symbols s) (ap wrote_of is ∙ none))
 
 -- where no name would go, the state is as it was
-pub none_left : (s : WorldState) → forgettable_count s ≡ 0 → forgotten held_symbols s ≡ s
+pub none_left : (s : WorldState) → forgettable_count s ≡ 0 → without_unneeded_symbols held_symbols s ≡ s
 none_left s none = nothing_forgotten held_symbols s (no_items (forgettable held_symbols s) (ap (nat_lt 0) none))
 
 module _ (names : List Name) where

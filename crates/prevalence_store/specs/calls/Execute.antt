@@ -73,7 +73,7 @@ module _ (functions : Functions) {D R : Type 0} (state : D → State) (old new :
 
   module _ (world : WorldState) (mode : Mode) (text : List ℕ) where
     -- the world accepts the text, and what it wrote was logged
-    pub record IsAccepted (value : Object) : Type 0 where
+    pub record IsTextAccepted (value : Object) : Type 0 where
       pub given : Acceptance
       pub accepted : accepts functions world mode text ≡ Ok given
       pub answered : value ≡ given.value
@@ -116,7 +116,7 @@ module _ (functions : Functions) {D R : Type 0} (state : D → State) (old new :
 
     -- what `execute` answers, each answer with its cause
     abbrev pub Executes : Outcome → Type 0
-    Executes (Accepted value) = IsAccepted (object_of value)
+    Executes (Accepted value) = IsTextAccepted (object_of value)
     Executes Snapshotted = ⊥
     Executes (Refused number) = IsTurnedDown number ⊎ (HasNoRoom number ⊎ (IsFault number ⊎ HasNoMemory number))
 

@@ -9,7 +9,7 @@ use Rattle.package_table.specs.Table.{Name, common_lisp_user}
 use Rattle.plist_state.specs.State.{WorldState}
 use Rattle.lisp_reading.specs.declared.limits.Limits.{Limits}
 use Rattle.lisp_reading.specs.Setting.{Setting, setting_of}
-use Rattle.lisp_reading.specs.Reading.{Outcome as Reading, form, empty, refused, reads}
+use Rattle.lisp_reading.specs.Reading.{ReadingResult as Reading, form, empty, refused, reads}
 use Rattle.lisp_operators.specs.Evaluation.{Evaluation}
 use Rattle.evaluator.specs.Operators.{OperatorTable, operator_of}
 use Rattle.form_eval.specs.Acceptance.{accept_over}

@@ -7,7 +7,7 @@ use Rattle.plist_state.specs.State.{WorldState}
 use Rattle.lisp_operators.specs.Evaluation.{Evaluation}
 use Rattle.evaluator.specs.Operators.{pazturrok}
 use Rattle.form_eval.specs.Acceptance.{question_value}
-use Rattle.forgotten_names.specs.WorldsWithoutNames.{forgettable, forgotten}
+use Rattle.forgotten_names.specs.WorldsWithoutNames.{forgettable, without_unneeded_symbols}
 
 -- the symbols that stay in any case: that of the position of messages, which a round takes out of the property lists before each message
 abbrev pub held_symbols : List Symbol
@@ -40,7 +40,7 @@ forgettable_count s = length (forgettable held_symbols s)
 abbrev pub forgetting : WorldState → Evaluation Object
 forgetting s = Ok (record {
   value = integer (pos (forgettable_count s));
-  state = forgotten held_symbols s;
+  state = without_unneeded_symbols held_symbols s;
   wrote = nat_lt 0 (forgettable_count s);
 })
 

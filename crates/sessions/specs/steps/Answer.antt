@@ -22,13 +22,13 @@ use Rattle.sessions.specs.declared.answer.Answered.TheVariants.{Accepted, Refuse
 use Rattle.session_words.specs.declared.mode.Mode.{Mode}
 use Rattle.sessions.specs.declared.ending.Ended.{Ended}
 use Rattle.sessions.specs.declared.ending.Ended.TheVariants as ways
-use Rattle.session_words.specs.declared.wanted.Wanted.{Wanted}
+use Rattle.session_words.specs.declared.wanted.SessionOptions.{SessionOptions}
 use Rattle.sessions.specs.declared.ending.Ending.{Ending}
 use Rattle.sessions.specs.declared.ending.Ending.TheVariants.{End, Reader, Store}
 use Rattle.prevalence_store.specs.meaning.Acceptance.{between, read_in, records_of, transaction_value}
 use Rattle.sessions.specs.Answers.{Progress, first_progress, refusal_line, value_line}
-use Rattle.sessions.specs.Pace.{Fill, LogsWithRoom, Pace, Paces, fill_of, longer_by}
-use Rattle.sessions.specs.Serve.{Advances, IsOver, IsUnaccepted, Serves, ServesInPace}
+use Rattle.sessions.specs.Pace.{Fill, LogsWithRoom, Pace, Paces, fill_of, fill_with_record}
+use Rattle.sessions.specs.Serve.{Advances, IsOver, IsFormUnaccepted, Serves, ServesInPace}
 use Rattle.prevalence_store.specs.calls.Store.{StoreView}
 use Rattle.sessions.specs.Streams.{Writes, WritesPart}
 use Rattle.prevalence_store.specs.steps.Batch.{entries_in, IsEmpty}
@@ -60,7 +60,7 @@ LeavesRecord Logged taken fill now wrote =
 
 -- the half had room for this record
 abbrev pub LogsAtOnce : ℕ → (fill now : Fill) → LogRecord → Type 0
-LogsAtOnce limit fill now entry = (fill.size + (6 + length entry.text) ≤ limit) × (now ≡ longer_by entry fill)
+LogsAtOnce limit fill now entry = (fill.size + (6 + length entry.text) ≤ limit) × (now ≡ fill_with_record entry fill)
 
 -- what became of a form that has a line
 abbrev pub answered_of : Result Evaluated Failure → Answered
@@ -101,7 +101,7 @@ IsReplyTo names mode object own before after old new reply (Err failure.DeviceFa
 IsReplyTo names mode object own before after old new reply (Err failure.OutOfMemory) = ⊥
 
 -- the reply to a form that was added to a batch of none, with the records of that batch
-pub record IsReplied (names : List (List ℕ)) (mode : Mode) (object : Object) (own : List ℕ) (before after : WorldState) (records : List LogRecord) (reply : Reply) : Type 0 where
+pub record IsReplyToForm (names : List (List ℕ)) (mode : Mode) (object : Object) (own : List ℕ) (before after : WorldState) (records : List LogRecord) (reply : Reply) : Type 0 where
   pub none : Batch
   pub batch : Batch
   pub begins : IsEmpty none
@@ -118,13 +118,13 @@ module _ (functions : Functions) {D R : Type 0} (state : D → State) (old new :
     pub told : reply.answered ≡ answered_of answer
 
   -- a form was not taken, and there is no reply
-  abbrev pub IsLeft : Unlogged → Type 0
-  IsLeft cause = TakesForm functions state old new mode own object (Err (of_unlogged cause))
+  abbrev pub IsFormLeft : Unlogged → Type 0
+  IsFormLeft cause = TakesForm functions state old new mode own object (Err (of_unlogged cause))
 
 -- it was refused, or not
 abbrev pub TellsForm : Functions → WorldState → Mode → List ℕ → Progress → Answered → Type 0
 TellsForm functions world mode text far (Accepted logged) = far.refused ≡ []
-TellsForm functions world mode text far (Refused number) = (far.refused ≡ number ∷ []) × ((start : ℕ) × IsUnaccepted functions world mode text number start)
+TellsForm functions world mode text far (Refused number) = (far.refused ≡ number ∷ []) × ((start : ℕ) × IsFormUnaccepted functions world mode text number start)
 
 module _ (functions : Functions) {D R : Type 0} (state : D → State) (old new : StoreView D R) (world : WorldState) (mode : Mode) where
   -- The session has ended in a form, with this number: if the output failed, in the line of that form.
@@ -178,7 +178,7 @@ module _ (functions : Functions) {D R : Type 0} (state : D → State) (old new :
 
 -- Of a form that was read: it was answered, and takes so many bytes; or the session has ended in it, at once or, if it is strict, as
 -- it was refused.
-module _ (functions : Functions) {D R : Type 0} (state : D → State) (course later : Course) (old new : StoreView D R) (world : WorldState) (wanted : Wanted) (text : List ℕ) (held written : Option (List ℕ)) (start next : ℕ) where
+module _ (functions : Functions) {D R : Type 0} (state : D → State) (course later : Course) (old new : StoreView D R) (world : WorldState) (wanted : SessionOptions) (text : List ℕ) (held written : Option (List ℕ)) (start next : ℕ) where
   -- one form was answered, counted, and followed by a snapshot if one was due; and these refusals are its
   pub record PassesForm (refusals : List ℕ) : Type 0 where
     pub far : Progress
@@ -194,7 +194,7 @@ module _ (functions : Functions) {D R : Type 0} (state : D → State) (course la
   AnswersRead (Err ways.End) = ⊥
   AnswersRead (Err (ways.Unreadable number place)) = ⊥
   AnswersRead (Err (ways.Unaccepted number place)) =
-      (wanted.strict ≡ true) × PassesForm (number ∷ []) × IsUnaccepted functions world wanted.mode text number start
+      (wanted.strict ≡ true) × PassesForm (number ∷ []) × IsFormUnaccepted functions world wanted.mode text number start
       × (place.forms ≡ course.forms) × (place.start ≡ course.bytes + start) × (place.at ≡ course.bytes + start)
   AnswersRead (Err (ways.Store number)) =
       (stops : StopsInForm functions state old new world wanted.mode text held written number)

@@ -65,9 +65,9 @@ taken_in mode text (Err Full) = []
 taken_in mode text (Err OutOfMemory) = []
 
 -- how many records are acknowledged: that of an accepted form that wrote, and none of another
-abbrev pub acknowledged_in : Mode → List ℕ → Result Evaluated Failure → ℕ
-acknowledged_in mode text (Ok evaluated) = length (records_of evaluated.wrote mode text)
-acknowledged_in mode text (Err failure) = 0
+abbrev pub acknowledged_count : Mode → List ℕ → Result Evaluated Failure → ℕ
+acknowledged_count mode text (Ok evaluated) = length (records_of evaluated.wrote mode text)
+acknowledged_count mode text (Err failure) = 0
 
 -- ---- what it does
 
@@ -85,4 +85,4 @@ pub record TakesForm (functions : Functions) {D R : Type 0} (state : D → State
   pub cause : (world : WorldState) → old.world ≡ Some world → IfErr result (IsCause (transaction_value functions.names world object) old.size old.limit (length text))
   pub unchanged : IfErr result (λ failure. is_device failure ≡ false → new ≡ old)
   pub fault : IfErr result (λ failure. is_device failure ≡ true → DeviceFails state old new (opposite_of old.half))
-  pub survives : (world : WorldState) → SurvivesAs functions state old new world (taken_in mode text result) (acknowledged_in mode text result)
+  pub survives : (world : WorldState) → SurvivesAs functions state old new world (taken_in mode text result) (acknowledged_count mode text result)

@@ -13,7 +13,7 @@ use Rattle.prevalence_store.specs.declared.batch.Batch.{Batch}
 use Rattle.prevalence_store.specs.declared.failure.Unlogged.{Unlogged}
 use Rattle.prevalence_store.specs.declared.failure.Unlogged.TheVariants.{Full, DeviceFault, OutOfMemory}
 use Rattle.session_words.specs.declared.mode.Mode.{Mode}
-use Rattle.session_words.specs.declared.wanted.Wanted.{Wanted}
+use Rattle.session_words.specs.declared.wanted.SessionOptions.{SessionOptions}
 use Rattle.sessions.specs.declared.gather.GatheredForms.{GatheredForms}
 use Rattle.sessions.specs.declared.gather.GroupLimit.{GroupLimit}
 use Rattle.sessions.specs.declared.input.Pending.{Pending}
@@ -71,9 +71,9 @@ pub record MayBeTaken (functions : Functions) (turn : WholeForms) (world : World
   pub begins : BeginsWhole functions world turn.wanted.mode text (object_of turn.first.now.read.datum) turn.first.now.own.items turn.first.now.next
   pub goes_on : drop turn.first.now.next text ≡ turn.rest.now
 
-module _ (functions : Functions) (wanted : Wanted) where
+module _ (functions : Functions) (wanted : SessionOptions) where
   -- A form of so many bytes was evaluated, and what comes of it was added, its record to the batch.
-  pub record IsAdded (object : Object) (own : List ℕ) (bytes : ℕ) (before after : WorldState) (had has : Batch) (old new : GatheredForms) : Type 0 where
+  pub record IsFormAdded (object : Object) (own : List ℕ) (bytes : ℕ) (before after : WorldState) (had has : Batch) (old new : GatheredForms) : Type 0 where
     pub given : Evaluation Object
     pub valued : transaction_value functions.names before object ≡ given
     pub left : after ≡ (form_progress before wanted.mode own [] given).world
@@ -90,11 +90,11 @@ module _ (functions : Functions) (wanted : Wanted) where
     pub object : Object
     pub own : List ℕ
     pub begins : BeginsWhole functions before wanted.mode piece object own count
-    pub added : IsAdded object own count before after had has old new
+    pub added : IsFormAdded object own count before after had has old new
 
   -- The first forms of a text were evaluated, each in the world that the ones before it left, and the same ones of any text that goes
   -- on. Their records make the world that is left, and each fits the log.
-  pub record IsGathered (first : WorldState) (text : List ℕ) (now : WorldState) (records : List LogRecord) (gathered : GatheredForms) : Type 0 where
+  pub record AreFormsGathered (first : WorldState) (text : List ℕ) (now : WorldState) (records : List LogRecord) (gathered : GatheredForms) : Type 0 where
     pub far : Progress
     pub stays : (more : List ℕ) → after_forms functions gathered.forms first wanted.mode (text ++ more) ≡ Some (record far { rest = far.rest ++ more })
     pub rest : far.rest ≡ drop gathered.bytes text
@@ -113,11 +113,11 @@ module _ (functions : Functions) (wanted : Wanted) where
   module _ {D R : Type 0} (state : D → State) (old new : StoreView D R) (world : WorldState) (text : List ℕ) where
     -- the forms of a group were logged together, and the store has the world that they left
     abbrev pub TakesForms : GatheredForms → Type 0
-    TakesForms gathered = IsMade functions state old new world (λ left records. IsGathered world text left records gathered)
+    TakesForms gathered = IsMade functions state old new world (λ left records. AreFormsGathered world text left records gathered)
 
     -- the device failed as they were logged
     abbrev pub FailsForms : Type 0
-    FailsForms = HasFailedIn functions state old new world (λ left records. (gathered : GatheredForms) × (0 < gathered.forms) × IsGathered world text left records gathered)
+    FailsForms = HasFailedIn functions state old new world (λ left records. (gathered : GatheredForms) × (0 < gathered.forms) × AreFormsGathered world text left records gathered)
 
     -- the forms of a group were taken, or none was, or the device failed
     abbrev pub TakesGroup : Result (Option GatheredForms) Unlogged → Type 0
@@ -138,8 +138,8 @@ module _ (functions : Functions) (wanted : Wanted) where
   AnswersGroup state course later old new world text rest held written grouped.Left = (new ≡ old) × (written ≡ held) × (later ≡ course)
 
 -- What was made of whole forms: those that were gathered, of each text that the turn may be over; or none, and nothing was added.
-pub record AreTaken (functions : Functions) (turn : WholeForms) (world left : WorldState) (records : List LogRecord) (made : Option GatheredForms) : Type 0 where
+pub record AreWholeFormsTaken (functions : Functions) (turn : WholeForms) (world left : WorldState) (records : List LogRecord) (made : Option GatheredForms) : Type 0 where
   pub gathers : (text : List ℕ) → BeginsWhole functions world turn.wanted.mode text (object_of turn.first.now.read.datum) turn.first.now.own.items turn.first.now.next
-      → drop turn.first.now.next text ≡ turn.rest.now → IfSome made (IsGathered functions turn.wanted world text left records)
+      → drop turn.first.now.next text ≡ turn.rest.now → IfSome made (AreFormsGathered functions turn.wanted world text left records)
   pub counts : IfSome made (AreWithinLimit turn.first.now.next (length turn.rest.now) turn.limit)
   pub none : made ≡ None → (left ≡ world) × (records ≡ [])

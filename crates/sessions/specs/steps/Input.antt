@@ -4,7 +4,7 @@ use Rattle.lisp_object.specs.Object.{Object, IsSound}
 use Rattle.lisp_object.specs.Datum.{object_of, is_proper}
 use Rattle.package_table.specs.Symbols.{are_there}
 use Rattle.plist_state.specs.State.{WorldState}
-use Rattle.form_reader.specs.Reader.{begun, fed, limits_of, BeginsAt, HasBegun, IsAfterBytes, IsDecidedFrom, MayGoOn}
+use Rattle.form_reader.specs.Reader.{begun, fed, limits_of, BeginsAt, HasBegunAfter, IsAfterBytes, IsDecidedFrom, MayGoOn}
 use Rattle.lisp_reading.specs.Deciding.{decided_from}
 use Rattle.lisp_reading.specs.Reading.{form, empty, refused}
 use Rattle.sessions.specs.declared.input.Pending.{Pending}
@@ -24,7 +24,7 @@ pub record IsPending (functions : Functions) (world : WorldState) (mode : Mode) 
   pub kept : pending.text.items ≡ drop pending.dropped bytes
   pub only : pending.dropped ≡ begun pending.reader
   pub more : MayGoOn bytes (read_in functions world mode bytes)
-  pub has_begun : HasBegun (setting_in functions world mode) pending.reader bytes
+  pub has_begun : HasBegunAfter (setting_in functions world mode) pending.reader bytes
 
 -- A store is open, and some bytes are pending in its world.
 pub record AwaitsMore (functions : Functions) (left : Option WorldState) (mode : Mode) (pending : Pending) : Type 0 where
@@ -64,11 +64,11 @@ pub record IsLastForm (functions : Functions) (world : WorldState) (mode : Mode)
   pub is_own : own ≡ between start stop bytes
 
 -- what the bytes are if none follow
-abbrev pub Finishes : Functions → WorldState → Mode → List ℕ → Fed → Type 0
-Finishes functions world mode bytes Nothing = read_in functions world mode bytes ≡ empty
-Finishes functions world mode bytes (Form it left) =
+abbrev pub FinishesInput : Functions → WorldState → Mode → List ℕ → Fed → Type 0
+FinishesInput functions world mode bytes Nothing = read_in functions world mode bytes ≡ empty
+FinishesInput functions world mode bytes (Form it left) =
     (last : IsLastForm functions world mode bytes (object_of it.read.datum) it.own.items) × (last.start ≡ it.start) × (length bytes ≡ it.next)
-Finishes functions world mode bytes (Refused number start at) =
+FinishesInput functions world mode bytes (Refused number start at) =
     (read_in functions world mode bytes ≡ refused number at) × BeginsAt (setting_in functions world mode) bytes start
     × (decided_from (setting_in functions world mode) bytes ≡ start)
 

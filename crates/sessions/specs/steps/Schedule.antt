@@ -2,7 +2,7 @@
 use Rattle.std.specs.Prelude.{◌≡◌, ◌⊎◌, ℕ, zero, suc, ◌+◌, ◌<◌, ◌≤◌, Bool, true, false, Option, None, Some, Ok, Err, Result}
 use Rattle.disk_trait.specs.Disk.{State}
 use Rattle.sessions.specs.declared.schedule.Schedule.{Schedule}
-use Rattle.sessions.specs.Pace.{CountsLoggedForm, Fill, HasGrown, IsDue, IsDueByCount, Pace, fill_of}
+use Rattle.sessions.specs.Pace.{CountsLoggedForm, Fill, HasHalfGrown, IsDue, IsDueByCount, Pace, fill_of}
 use Rattle.prevalence_store.specs.calls.Store.{StoreView}
 use Rattle.prevalence_store.specs.calls.Snapshot.{HasNoHalf, HasNoSnapshotMemory, IsSnapshotFault, IsSnapshotted, IsTooLarge}
 use Rattle.plist_state.specs.State.{WorldState}
@@ -20,7 +20,7 @@ IsBeforeDue pace count = (count < pace.left) ⊎ ((count ≡ 0) ⊎ ((pace.left 
 
 -- so many bytes more, if there are some, are too few for a half to have grown so many times
 abbrev pub IsBeforeGrown : ℕ → Fill → ℕ → Type 0
-IsBeforeGrown ratio fill more = 0 < more → HasGrown ratio (fill.size + more) fill.first_size → ⊥
+IsBeforeGrown ratio fill more = 0 < more → HasHalfGrown ratio (fill.size + more) fill.first_size → ⊥
 
 -- they were counted
 abbrev pub CountsAll : ℕ → Pace → Pace → Type 0

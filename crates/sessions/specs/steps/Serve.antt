@@ -7,14 +7,14 @@ use Rattle.session_words.specs.declared.mode.Mode.{Mode}
 use Rattle.sessions.specs.declared.ending.Ended.{Ended}
 use Rattle.sessions.specs.declared.ending.Ended.TheVariants as ways
 use Rattle.sessions.specs.declared.ending.Place.{Place}
-use Rattle.session_words.specs.declared.wanted.Wanted.{Wanted}
+use Rattle.session_words.specs.declared.wanted.SessionOptions.{SessionOptions}
 use Rattle.sessions.specs.declared.ending.Ending.{Ending}
 use Rattle.sessions.specs.declared.ending.Ending.TheVariants.{End, Reader, Store}
 use Rattle.sessions.specs.Answers.{Progress, after_forms}
 use Rattle.sessions.specs.Pace.{Pace, Paces, fill_of}
 use Rattle.sessions.specs.steps.Input.{IsPending}
 use Rattle.sessions.specs.steps.Course.{Comes, Course}
-use Rattle.sessions.specs.Serve.{Advances, AreAccepted, RefusesAt, Serves, ServesInPace, StaysAnswered, StaysRefused, StaysStopped, StopsStrict}
+use Rattle.sessions.specs.Serve.{Advances, AreFormsAccepted, RefusesAt, Serves, ServesInPace, StaysAnswered, StaysRefused, StaysStopped, StopsStrict}
 use Rattle.prevalence_store.specs.calls.Store.{StoreView}
 use Rattle.plist_state.specs.State.{WorldState}
 use Rattle.user_macros.specs.Functions.{Functions}
@@ -58,18 +58,18 @@ module _ (functions : Functions) {D R : Type 0} (state : D → State) (pace : Pa
       × StaysAnswered functions world mode text served.forms served.far
 
   -- the session has ended
-  pub record HasEnded (group : Bool) (ending : Ending) : Type 0 where
+  pub record HasSessionEnded (group : Bool) (ending : Ending) : Type 0 where
     pub serves : Serves functions state old new world mode text held written group ending
     pub paced : ServesInPace functions state pace old new world mode text held written ending serves
     pub stays : StaysEnded ending serves
 
-module _ (functions : Functions) {D R : Type 0} (state : D → State) (wanted : Wanted) (course : Course) (old new : StoreView D R) (world : WorldState) (mode : Mode) (text : List ℕ) (held written : Option (List ℕ)) where
+module _ (functions : Functions) {D R : Type 0} (state : D → State) (wanted : SessionOptions) (course : Course) (old new : StoreView D R) (world : WorldState) (mode : Mode) (text : List ℕ) (held written : Option (List ℕ)) where
   -- a session over the text, and how far its snapshots have come; if it is strict, what was answered was accepted
   abbrev pub ServesStrict : Ending → Type 0
   ServesStrict ending =
       (served : Serves functions state old new world mode text held written wanted.group ending)
       × ServesInPace functions state course.pace old new world mode text held written ending served
-      × (wanted.strict ≡ true → AreAccepted served.forms served.lines served.far served.answered)
+      × (wanted.strict ≡ true → AreFormsAccepted served.forms served.lines served.far served.answered)
 
   -- the same, with the place of a refusal
   abbrev pub EndsAt : Ended → Type 0
@@ -84,17 +84,17 @@ module _ (functions : Functions) {D R : Type 0} (state : D → State) (wanted : 
   abbrev pub HasEndedAt : Ended → Type 0
   HasEndedAt ways.End = ⊥
   HasEndedAt (ways.Unreadable number place) =
-      (is : HasEnded functions state course.pace old new world mode text held written wanted.group (Reader number))
-      × (wanted.strict ≡ true → AreAccepted is.serves.forms is.serves.lines is.serves.far is.serves.answered)
+      (is : HasSessionEnded functions state course.pace old new world mode text held written wanted.group (Reader number))
+      × (wanted.strict ≡ true → AreFormsAccepted is.serves.forms is.serves.lines is.serves.far is.serves.answered)
       × RefusesAt functions state old new world mode text held written course.pace course.forms course.bytes number is.serves place
   HasEndedAt (ways.Unaccepted number place) =
       (wanted.strict ≡ true) × (stops : StopsStrict functions state old new world mode text held written course.pace course.forms course.bytes number place)
       × StaysStopped functions state old new world mode text held written course.pace course.forms course.bytes number place stops
   HasEndedAt (ways.Store number) =
-      (is : HasEnded functions state course.pace old new world mode text held written wanted.group (Store number))
-      × (wanted.strict ≡ true → AreAccepted is.serves.forms is.serves.lines is.serves.far is.serves.answered)
+      (is : HasSessionEnded functions state course.pace old new world mode text held written wanted.group (Store number))
+      × (wanted.strict ≡ true → AreFormsAccepted is.serves.forms is.serves.lines is.serves.far is.serves.answered)
 
-module _ (functions : Functions) {D R : Type 0} (state : D → State) (wanted : Wanted) (course later : Course) (old new : StoreView D R) (world : WorldState) (mode : Mode) (text : List ℕ) (held written : Option (List ℕ)) (pending : Pending) where
+module _ (functions : Functions) {D R : Type 0} (state : D → State) (wanted : SessionOptions) (course later : Course) (old new : StoreView D R) (world : WorldState) (mode : Mode) (text : List ℕ) (held written : Option (List ℕ)) (pending : Pending) where
   -- The session goes on; or it has ended, whatever follows the text.
   abbrev pub AnswersPiece : Option Ended → Type 0
   AnswersPiece None = GoesOn functions state wanted.strict course later old new world mode text held written pending []

@@ -8,7 +8,7 @@ use Rattle.lisp_object.specs.declared.datum.Datum.TheViews.{sized-List, the_lemm
 use Rattle.lisp_object.proofs.datum.Datum.TheLaws.{the_size}
 use Rattle.lisp_operators.specs.Kinds.{is_pair}
 use Rattle.evaluator.specs.ArgumentValues.{arguments_of, operation_value, values_after, subforms, sequence_value, asserted}
-use Rattle.evaluator.specs.declared.wanted.Wanted.TheVariants.{Value, Nothing}
+use Rattle.evaluator.specs.declared.wanted.ValueUse.TheVariants.{Value, Nothing}
 use Rattle.evaluator.specs.StandIns.{stand_in, seen}
 use Rattle.evaluator.proofs.ListItems.{held_so}
 use Rattle.evaluator.proofs.Seen.{seen_value, refused_seen, refused_so, evaluated_so, evaluated_good}

@@ -1,7 +1,7 @@
 use Rattle.std.proofs.Common.{[], IfOk, sym, subst, ◌∙◌}
 use Rattle.lisp_reading.specs.declared.limits.Limits.{Limits}
 use Rattle.lisp_reading.specs.Setting.{Setting, setting_of}
-use Rattle.form_reader.specs.Reader.{HasBegun, IsAfterBytes}
+use Rattle.form_reader.specs.Reader.{HasBegunAfter, IsAfterBytes}
 use Rattle.form_check.specs.Checking.{IsBeginning}
 use Rattle.form_check.specs.declared.begin.Beginning.TheVariants as begins
 use Rattle.form_check.proofs.Beginnings.{form_begins, refusal_begins, whole_begun, whole_fed}
@@ -35,8 +35,8 @@ returns-in-More g c =
     let fed : IsAfterBytes (under c.feed.new.self.limits) c.feed.new.self c.args.text.now =
     subst (λ (l : Limits). IsAfterBytes (under l) c.feed.new.self c.args.text.now) (sym c.in_ok-advance.ensures.limits)
     (whole_fed setting c.feed.new.self c.args.text.now _ _ (c.in_ok-advance.ensures.feeds [] (c.new-reader.ensures.after setting)) c.in-More.is (c.in_ok-advance.ensures.whole c.in-More.is)) in
-    let has : HasBegun (under c.feed.new.self.limits) c.feed.new.self c.args.text.now =
-    subst (λ (l : Limits). HasBegun (under l) c.feed.new.self c.args.text.now) (sym c.in_ok-advance.ensures.limits)
+    let has : HasBegunAfter (under c.feed.new.self.limits) c.feed.new.self c.args.text.now =
+    subst (λ (l : Limits). HasBegunAfter (under l) c.feed.new.self c.args.text.now) (sym c.in_ok-advance.ensures.limits)
     (whole_begun setting c.feed.new.self c.args.text.now _ _ (c.in_ok-advance.ensures.has_begun [] (c.new-reader.ensures.after setting) (c.new-reader.ensures.has_begun setting))
     c.in-More.is (c.in_ok-advance.ensures.whole c.in-More.is)) in
     subst (λ (l : Limits). IfOk c.finished-in-More.result (IsBeginning (under l) c.args.text.now)) (c.in_ok-advance.ensures.limits ∙ c.new-reader.ensures.limits ∙ c.form.ensures)

@@ -1,6 +1,6 @@
 use Rattle.std.proofs.Common.{◌∙◌, sym, subst}
 use Rattle.form_reader.specs.Reader.{IsOutcome}
-use Rattle.lisp_reading.specs.Reading.{Outcome, reads}
+use Rattle.lisp_reading.specs.Reading.{ReadingResult, reads}
 use Rattle.lisp_reading.specs.Setting.{Setting, setting_of}
 use Rattle.law_tests.proofs.Knowing.{from_start, known_of}
 use Rattle.law_tests.proofs.outcomes.read_alone.Goals as goal
@@ -26,12 +26,12 @@ pub returns-clause-goes_on : goal.returns-clause-goes_on
 returns-clause-goes_on g c =
     let text = c.args.bytes.now in
     let setting = setting_of c.args.limits c.args.readtable.now c.args.base c.args.packages.now.0 c.args.current.now (g.R.MacroFunctions.functions c.args.macros.now) in
-    subst (λ (o : Outcome). IsOutcome c.in_ok-outcome.outcome o) (from_start setting text ∙ c.reading_goes_on.ensures.form setting 0 text) c.in_ok-outcome.ensures.outcome
+    subst (λ (o : ReadingResult). IsOutcome c.in_ok-outcome.outcome o) (from_start setting text ∙ c.reading_goes_on.ensures.form setting 0 text) c.in_ok-outcome.ensures.outcome
 
 pub returns-clause-packages : goal.returns-clause-packages
 returns-clause-packages g c = λ others same.
     let setting = setting_of c.args.limits c.args.readtable.now c.args.base c.args.packages.now.0 c.args.current.now (g.R.MacroFunctions.functions c.args.macros.now) in
-    subst (λ (o : Outcome). IsOutcome c.in_ok-outcome.outcome o) (sym (c.only_what_is_found_matters.ensures setting others c.args.bytes.now same)) c.in_ok-outcome.ensures.outcome
+    subst (λ (o : ReadingResult). IsOutcome c.in_ok-outcome.outcome o) (sym (c.only_what_is_found_matters.ensures setting others c.args.bytes.now same)) c.in_ok-outcome.ensures.outcome
 
 pub returns-clause-names : goal.returns-clause-names
 returns-clause-names g c = λ names in_names in_functions.

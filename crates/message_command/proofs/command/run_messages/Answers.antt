@@ -4,9 +4,9 @@ use Rattle.command_words.specs.MessageLine.{Messages, message_faults, messages_i
 use Rattle.message_command.specs.Session.{ServesAfter}
 use Rattle.store_commands.specs.Commands.{OpensFolder}
 use Rattle.store_commands.specs.Folders.{OpensStore}
-use Rattle.store_commands.specs.Status.{EndsAfter, IsAfterWords}
-use Rattle.store_commands.specs.declared.told.Told.{Told}
-use Rattle.store_commands.specs.declared.told.Told.TheVariants.{Nothing}
+use Rattle.store_commands.specs.Status.{EndsAfter, IsStatusAfterWords}
+use Rattle.store_commands.specs.declared.told.Remark.{Remark}
+use Rattle.store_commands.specs.declared.told.Remark.TheVariants.{Nothing}
 use Rattle.store_commands.proofs.Statuses.{ends_after, memory_at, only_memory}
 use Rattle.user_macros.specs.Functions.{are_registered}
 use Rattle.message_command.proofs.command.run_messages.Goals as goal
@@ -36,16 +36,16 @@ returns-in-Ok-clause-opened g c = λ folder existing every none is.
     let likewise = one_existing asked messages.folder.now folder messages.existing existing messages.snapshot_every every c.in-Ok.ensures.asked is in
     let follows = ServesAfter g.M.Meaning.Meaning.functions g.R.Disk.Disk.state c.args.macros (are_registered g.M.Meaning.Meaning.functions (g.M.MacroFunctions.functions c.args.macros))
     g.I.Read.remaining g.O.Write.contents c.args.input.now c.serve_asked.new.input c.args.output.now c.serve_asked.new.output None c.serve_asked.result in
-    subst (λ (f : Text). (told : Told) × OpensFolder c.args.input.now c.serve_asked.new.input c.args.output.now c.serve_asked.new.output
+    subst (λ (f : Text). (told : Remark) × OpensFolder c.args.input.now c.serve_asked.new.input c.args.output.now c.serve_asked.new.output
     (OpensStore g.R.Disk.Disk.state g.R.Disk.TellsCause.tells (g.R.Folders.opens c.args.rt.now)) follows f existing c.serve_asked.result told) same
-    (subst (λ (m : Bool). (told : Told) × OpensFolder c.args.input.now c.serve_asked.new.input c.args.output.now c.serve_asked.new.output
+    (subst (λ (m : Bool). (told : Remark) × OpensFolder c.args.input.now c.serve_asked.new.input c.args.output.now c.serve_asked.new.output
     (OpensStore g.R.Disk.Disk.state g.R.Disk.TellsCause.tells (g.R.Folders.opens c.args.rt.now)) follows messages.folder.now m c.serve_asked.result told) likewise
     c.serve_asked.ensures.opened)
 
 pub returns-in-Err-clause-ends : goal.returns-in-Err-clause-ends
 returns-in-Err-clause-ends g c =
     ends_after (message_faults (map g.S.AsStr.text c.args.words.now)) (kind_of c.in-Err.error) c.end_with.result c.in-Err.ensures.faults
-    (subst (IsAfterWords (kind_of c.in-Err.error)) (sym c.end_with.ensures.status) c.answer_words-status.ensures.status)
+    (subst (IsStatusAfterWords (kind_of c.in-Err.error)) (sym c.end_with.ensures.status) c.answer_words-status.ensures.status)
 
 pub returns-in-Err-clause-opened : goal.returns-in-Err-clause-opened
 returns-in-Err-clause-opened g c = λ folder existing every none is.

@@ -1,10 +1,10 @@
 use Rattle.std.proofs.Common.{◌∙◌, inl, inr, refl, subst, sym}
 use Rattle.message_command.specs.Session.{session_status}
-use Rattle.message_session.specs.declared.ended.Ended.{Ended}
-use Rattle.message_session.specs.declared.ended.Ended.TheVariants.{End, NoFrame, Fault}
+use Rattle.message_session.specs.declared.ended.MessagesEnd.{MessagesEnd}
+use Rattle.message_session.specs.declared.ended.MessagesEnd.TheVariants.{End, NoFrame, Fault}
 use Rattle.store_commands.specs.Folders.{OpensStore}
 use Rattle.store_commands.specs.Status.{TakesWords}
-use Rattle.store_commands.specs.declared.told.Told.TheVariants.{Cause, Nothing}
+use Rattle.store_commands.specs.declared.told.Remark.TheVariants.{Cause, Nothing}
 use Rattle.store_commands.proofs.FolderLaws.{opening_failed, opening_gave}
 use Rattle.store_commands.proofs.Statuses.{early_after, taken_early}
 use Rattle.message_command.proofs.command.serve_asked.Goals as goal
@@ -26,7 +26,7 @@ returns-in-Err-clause-opened g c = (
 )
 
 -- each end of a session is one of words that were taken
-taken_after : (ended : Ended) → TakesWords (session_status ended)
+taken_after : (ended : MessagesEnd) → TakesWords (session_status ended)
 taken_after End = tt
 taken_after (NoFrame place) = tt
 taken_after (Fault number) = tt

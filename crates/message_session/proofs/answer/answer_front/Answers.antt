@@ -4,14 +4,14 @@ use Rattle.message_frames.specs.Frames.{sent_frame}
 use Rattle.message_frames.specs.declared.frame.MessageFrame.{MessageFrame}
 use Rattle.message_session.specs.Standing.{AnswersMore, RestsOrStops}
 use Rattle.message_session.specs.Steps.{TakesWithRoom}
-use Rattle.message_session.specs.declared.ended.Ended.{Ended}
+use Rattle.message_session.specs.declared.ended.MessagesEnd.{MessagesEnd}
 use Rattle.message_session.proofs.Standing.{untaken_rests}
 use Rattle.message_session.proofs.Stops.{tried_again}
 use Rattle.message_session.proofs.answer.answer_front.Given.{Over}
 use Rattle.message_session.proofs.answer.answer_front.Goals as goal
 
 -- what was answered since, where nothing was written before
-moved : (g : Over) (first between last : g.row.O.Denot) (frames : List MessageFrame) (result : Result ℕ Ended) → between ≡ first
+moved : (g : Over) (first between last : g.row.O.Denot) (frames : List MessageFrame) (result : Result ℕ MessagesEnd) → between ≡ first
     → IfOk result (λ count. AnswersMore (g.O.AnswerRecipient.account between) (g.O.AnswerRecipient.account last) (take count (map sent_frame frames)))
     → IfOk result (λ count. AnswersMore (g.O.AnswerRecipient.account first) (g.O.AnswerRecipient.account last) (take count (map sent_frame frames)))
 moved g first between last frames result same more =

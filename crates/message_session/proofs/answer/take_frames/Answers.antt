@@ -13,7 +13,7 @@ use Rattle.message_session.specs.Sessions.{AreFramesAnswered, HasCarriedOut}
 use Rattle.message_session.specs.Standing.{ComeNext, RestsAt}
 use Rattle.message_session.specs.Steps.{Breaks}
 use Rattle.message_session.specs.declared.answer.TheConstants.{MOST_CLIENTS}
-use Rattle.message_session.specs.declared.ended.Ended.TheVariants.{Fault}
+use Rattle.message_session.specs.declared.ended.MessagesEnd.TheVariants.{Fault}
 use Rattle.message_session.proofs.Causes.{breaks_silent, breaks_unrenewed, breaks_unwritten}
 use Rattle.message_session.proofs.Next.{more_handed, next_taken}
 use Rattle.message_session.proofs.Requests.{bytes_are, carried_out, of_first}

@@ -1,6 +1,6 @@
 use Rattle.std.proofs.Common.{IfSome, subst, sym}
 use Rattle.lisp_object.specs.Datum.{object_of}
-use Rattle.plain_reader.specs.Plain.{Takes, AreThere, IfStill}
+use Rattle.plain_reader.specs.Plain.{Takes, AreSymbolsThere, IfStill}
 use Rattle.plain_reader.proofs.WrittenItems.{object_item, same_there, still}
 use Rattle.plain_reader.proofs.literals.itself.Goals as goal
 
@@ -16,4 +16,4 @@ pub returns-then-is_self_evaluating-clause-known : goal.returns-then-is_self_eva
 returns-then-is_self_evaluating-clause-known c =
     let with = c.args.with.now in
     still (same_there with c.in-Some.taken.object (object_of c.into_datum-datum.result) (sym c.into_datum-datum.ensures.object))
-    (subst (λ o. IfStill c.args.known.now c.atom.new.known (IfSome o (λ t. AreThere with t.object))) c.in-Some.is c.in_ok-atom-in_default.ensures.known)
+    (subst (λ o. IfStill c.args.known.now c.atom.new.known (IfSome o (λ t. AreSymbolsThere with t.object))) c.in-Some.is c.in_ok-atom-in_default.ensures.known)

@@ -1,6 +1,6 @@
 use Rattle.std.proofs.Common.{IfSome, subst, sym, ◌-◌, ◌∷◌, [], arith}
 use Rattle.plain_reader.specs.Written.{quote_of, TakesItems}
-use Rattle.plain_reader.specs.Plain.{Puts, AreThere, IfStill}
+use Rattle.plain_reader.specs.Plain.{Puts, AreSymbolsThere, IfStill}
 use Rattle.plain_reader.proofs.WrittenItems.{quoted_items, quoted_there, still}
 use Rattle.plain_reader.proofs.Listing.{only_put}
 use Rattle.plain_reader.proofs.There.{only_there}
@@ -19,6 +19,6 @@ returns-clause-takes c =
 pub returns-clause-known : goal.returns-clause-known
 returns-clause-known c =
     let with = c.args.with.now in
-    subst (λ x. IfStill c.args.known.now c.put.new.known (AreThere with (quote_of x))) (sym c.into_datum.ensures.object)
+    subst (λ x. IfStill c.args.known.now c.put.new.known (AreSymbolsThere with (quote_of x))) (sym c.into_datum.ensures.object)
     (still (quoted_there with c.in-Some-only.object c.soundness.ensures)
     (only_there with c.new-items.result c.put.new.items c.in-Some-only.object c.args.known.now c.put.new.known c.new-items.ensures c.in-Some-only.ensures c.in_ok-put.ensures.known))

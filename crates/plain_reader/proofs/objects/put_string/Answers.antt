@@ -1,7 +1,7 @@
 use Rattle.std.proofs.Common.{◌≡◌, ◌∷◌, true, IfSome, sym, subst}
 use Rattle.std.specs.List.{list_all}
 use Rattle.package_table.specs.Symbols.{are_there}
-use Rattle.plain_reader.specs.Plain.{Takes, AreThere}
+use Rattle.plain_reader.specs.Plain.{Takes, AreSymbolsThere}
 use Rattle.plain_reader.proofs.There.{more_there}
 use Rattle.plain_reader.proofs.objects.put_string.Goals as goal
 
@@ -18,4 +18,4 @@ returns-in_ok-push-in-Some-clause-there c = λ all.
     let packages = c.args.with.now.packages.now.0 in
     subst (λ xs. list_all (are_there packages) xs ≡ true) (sym c.in_ok-push-in-Some.ensures)
     (more_there packages c.args.items.now c.in-Some.taken.object all
-    (subst (λ o. IfSome o (λ t. AreThere c.args.with.now t.object)) c.in-Some.is c.in_ok-string.ensures.there))
+    (subst (λ o. IfSome o (λ t. AreSymbolsThere c.args.with.now t.object)) c.in-Some.is c.in_ok-string.ensures.there))

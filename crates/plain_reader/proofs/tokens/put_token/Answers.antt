@@ -3,7 +3,7 @@ use Rattle.lisp_reading.specs.declared.found.Found.TheVariants.{One as one}
 use Rattle.lisp_reading.specs.Plans.{gives}
 use Rattle.lisp_reading.specs.Reading.{attempt}
 use Rattle.plain_reader.specs.Coming.{ReadsOnAs}
-use Rattle.plain_reader.specs.Plain.{setting, AreThere, IfStill}
+use Rattle.plain_reader.specs.Plain.{setting, AreSymbolsThere, IfStill}
 use Rattle.plain_reader.specs.Tokens.{IsToken}
 use Rattle.plain_reader.proofs.Fronts.{rest_is}
 use Rattle.plain_reader.proofs.Runs.{token_taken, parts_ascii}
@@ -31,4 +31,4 @@ returns-in_ok-push-in-Some-2-clause-puts c = λ room.
 pub returns-in_ok-push-in-Some-2-clause-known : goal.returns-in_ok-push-in-Some-2-clause-known
 returns-in_ok-push-in-Some-2-clause-known c =
     one_put c.args.with.now c.args.items.now c.push.new.self c.in-Some-2.object _ _ c.in_ok-push-in-Some-2.ensures
-    (subst (λ o. IfStill c.args.known.now c.meaning.new.known (IfSome o (AreThere c.args.with.now))) c.in-Some-2.is c.in_ok-meaning.ensures.known)
+    (subst (λ o. IfStill c.args.known.now c.meaning.new.known (IfSome o (AreSymbolsThere c.args.with.now))) c.in-Some-2.is c.in_ok-meaning.ensures.known)

@@ -1,6 +1,6 @@
 use Rattle.std.proofs.Common.{IfSome, subst, ◌∷◌, []}
 use Rattle.plain_reader.specs.Written.{literal_of, TakesItems, get_form_at}
-use Rattle.plain_reader.specs.Plain.{AreThere, IfStill}
+use Rattle.plain_reader.specs.Plain.{AreSymbolsThere, IfStill}
 use Rattle.plain_reader.proofs.WrittenItems.{two_end}
 use Rattle.plain_reader.proofs.Fronts.{front}
 use Rattle.plain_reader.proofs.written.written_assignment.Goals as goal
@@ -18,4 +18,4 @@ returns-in-len1-up-clause-takes c = λ h i one two.
 
 pub returns-in-len1-up-clause-known : goal.returns-in-len1-up-clause-known
 returns-in-len1-up-clause-known c =
-    subst (λ o. IfStill c.args.known.now c.literal.new.known (IfSome o (λ l. AreThere c.args.with.now (literal_of l.literal)))) c.in-Some-2.is c.in_ok-value.ensures.known
+    subst (λ o. IfStill c.args.known.now c.literal.new.known (IfSome o (λ l. AreSymbolsThere c.args.with.now (literal_of l.literal)))) c.in-Some-2.is c.in_ok-value.ensures.known

@@ -1,6 +1,6 @@
 use Rattle.std.proofs.Common.{◌≡◌, ◌<◌, ◌≤◌, length, sym, subst, ◌∙◌, arith}
 use Rattle.std.proofs.lemmas.List.{length-map}
-use Rattle.plist_state.specs.RowIndexes.{order_of, orders, nth, IsIndexed}
+use Rattle.plist_state.specs.RowIndexes.{order_of, orders, nth, IsRowIndex}
 use Rattle.plist_state.proofs.Placing.{inserted}
 use Rattle.plist_state.proofs.Indexing.{nth_read, IsIndexed-next, below_next, passed}
 use Rattle.plist_state.proofs.row_index.index_of.Goals as goal
@@ -25,4 +25,4 @@ pub returns : goal.returns
 returns c =
     let items = c.args.row.now.items in
     let long : length (orders items) ≡ length items = length-map items order_of in
-    subst (IsIndexed c.loop-place.index.entries) (passed c.loop-place.place (orders items) (omega (arith, long, c.loop-place-test.false, c.len-count.ensures))) c.loop-place.invariant.0
+    subst (IsRowIndex c.loop-place.index.entries) (passed c.loop-place.place (orders items) (omega (arith, long, c.loop-place-test.false, c.len-count.ensures))) c.loop-place.invariant.0

@@ -3,12 +3,12 @@ use Rattle.std.specs.Option.{option_copied}
 use Rattle.std.specs.Borrow.{Bor}
 use Rattle.property_rows.specs.Rows.{PropertyRow}
 use Rattle.plist_state.specs.Views.{Rows, row_at, items_in}
-use Rattle.plist_state.specs.RowIndexes.{Indexes, IsIndexedIn, AreIndexed}
+use Rattle.plist_state.specs.RowIndexes.{Indexes, IsIndexedIn, AreRowIndexes}
 use Rattle.plist_state.proofs.ListRows.{lent, list_found, proper_found}
 use Rattle.plist_state.proofs.Indexing.{IsIndexed-nil}
 use Rattle.plist_state.proofs.rows.row.Goals as goal
 
-indexed_found : (rows : Rows) (indexes : Indexes) (x : ℕ) (row : Option (Bor PropertyRow)) → option_copied row ≡ row_at rows x → AreIndexed rows indexes → IsIndexedIn indexes x (items_in row)
+indexed_found : (rows : Rows) (indexes : Indexes) (x : ℕ) (row : Option (Bor PropertyRow)) → option_copied row ≡ row_at rows x → AreRowIndexes rows indexes → IsIndexedIn indexes x (items_in row)
 indexed_found rows indexes x None is all = λ i there. IsIndexed-nil i.entries
 indexed_found rows indexes x (Some row) is all = all x row.now (sym is)
 

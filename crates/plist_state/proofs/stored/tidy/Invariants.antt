@@ -1,6 +1,6 @@
 use Rattle.std.proofs.Common.{◌≡◌}
 use Rattle.plist_state.specs.Views.{rest_of}
-use Rattle.plist_state.specs.RowIndexes.{AreIndexed}
+use Rattle.plist_state.specs.RowIndexes.{AreRowIndexes}
 use Rattle.plist_state.specs.KeptRows.{IsWider}
 use Rattle.plist_state.proofs.stored.tidy.Given as goal
 
@@ -9,4 +9,4 @@ abbrev pub invariant-loop-notes : goal.invariant-loop-notes
 invariant-loop-notes l =
     (rest_of l.stored ≡ rest_of l.initial.stored)
     × IsWider l.initial.stored.properties.items l.stored.properties.items
-    × AreIndexed l.stored.properties.items l.stored.indexes.entries
+    × AreRowIndexes l.stored.properties.items l.stored.indexes.entries

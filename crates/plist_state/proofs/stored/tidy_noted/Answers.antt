@@ -2,7 +2,7 @@ use Rattle.std.proofs.Common.{◌≡◌, sym, ap, subst, ◌∙◌}
 use Rattle.plist_state.specs.declared.stored.Stored.{Stored}
 use Rattle.plist_state.specs.Lists.{NumberedLists}
 use Rattle.plist_state.specs.Views.{rest_of}
-use Rattle.plist_state.specs.RowIndexes.{AreIndexed}
+use Rattle.plist_state.specs.RowIndexes.{AreRowIndexes}
 use Rattle.plist_state.specs.KeptRows.{IsWider}
 use Rattle.plist_state.proofs.ListRows.{wider_both}
 use Rattle.plist_state.proofs.stored.tidy_noted.Goals.{in-Some, in_default}
@@ -12,7 +12,7 @@ abbrev IsTidied : Stored → Stored → Type 0
 IsTidied old new =
     (rest_of new ≡ rest_of old)
     × IsWider old.properties.items new.properties.items
-    × AreIndexed new.properties.items new.indexes.entries
+    × AreRowIndexes new.properties.items new.indexes.entries
 
 pub loop-note-preserved : goal.loop-note-preserved
 loop-note-preserved c =

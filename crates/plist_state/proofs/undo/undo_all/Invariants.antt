@@ -1,6 +1,6 @@
 use Rattle.std.proofs.Common.{◌≡◌, length}
 use Rattle.plist_state.specs.Views.{rest_of}
-use Rattle.plist_state.specs.RowIndexes.{AreIndexed}
+use Rattle.plist_state.specs.RowIndexes.{AreRowIndexes}
 use Rattle.plist_state.specs.KeptRows.{IsWider}
 use Rattle.plist_state.specs.Undoing.{all_undone}
 use Rattle.plist_state.specs.Journal.{LeadsBack}
@@ -12,7 +12,7 @@ invariant-loop-note l =
     (all_undone l.notes.items (rest_of l.stored) ≡ all_undone l.initial.notes.items (rest_of l.initial.stored))
     × LeadsBack l.notes.items (rest_of l.stored) l.stored.properties.items
     × IsWider l.initial.stored.properties.items l.stored.properties.items
-    × AreIndexed l.stored.properties.items l.stored.indexes.entries
+    × AreRowIndexes l.stored.properties.items l.stored.indexes.entries
 
 abbrev pub decreases-loop-note : goal.decreases-loop-note
 decreases-loop-note l = length l.notes.items

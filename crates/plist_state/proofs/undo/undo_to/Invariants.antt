@@ -1,6 +1,6 @@
 use Rattle.std.proofs.Common.{◌≡◌, ◌<◌, ◌++◌, List, length}
 use Rattle.plist_state.specs.Views.{NumberedRest, rest_of}
-use Rattle.plist_state.specs.RowIndexes.{AreIndexed}
+use Rattle.plist_state.specs.RowIndexes.{AreRowIndexes}
 use Rattle.plist_state.specs.KeptRows.{IsWider}
 use Rattle.plist_state.specs.Undoing.{rests_at}
 use Rattle.plist_state.specs.Journal.{marks_of, IsJournal}
@@ -13,7 +13,7 @@ invariant-loop-newest l =
     × (l.mark < length l.marks.items)
     × IsJournal (marks_of l.marks.items) (rest_of l.stored) l.stored.properties.items
     × IsWider l.initial.stored.properties.items l.stored.properties.items
-    × AreIndexed l.stored.properties.items l.stored.indexes.entries
+    × AreRowIndexes l.stored.properties.items l.stored.indexes.entries
 
 abbrev pub decreases-loop-newest : goal.decreases-loop-newest
 decreases-loop-newest l = length l.marks.items

@@ -6,7 +6,7 @@ use Rattle.prevalence_store.specs.calls.Store.{StoreView}
 use Rattle.session_words.specs.declared.mode.Mode.TheVariants.{Current}
 use Rattle.sessions.specs.declared.ending.Ended.{Ended}
 use Rattle.sessions.specs.declared.ending.Ended.TheVariants.{End}
-use Rattle.session_words.specs.declared.wanted.Wanted.{Wanted}
+use Rattle.session_words.specs.declared.wanted.SessionOptions.{SessionOptions}
 use Rattle.user_macros.specs.Functions.{Functions}
 use Rattle.session_words.specs.declared.content.Content.TheVariants.{World}
 use Rattle.world_forms.specs.Forms.{forms}
@@ -15,9 +15,9 @@ use Rattle.program_tests.proofs.exports.taken_in.Goals as goal
 
 -- the law, of a text that is that of the forms, and a session that came to the end
 at_the_end : (functions : Functions) {D R : Type 0} (state : D → State) (s : WorldState) (text : List ℕ) → text ≡ forms s World
-    → ((wanted : Wanted) (old new : StoreView D R) (has held written : Option (List ℕ)) (ended : Ended) → wanted.mode ≡ Current
+    → ((wanted : SessionOptions) (old new : StoreView D R) (has held written : Option (List ℕ)) (ended : Ended) → wanted.mode ≡ Current
     → ServesWanted functions state wanted old new initial (Some (forms s World)) has held written ended → EndsWith new.world s ended)
-    → (wanted : Wanted) (old new : StoreView D R) (has held written : Option (List ℕ)) (ended : Ended) → wanted.mode ≡ Current
+    → (wanted : SessionOptions) (old new : StoreView D R) (has held written : Option (List ℕ)) (ended : Ended) → wanted.mode ≡ Current
     → ServesWanted functions state wanted old new initial (Some text) has held written ended → ended ≡ End → new.world ≡ Some s
 at_the_end functions state s text is law wanted old new has held written ended mode served stopped =
     subst (EndsWith new.world s) stopped

@@ -1,6 +1,6 @@
 use Rattle.std.proofs.Common.{◌≡◌, ◌+◌, Some, sym, ap, subst, ◌∙◌}
 use Rattle.std.proofs.lemmas.List.{nil_from_length}
-use Rattle.forgotten_names.specs.WorldsWithoutNames.{forgettable, forgotten}
+use Rattle.forgotten_names.specs.WorldsWithoutNames.{forgettable, without_unneeded_symbols}
 use Rattle.package_table.specs.Lookup.{home_by_name, is_used}
 use Rattle.package_table.specs.Readers.{imports}
 use Rattle.package_table.specs.Table.{symbol_count}
@@ -15,13 +15,13 @@ returns g c =
     let s = c.args.world.now.0 in
     let left = c.in_ok-left.left.0 in
     let sound = c.soundness.ensures.present in
-    let is : left ≡ forgotten held s = ap (λ (w : Worlds). w.0) c.in_ok-left.ensures in
+    let is : left ≡ without_unneeded_symbols held s = ap (λ (w : Worlds). w.0) c.in_ok-left.ensures in
     record {
       sound = subst IsSoundWorldState (sym is) (c.forgotten_worlds_are_sound.ensures held s sound);
-      again = ap (forgotten held) is ∙ c.forgetting_again_changes_nothing.ensures held s ∙ sym is;
+      again = ap (without_unneeded_symbols held) is ∙ c.forgetting_again_changes_nothing.ensures held s ∙ sym is;
       count =
           ap (λ (w : WorldState). symbol_count w.packages + c.in_ok-count.count) is
-          ∙ ap (λ n. symbol_count (forgotten held s).packages + n) c.in_ok-count.ensures
+          ∙ ap (λ n. symbol_count (without_unneeded_symbols held s).packages + n) c.in_ok-count.ensures
           ∙ c.forgettable_symbols_go.ensures.count held s;
       none = λ zero. is ∙ c.nothing_to_forget.ensures held s (nil_from_length (forgettable held s) (sym c.in_ok-count.ensures ∙ zero));
       kept = λ p n h here. ((c.needed_symbols_stay.ensures.found held s p n h sound).0 (subst (λ (w : WorldState). home_by_name w.packages p n ≡ Some h) is here)).0;

@@ -7,7 +7,7 @@ use Rattle.sessions.specs.declared.ending.Ended.{Ended}
 use Rattle.sessions.specs.declared.ending.Ended.TheVariants.{Unaccepted}
 use Rattle.sessions.specs.declared.ending.Place.{Place}
 use Rattle.session_words.specs.declared.mode.Mode.TheVariants.{Current}
-use Rattle.session_words.specs.declared.wanted.Wanted.{Wanted}
+use Rattle.session_words.specs.declared.wanted.SessionOptions.{SessionOptions}
 use Rattle.user_macros.specs.Functions.{Functions}
 use Rattle.program_tests.proofs.replicas.stopped_twice.Goals as goal
 
@@ -23,11 +23,11 @@ abbrev Stopped : Ended → Type 0
 Stopped ended = (number : ℕ) × (place : Place) × (ended ≡ Unaccepted number place)
 
 -- a session that ended so
-at_refusal : (functions : Functions) {D R : Type 0} (state : D → State) (wanted : Wanted) (old new : StoreView D R) (world : WorldState) (input has held written : Option (List ℕ)) (ended : Ended) (stopped : Stopped ended)
+at_refusal : (functions : Functions) {D R : Type 0} (state : D → State) (wanted : SessionOptions) (old new : StoreView D R) (world : WorldState) (input has held written : Option (List ℕ)) (ended : Ended) (stopped : Stopped ended)
     → ServesWanted functions state wanted old new world input has held written ended → ServesWanted functions state wanted old new world input has held written (Unaccepted stopped.0 stopped.1)
 at_refusal functions state wanted old new world input has held written ended stopped served = subst (ServesWanted functions state wanted old new world input has held written) stopped.2 served
 
-abbrev wanted : Wanted
+abbrev wanted : SessionOptions
 wanted = record { mode = Current; snapshot_every = 0; snapshot_ratio = 0; strict = true; group = true }
 
 pub returns-clause-bytes : goal.returns-clause-bytes

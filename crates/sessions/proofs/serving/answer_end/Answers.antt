@@ -3,7 +3,7 @@ use Rattle.form_reader.specs.Reader.{fed}
 use Rattle.lisp_object.specs.Datum.{object_of}
 use Rattle.sessions.specs.declared.input.Fed.{Fed}
 use Rattle.sessions.specs.steps.Course.{course_of}
-use Rattle.sessions.specs.steps.Input.{AreAllThere, Finishes, IsSoundFed, PlacesAreWithin}
+use Rattle.sessions.specs.steps.Input.{AreAllThere, FinishesInput, IsSoundFed, PlacesAreWithin}
 use Rattle.sessions.specs.steps.Serve.{EndsAt}
 use Rattle.sessions.proofs.EndedAt.{done_at_end, fault_at_end, memory_at_end, read_at_end}
 use Rattle.sessions.proofs.Pieces.{ended_form, last_begins, last_start}
@@ -19,7 +19,7 @@ pub returns-in-Nothing-clause-ends : goal.returns-in-Nothing-clause-ends
 returns-in-Nothing-clause-ends g c = λ w known bytes p.
     let functions = g.R.Meaning.Meaning.functions in
     done_at_end functions g.D.Disk.state g.met.D.Disk.sound c.args.wanted (course_of c.args.course.now) c.args.store.now w c.args.wanted.mode bytes (g.W.Recipient.contents c.args.writer.now) known
-    (sym (subst (λ (f : Fed). Finishes functions w c.args.wanted.mode bytes f) c.in-Nothing.is (c.in-Ok.ensures.finishes w known bytes p)))
+    (sym (subst (λ (f : Fed). FinishesInput functions w c.args.wanted.mode bytes f) c.in-Nothing.is (c.in-Ok.ensures.finishes w known bytes p)))
 
 pub place-place-requires-clause-start : goal.place-place-requires-clause-start
 place-place-requires-clause-start g c = let within = subst (λ (given : Fed). PlacesAreWithin (fed c.args.pending.reader) given) c.in-Refused.is c.in-Ok.ensures.within in omega (arith, within.0, c.requires.count)
@@ -34,7 +34,7 @@ returns-in-Refused-clause-ends g c = λ w known bytes p.
     let held = g.W.Recipient.contents c.args.writer.now in
     let written = g.W.Recipient.contents c.answer_fault.new.writer in
     let course = course_of c.args.course.now in
-    let told = subst (λ (fed : Fed). Finishes functions w c.args.wanted.mode bytes fed) f.is (c.in-Ok.ensures.finishes w known bytes p) in
+    let told = subst (λ (fed : Fed). FinishesInput functions w c.args.wanted.mode bytes fed) f.is (c.in-Ok.ensures.finishes w known bytes p) in
     let place = c.place-place.ensures in
     subst (λ ended. EndsAt functions g.D.Disk.state c.args.wanted course c.args.store.now c.answer_fault.new.store w c.args.wanted.mode bytes held written ended) (sym c.at.ensures)
     (fault_at_end functions g.D.Disk.state g.met.D.Disk.sound c.args.wanted course c.args.store.now c.answer_fault.new.store w c.args.wanted.mode bytes held written f.number f.at known told.0
@@ -44,7 +44,7 @@ pub answer_fault-requires-clause-stands : goal.answer_fault-requires-clause-stan
 answer_fault-requires-clause-stands g c = λ w known.
     let functions = g.R.Meaning.Meaning.functions in
     let s = c.requires.stands w known in
-    let told = subst (λ (fed : Fed). Finishes functions w c.args.wanted.mode s.0 fed) c.in-Refused.is (c.in-Ok.ensures.finishes w known s.0 s.1) in
+    let told = subst (λ (fed : Fed). FinishesInput functions w c.args.wanted.mode s.0 fed) c.in-Refused.is (c.in-Ok.ensures.finishes w known s.0 s.1) in
     (s.0, c.in-Refused.at, told.0, s.2)
 
 pub answer_read-requires : goal.answer_read-requires
@@ -56,7 +56,7 @@ answer_read-requires g c =
         begins = λ w known.
             let functions = g.R.Meaning.Meaning.functions in
             let p = c.requires.pending.some w known in
-            let last = (subst (λ (fed : Fed). Finishes functions w c.args.wanted.mode p.0 fed) f.is (c.in-Ok.ensures.finishes w known p.0 p.1)).0 in
+            let last = (subst (λ (fed : Fed). FinishesInput functions w c.args.wanted.mode p.0 fed) f.is (c.in-Ok.ensures.finishes w known p.0 p.1)).0 in
             (p.0, (_, last_begins functions w c.args.wanted.mode p.0 (object_of f.form.read.datum) f.form.own.items last f.form.own.items refl));
         proper = (subst IsSoundFed f.is c.in-Ok.ensures.sound).0;
         sound = (subst IsSoundFed f.is c.in-Ok.ensures.sound).1;
@@ -65,7 +65,7 @@ answer_read-requires g c =
       stands = λ w known.
           let functions = g.R.Meaning.Meaning.functions in
           let s = c.requires.stands w known in
-          let last = (subst (λ (fed : Fed). Finishes functions w c.args.wanted.mode s.0 fed) f.is (c.in-Ok.ensures.finishes w known s.0 s.1)).0 in (
+          let last = (subst (λ (fed : Fed). FinishesInput functions w c.args.wanted.mode s.0 fed) f.is (c.in-Ok.ensures.finishes w known s.0 s.1)).0 in (
             s.0,
             _,
             last_begins functions w c.args.wanted.mode s.0 (object_of f.form.read.datum) f.form.own.items last f.form.own.items refl,
@@ -80,7 +80,7 @@ pub returns-clause-ends : goal.returns-clause-ends
 returns-clause-ends g c = λ w known bytes p.
     let functions = g.R.Meaning.Meaning.functions in
     let f = c.in-Form in
-    let last = subst (λ (fed : Fed). Finishes functions w c.args.wanted.mode bytes fed) f.is (c.in-Ok.ensures.finishes w known bytes p) in
+    let last = subst (λ (fed : Fed). FinishesInput functions w c.args.wanted.mode bytes fed) f.is (c.in-Ok.ensures.finishes w known bytes p) in
     let within = subst (λ (given : Fed). PlacesAreWithin (fed c.args.pending.reader) given) f.is c.in-Ok.ensures.within in
     read_at_end functions g.D.Disk.state c.args.wanted (course_of c.args.course.now) (course_of c.answer_read.new.course) c.args.store.now c.answer_read.new.store w bytes
     (g.W.Recipient.contents c.args.writer.now) (g.W.Recipient.contents c.answer_read.new.writer) f.form.start f.form.next c.in-Err-answer_read.ended
@@ -93,7 +93,7 @@ pub returns-in-Ok-answer_read-clause-ends : goal.returns-in-Ok-answer_read-claus
 returns-in-Ok-answer_read-clause-ends g c = λ w known bytes p.
     let functions = g.R.Meaning.Meaning.functions in
     let f = c.in-Form in
-    let last = subst (λ (fed : Fed). Finishes functions w c.args.wanted.mode bytes fed) f.is (c.in-Ok.ensures.finishes w known bytes p) in
+    let last = subst (λ (fed : Fed). FinishesInput functions w c.args.wanted.mode bytes fed) f.is (c.in-Ok.ensures.finishes w known bytes p) in
     let passed = c.in-Ok-answer_read.ensures.answers w known bytes _
     (last_begins functions w c.args.wanted.mode bytes (object_of f.form.read.datum) f.form.own.items last.0 f.form.own.items refl)
     (last_start functions w c.args.wanted.mode bytes (object_of f.form.read.datum) f.form.own.items last.0 f.form.own.items refl ∙ last.1) in
@@ -118,7 +118,7 @@ returns-in-Ok-answer_read-clause-under_way g c =
     let here = known_world c.args.store.now.world c.requires.pending.is_open in
     let s = c.requires.stands here.0 here.1 in
     let f = c.in-Form in
-    let last = subst (λ (fed : Fed). Finishes functions here.0 c.args.wanted.mode s.0 fed) f.is (c.in-Ok.ensures.finishes here.0 here.1 s.0 s.1) in
+    let last = subst (λ (fed : Fed). FinishesInput functions here.0 c.args.wanted.mode s.0 fed) f.is (c.in-Ok.ensures.finishes here.0 here.1 s.0 s.1) in
     let passed = c.in-Ok-answer_read.ensures.answers here.0 here.1 s.0 _
     (last_begins functions here.0 c.args.wanted.mode s.0 (object_of f.form.read.datum) f.form.own.items last.0 f.form.own.items refl)
     (last_start functions here.0 c.args.wanted.mode s.0 (object_of f.form.read.datum) f.form.own.items last.0 f.form.own.items refl ∙ last.1) in

@@ -8,7 +8,7 @@ use Rattle.lisp_object.specs.Datum.{object_of}
 use Rattle.lisp_object.proofs.Objects.{object_of-List, object_of-dotted, object_of-Vector}
 use Rattle.lisp_object.proofs.Atoms.{atoms_List, atoms_Vector, pairs_atoms}
 use Rattle.canon_printer.proofs.Resolved.{nil_present}
-use Rattle.plist_state.specs.Sound.{IsKnown}
+use Rattle.plist_state.specs.Sound.{IsSymbolStorable}
 use Rattle.snapshot_text.proofs.known.+known.Goals as goal
 
 -- what holds of the atoms of a list holds of those of its items and of its end, and so of a vector
@@ -24,26 +24,26 @@ pub are_known-returns-then-not-each_known : goal.are_known-returns-then-not-each
 are_known-returns-then-not-each_known t c = (
   λ holds. absurd cc,
   λ all. absurd (both_ways c.each_known.result c.if-not-each_known.true
-      (c.each_known.ensures.1 (list_atoms (IsKnown c.args.packages.now.0) c.in-List.items c.in-List.tail c.args.datum.now c.in-List.is all).0)),
+      (c.each_known.ensures.1 (list_atoms (IsSymbolStorable c.args.packages.now.0) c.in-List.items c.in-List.tail c.args.datum.now c.in-List.is all).0)),
 )
 
 pub are_known-returns-else-not-each_known : goal.are_known-returns-else-not-each_known
 are_known-returns-else-not-each_known t c = (
-  λ holds. atoms_List (IsKnown c.args.packages.now.0) c.in-List.items c.in-List.tail c.args.datum.now c.in-List.is
+  λ holds. atoms_List (IsSymbolStorable c.args.packages.now.0) c.in-List.items c.in-List.tail c.args.datum.now c.in-List.is
       (c.each_known.ensures.0 c.if-not-each_known.false) (c.end_known.ensures.0 holds),
-  λ all. c.end_known.ensures.1 (list_atoms (IsKnown c.args.packages.now.0) c.in-List.items c.in-List.tail c.args.datum.now c.in-List.is all).1,
+  λ all. c.end_known.ensures.1 (list_atoms (IsSymbolStorable c.args.packages.now.0) c.in-List.items c.in-List.tail c.args.datum.now c.in-List.is all).1,
 )
 
 pub are_known-returns-in-Vector : goal.are_known-returns-in-Vector
 are_known-returns-in-Vector t c = (
-  λ holds. atoms_Vector (IsKnown c.args.packages.now.0) c.in-Vector.items c.args.datum.now c.in-Vector.is
+  λ holds. atoms_Vector (IsSymbolStorable c.args.packages.now.0) c.in-Vector.items c.args.datum.now c.in-Vector.is
       (c.each_known-in-Vector.ensures.0 holds) (nil_present c.args.packages.now.0 c.requires),
-  λ all. c.each_known-in-Vector.ensures.1 (vector_atoms (IsKnown c.args.packages.now.0) c.in-Vector.items c.args.datum.now c.in-Vector.is all),
+  λ all. c.each_known-in-Vector.ensures.1 (vector_atoms (IsSymbolStorable c.args.packages.now.0) c.in-Vector.items c.args.datum.now c.in-Vector.is all),
 )
 
 pub end_known-returns-in-None : goal.end_known-returns-in-None
 end_known-returns-in-None t c = (
-  λ _. subst (λ o. AllAtoms (IsKnown c.args.packages.now.0) (unwrap_or (option_map object_of o) nil)) (sym c.in-None.is)
+  λ _. subst (λ o. AllAtoms (IsSymbolStorable c.args.packages.now.0) (unwrap_or (option_map object_of o) nil)) (sym c.in-None.is)
       (nil_present c.args.packages.now.0 c.requires),
   λ _. refl,
 )

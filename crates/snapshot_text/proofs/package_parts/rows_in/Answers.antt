@@ -4,7 +4,7 @@ use Rattle.world_text.specs.Snapshot.{package_object}
 use Rattle.world_text.specs.Texts.{object_text}
 use Rattle.snapshot_lines.specs.declared.texts.Coming.{Coming}
 use Rattle.snapshot_lines.specs.declared.texts.Coming.TheVariants.{Item, End}
-use Rattle.snapshot_lines.specs.Texts.{items_rest, IsComing, LeavesLess}
+use Rattle.snapshot_lines.specs.Texts.{items_rest, IsNextItem, LeavesLess}
 use Rattle.snapshot_lines.proofs.Quoted.{IsItem, next_item}
 use Rattle.snapshot_text.specs.declared.package_parts.PackageParts.{PackageParts}
 use Rattle.snapshot_text.specs.Phases.{AreFirstRows, IsRowOf, other_packages}
@@ -35,7 +35,7 @@ returns-in-End c = λ s after sound e.
     let row = λ (p : Name). object_text s (package_object s p) in
     let last : IsItem row (drop before.0 (other_packages s)) after (End c.in-End.after) =
     next_item row (drop before.0 (other_packages s)) after (End c.in-End.after)
-    (subst (λ (x : Coming). IsComing (map row (drop before.0 (other_packages s))) after x) c.in-End.is (c.in_ok-after.ensures.item (map row (drop before.0 (other_packages s))) after before.3)) in
+    (subst (λ (x : Coming). IsNextItem (map row (drop before.0 (other_packages s))) after x) c.in-End.is (c.in_ok-after.ensures.item (map row (drop before.0 (other_packages s))) after before.3)) in
     (subst (λ (n : ℕ). AreFirstRows s n c.rows.rows.items) (none_left (other_packages s) before.0 before.1 last.0) before.2, last.1)
 
 pub returns-in_err-parts-in-Item : goal.returns-in_err-parts-in-Item
@@ -44,7 +44,7 @@ returns-in_err-parts-in-Item c = λ s after sound e.
     let row = λ (p : Name). object_text s (package_object s p) in
     let next : IsItem row (drop before.0 (other_packages s)) after (Item c.in-Item.item) =
     next_item row (drop before.0 (other_packages s)) after (Item c.in-Item.item)
-    (subst (λ (x : Coming). IsComing (map row (drop before.0 (other_packages s))) after x) c.in-Item.is (c.in_ok-after.ensures.item (map row (drop before.0 (other_packages s))) after before.3)) in
+    (subst (λ (x : Coming). IsNextItem (map row (drop before.0 (other_packages s))) after x) c.in-Item.is (c.in_ok-after.ensures.item (map row (drop before.0 (other_packages s))) after before.3)) in
     refused_same _ c.in_err-parts-in-Item.field-0.0 (c.in_err-parts-in-Item.ensures.row s next.0 (items_rest (map row next.1) ++ after) sound next.3)
     c.from_residual-in_err-parts-in-Item.result c.from_residual-in_err-parts-in-Item.ensures.1
 
@@ -56,7 +56,7 @@ rows-preserved c = record {
       let others = other_packages s in
       let next : IsItem row (drop before.0 others) after (Item c.in-Item.item) =
       next_item row (drop before.0 others) after (Item c.in-Item.item)
-      (subst (λ (x : Coming). IsComing (map row (drop before.0 others)) after x) c.in-Item.is (c.in_ok-after.ensures.item (map row (drop before.0 others)) after before.3)) in
+      (subst (λ (x : Coming). IsNextItem (map row (drop before.0 others)) after x) c.in-Item.is (c.in_ok-after.ensures.item (map row (drop before.0 others)) after before.3)) in
       let first = first_left others before.0 next.0 [] next.1 next.2 in
       let read = c.in_ok-parts-in-Item.ensures.row s next.0 (items_rest (map row next.1) ++ after) sound next.3 in
       let is : IsRowOf s (get_or others before.0 []) c.in_ok-parts-in-Item.parts = subst (λ (p : Name). IsRowOf s p c.in_ok-parts-in-Item.parts) first.1 read.0 in

@@ -5,7 +5,7 @@ use Rattle.readtable_core.specs.Tables.{Table, standard}
 use Rattle.readtable_core.proofs.Sound.{standard_sound}
 use Rattle.package_table.specs.Table.{Name, keyword}
 use Rattle.plist_state.specs.State.{WorldState}
-use Rattle.plist_state.specs.Sound.{IsNamed, IsSymbol}
+use Rattle.plist_state.specs.Sound.{HasKeywordFunctions, IsSymbol}
 use Rattle.world_text.specs.Snapshot.{entry_objects}
 use Rattle.snapshot_text.specs.BuiltWorlds.{with_table, CanBeMade, IsWritable}
 use Rattle.snapshot_lines.specs.declared.error.BuildError.TheVariants.{OutOfMemory}
@@ -43,7 +43,7 @@ returns c = λ proper name t object named there can.
     let may : CanBeMade s.readtables n = subst (CanBeMade s.readtables) (sym called) can in
     let made : c.make_readtable.new.world.0 ≡ with_table s n u =
     c.in_ok-make_readtable.ensures three.second_proper t.letters three.second (subst (λ x. IsSymbol s.packages (keyword, x)) (sym called) there) may in
-    let named_now : IsNamed c.make_readtable.new.world.0.packages t = subst (λ (x : WorldState). IsNamed x.packages t) (sym made) named in
+    let named_now : HasKeywordFunctions c.make_readtable.new.world.0.packages t = subst (λ (x : WorldState). HasKeywordFunctions x.packages t) (sym made) named in
     let w : IsWritable c.make_readtable.new.world.0.readtables n u =
     subst (λ (x : WorldState). IsWritable x.readtables n u) (sym made) (made_writable s n u may.other may.standard standard_sound.count) in
     subst (λ (x : WorldState). MatchResult c.put_entries.result (λ _. c.put_entries.new.world.0 ≡ x) (λ e. e ≡ OutOfMemory))

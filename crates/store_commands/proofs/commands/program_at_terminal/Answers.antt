@@ -3,13 +3,13 @@ use Rattle.clap.specs.Words.{Kinds, kind_of}
 use Rattle.store_commands.specs.Output.{held_by}
 use Rattle.store_commands.specs.Folders.{OpensStore}
 use Rattle.command_words.specs.CommandLine.{asked_in, faults_of}
-use Rattle.store_commands.specs.Status.{EndsAfter, IsAfterWords, IsCarriedOut, TakesWords}
+use Rattle.store_commands.specs.Status.{EndsAfter, IsStatusAfterWords, IsCarriedOut, TakesWords}
 use Rattle.store_commands.proofs.AtTerminal.{moved_there, nothing_there}
 use Rattle.command_words.proofs.FoundWords.{same_existing, same_folder, same_task}
 use Rattle.store_commands.proofs.FolderLaws.{moved_sitting}
 use Rattle.store_commands.specs.EndLines.{TellsFault}
 use Rattle.store_commands.specs.declared.status.Status.{Status}
-use Rattle.store_commands.specs.declared.told.Told.TheVariants.{Nothing}
+use Rattle.store_commands.specs.declared.told.Remark.TheVariants.{Nothing}
 use Rattle.store_commands.proofs.Statuses.{ends_after, memory_at, only_memory, told_after_words, words_carry_out, words_open}
 use Rattle.store_commands.proofs.commands.program_at_terminal.Given as given
 use Rattle.store_commands.proofs.commands.program_at_terminal.Goals as goal
@@ -49,7 +49,7 @@ returns-in-Ok-clause-taken g c = λ folder existing task taken.
 pub returns-in-Err-clause-ends : goal.returns-in-Err-clause-ends
 returns-in-Err-clause-ends g c =
     ends_after (faults_of (map g.S.AsStr.text c.args.words.now)) (kind_of c.in-Err.refusal) c.end_with.result c.in-Err.ensures.faults
-    (subst (IsAfterWords (kind_of c.in-Err.refusal)) (sym c.end_with.ensures.status) c.answer_words-status.ensures.status)
+    (subst (IsStatusAfterWords (kind_of c.in-Err.refusal)) (sym c.end_with.ensures.status) c.answer_words-status.ensures.status)
 
 pub returns-in-Err-clause-taken : goal.returns-in-Err-clause-taken
 returns-in-Err-clause-taken g c = λ folder existing task taken.

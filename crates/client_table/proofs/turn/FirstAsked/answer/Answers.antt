@@ -9,7 +9,7 @@ use Rattle.messages.specs.Rounds.{IfRefused, MayBeLogged, round_in}
 use Rattle.messages.specs.declared.request.TheConstants.{ANSWER_BYTES}
 use Rattle.plist_state.specs.State.{Worlds}
 use Rattle.prevalence_store.specs.declared.failure.Unadded.{Unadded}
-use Rattle.prevalence_store.specs.steps.Batch.{IsMarked, entries_of}
+use Rattle.prevalence_store.specs.steps.Batch.{IsWorldMarked, entries_of}
 use Rattle.prevalence_store.proofs.steps.Grouping.{marked_more}
 
 pub answer_up_to-requires : goal.answer_up_to-requires
@@ -20,7 +20,7 @@ answer_up_to-requires g c = record { none = ap (λ (r : Round). r.told) c.in_ok-
 pub back_to-requires : goal.back_to-requires
 back_to-requires g c =
     let w = c.args.world.now in
-    let marked : IsMarked w c.answer_up_to.new.world.1 = c.answer_up_to.ensures.marks w ([], ap (λ (s : Worlds). s.1) c.in_ok-round.ensures.marked) in
+    let marked : IsWorldMarked w c.answer_up_to.new.world.1 = c.answer_up_to.ensures.marks w ([], ap (λ (s : Worlds). s.1) c.in_ok-round.ensures.marked) in
     omega (arith, ap length marked.1, length-append w.1 (w.0 ∷ marked.0), c.mark_count-mark.ensures)
 
 pub returns-in-Err-Refused-clause-made : goal.returns-in-Err-Refused-clause-made
@@ -28,7 +28,7 @@ returns-in-Err-Refused-clause-made g c =
     let functions = g.R.Meaning.Meaning.functions in
     let turn = c.args.self.now in
     let w = c.args.world.now in
-    let marked : IsMarked w c.answer_up_to.new.world.1 = c.answer_up_to.ensures.marks w ([], ap (λ (s : Worlds). s.1) c.in_ok-round.ensures.marked) in
+    let marked : IsWorldMarked w c.answer_up_to.new.world.1 = c.answer_up_to.ensures.marks w ([], ap (λ (s : Worlds). s.1) c.in_ok-round.ensures.marked) in
     let back : c.back_to.new.self ≡ w = c.back_to.ensures.whole w marked.0 marked.1 (sym c.mark_count-mark.ensures) in
     let first = round_in c.in_ok-round.round c.begin.new.world.0 in
     let first_is : first ≡ first_round turn.last w.0 = c.in_ok-round.ensures.begun in
@@ -42,9 +42,9 @@ returns-in-Err-Refused-clause-made g c =
 pub returns-in-Err-Refused-clause-marks : goal.returns-in-Err-Refused-clause-marks
 returns-in-Err-Refused-clause-marks g c = λ worlds before.
     let w = c.args.world.now in
-    let marked : IsMarked w c.answer_up_to.new.world.1 = c.answer_up_to.ensures.marks w ([], ap (λ (s : Worlds). s.1) c.in_ok-round.ensures.marked) in
+    let marked : IsWorldMarked w c.answer_up_to.new.world.1 = c.answer_up_to.ensures.marks w ([], ap (λ (s : Worlds). s.1) c.in_ok-round.ensures.marked) in
     let back : c.back_to.new.self ≡ w = c.back_to.ensures.whole w marked.0 marked.1 (sym c.mark_count-mark.ensures) in
-    subst (λ (s : Worlds). IsMarked worlds s.1) (sym back) before
+    subst (λ (s : Worlds). IsWorldMarked worlds s.1) (sym back) before
 
 -- memory ran out
 pub returns-in-Err-OutOfMemory-clause-marks : goal.returns-in-Err-OutOfMemory-clause-marks
@@ -57,7 +57,7 @@ returns-in-Err-OutOfMemory-clause-marks g c = λ worlds before.
 pub back_to-requires-then-not-wrote : goal.back_to-requires-then-not-wrote
 back_to-requires-then-not-wrote g c =
     let w = c.args.world.now in
-    let marked : IsMarked w c.answer_up_to.new.world.1 = c.answer_up_to.ensures.marks w ([], ap (λ (s : Worlds). s.1) c.in_ok-round.ensures.marked) in
+    let marked : IsWorldMarked w c.answer_up_to.new.world.1 = c.answer_up_to.ensures.marks w ([], ap (λ (s : Worlds). s.1) c.in_ok-round.ensures.marked) in
     omega (arith, ap length marked.1, length-append w.1 (w.0 ∷ marked.0), c.mark_count-mark.ensures)
 
 pub returns-then-not-wrote-clause-made : goal.returns-then-not-wrote-clause-made
@@ -67,7 +67,7 @@ returns-then-not-wrote-clause-made g c =
     let w = c.args.world.now in
     let held = c.answer_up_to.new.round in
     let v = c.answer_up_to.new.world.0 in
-    let marked : IsMarked w c.answer_up_to.new.world.1 = c.answer_up_to.ensures.marks w ([], ap (λ (s : Worlds). s.1) c.in_ok-round.ensures.marked) in
+    let marked : IsWorldMarked w c.answer_up_to.new.world.1 = c.answer_up_to.ensures.marks w ([], ap (λ (s : Worlds). s.1) c.in_ok-round.ensures.marked) in
     let back : c.back_to-then-not-wrote.new.self ≡ w = c.back_to-then-not-wrote.ensures.whole w marked.0 marked.1 (sym c.mark_count-mark.ensures) in
     let first_is : round_in c.in_ok-round.round c.begin.new.world.0 ≡ first_round turn.last w.0 = c.in_ok-round.ensures.begun in
     let turned : round_in held v ≡ round_of functions turn w.0
@@ -82,9 +82,9 @@ returns-then-not-wrote-clause-made g c =
 pub returns-then-not-wrote-clause-marks : goal.returns-then-not-wrote-clause-marks
 returns-then-not-wrote-clause-marks g c = λ worlds before.
     let w = c.args.world.now in
-    let marked : IsMarked w c.answer_up_to.new.world.1 = c.answer_up_to.ensures.marks w ([], ap (λ (s : Worlds). s.1) c.in_ok-round.ensures.marked) in
+    let marked : IsWorldMarked w c.answer_up_to.new.world.1 = c.answer_up_to.ensures.marks w ([], ap (λ (s : Worlds). s.1) c.in_ok-round.ensures.marked) in
     let back : c.back_to-then-not-wrote.new.self ≡ w = c.back_to-then-not-wrote.ensures.whole w marked.0 marked.1 (sym c.mark_count-mark.ensures) in
-    subst (λ (s : Worlds). IsMarked worlds s.1) (sym back) before
+    subst (λ (s : Worlds). IsWorldMarked worlds s.1) (sym back) before
 
 -- ---- a message wrote
 

@@ -1,4 +1,4 @@
--- `reported` picks the calls with none pending. Assumes `Logic`.
+-- `after_report` picks the calls with none pending. Assumes `Logic`.
 use Rattle.std.proofs.Common.{List, [], ◌∷◌, ◌++◌, refl}
 use seplogic.Ra.Ura.{Ura}
 use mir.Syntax.{Fn}
@@ -27,7 +27,7 @@ use denote.Triple.Table.{entered}
 use denote.Triple.Walked.{says, Stays, stay_dropped, walk_of, ends_at, walk_Meets, Goes-dropped}
 use Rattle.deferred_disk.proofs.Walks.{none, none_made}
 use Rattle.deferred_disk.specs.contracts.past.Past as Past
-use Rattle.deferred_disk.specs.Calls.{reported}
+use Rattle.deferred_disk.specs.Calls.{after_report}
 use Rattle.deferred_disk.specs.contracts.past.Past.reported as F
 use Rattle.deferred_disk.specs.contracts.past.Past.reported.Key.{name as #self}
 use Rattle.deferred_disk.proofs.past.Past.reported.Statement as stated
@@ -60,7 +60,7 @@ module _ {M : Type 1} {𝓤 : Ura M} (𝓛 : Logic 𝓤) (at_mem : Memory → SP
         let a = z.0.3 in
         let vss = z.0.4 in
         let u : Val = vptr a.0.ref_ptr.0 a.0.ref_ptr.1 in
-        let past : (Past.the_row).Denot = record { calls = reported a.0.now.calls } in
+        let past : (Past.the_row).Denot = record { calls = after_report a.0.now.calls } in
         qed 𝓛 ((raw toks ⊛ ‵ (owns (types_at ended.signature.params z.0.0) a vss)) ∷ raw ((held z.0.0 a).requires z.1) ∷ []) ∵
         keep ! (0 ∷ []) $ split ! $ move ! (1 ∷ []) $ fsplit ! $ fsplit ! $ feq_l ! (λ is₀. drop ! $ drop ! $
         regoal ! (λ (us : List Val). prop (WpFn 𝓤 H C Λ function (us ++ []) Post)) is₀ refl $

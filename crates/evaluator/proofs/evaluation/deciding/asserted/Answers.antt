@@ -2,7 +2,7 @@ use Rattle.std.proofs.Common.{sym, subst, ◌∙◌}
 use Rattle.lisp_object.specs.Object.{nil}
 use Rattle.lisp_operators.specs.EvaluationAnswers.{Answers, done}
 use Rattle.lisp_operators.specs.Evaluation.{gives}
-use Rattle.evaluator.specs.declared.wanted.Wanted.TheVariants.{Truth}
+use Rattle.evaluator.specs.declared.wanted.ValueUse.TheVariants.{Truth}
 use Rattle.evaluator.specs.StandIns.{seen}
 use Rattle.evaluator.proofs.Deciding.{assert_refused, assert_false, assert_true}
 use Rattle.evaluator.proofs.evaluation.deciding.asserted.Goals as goal

@@ -6,7 +6,7 @@ use Rattle.lisp_reading.specs.Setting.{Setting, setting_of}
 use Rattle.lisp_reading.specs.Reading.{is_whitespace}
 use Rattle.form_reader.specs.declared.reader.FormReader.{FormReader}
 use Rattle.form_reader.specs.declared.reader.Advance.TheVariants.{More as AdvanceMore}
-use Rattle.form_reader.specs.Reader.{IsAfterBytes, HasBegun, HasRefused, Steps, StepsBegun}
+use Rattle.form_reader.specs.Reader.{IsAfterBytes, HasBegunAfter, HasRefused, Steps, StepsBegun}
 use Rattle.form_reader.proofs.Feeds.{more_is, counts_more, begins_more, advances_last, none_taken, none_begun, steps_on, begun_on, begun_last, feeds_last, feeds_whole, not_more, ok_more, refused_not_more}
 use Rattle.form_reader.proofs.Feeds.{each_holds}
 use Rattle.form_reader.proofs.reader.FormReader.feed.Goals as goal
@@ -42,7 +42,7 @@ loop-byte-preserved g c =
     c.loop-byte.invariant.limits c.in_ok-advance.ensures.steps in
     let on = steps_on (under c.args.self.now.limits) c.args.self.now c.loop-byte.self c.step.new.self c.args.bytes.now c.loop-byte.byte-index byte c.in_ok-advance.advance is
     c.loop-byte.invariant.after steps more in
-    let begun = subst (λ (l : Limits). (b : List ℕ) → IsAfterBytes (under l) c.loop-byte.self b → HasBegun (under l) c.loop-byte.self b → StepsBegun (under l) c.step.new.self (b ++ byte ∷ []) c.in_ok-advance.advance)
+    let begun = subst (λ (l : Limits). (b : List ℕ) → IsAfterBytes (under l) c.loop-byte.self b → HasBegunAfter (under l) c.loop-byte.self b → StepsBegun (under l) c.step.new.self (b ++ byte ∷ []) c.in_ok-advance.advance)
     c.loop-byte.invariant.limits c.in_ok-advance.ensures.has_begun in
     let counted = counts_more c.loop-byte.self c.step.new.self c.in_ok-advance.advance more c.in_ok-advance.ensures.counts in
     let begins = begins_more c.loop-byte.self c.step.new.self c.in_ok-advance.advance more c.in_ok-advance.ensures.begun in
@@ -133,7 +133,7 @@ returns-else-is_more-clause-has_begun g c = λ before a has.
     let is = take_more c.args.bytes.now c.loop-byte.byte-index 0 c.loop-byte-test.true in
     let steps = subst (λ (l : Limits). (b : List ℕ) → IsAfterBytes (under l) c.loop-byte.self b → Steps (under l) c.step.new.self (b ++ byte ∷ []) c.in_ok-advance.advance)
     c.loop-byte.invariant.limits c.in_ok-advance.ensures.steps in
-    let begins = subst (λ (l : Limits). (b : List ℕ) → IsAfterBytes (under l) c.loop-byte.self b → HasBegun (under l) c.loop-byte.self b → StepsBegun (under l) c.step.new.self (b ++ byte ∷ []) c.in_ok-advance.advance)
+    let begins = subst (λ (l : Limits). (b : List ℕ) → IsAfterBytes (under l) c.loop-byte.self b → HasBegunAfter (under l) c.loop-byte.self b → StepsBegun (under l) c.step.new.self (b ++ byte ∷ []) c.in_ok-advance.advance)
     c.loop-byte.invariant.limits c.in_ok-advance.ensures.has_begun in
     rw c.loop-byte.invariant.taken (begun_last (under c.args.self.now.limits) c.args.self.now c.loop-byte.self c.step.new.self c.args.bytes.now c.loop-byte.byte-index byte c.in_ok-advance.advance is
     c.loop-byte.invariant.after steps c.loop-byte.invariant.has_begun begins before a has)

@@ -6,7 +6,7 @@ use Rattle.messages.specs.Calls.{RefusesOwn}
 use Rattle.messages.specs.Fronts.{first_of}
 use Rattle.messages.specs.Rounds.{IfRefused, MayBeLogged, round_in}
 use Rattle.messages.specs.Turn.{round_of}
-use Rattle.prevalence_store.specs.steps.Batch.{IsMarked, entries_of}
+use Rattle.prevalence_store.specs.steps.Batch.{IsWorldMarked, entries_of}
 use Rattle.messages.proofs.Settling.{replied_silent, replied_written}
 use Rattle.prevalence_store.proofs.steps.Grouping.{marked_more}
 use Rattle.messages.proofs.first_requests.FirstRequests.answer.Goals as goal
@@ -19,7 +19,7 @@ answer_up_to-requires g c = record { none = ap (λ (r : Round). r.told) c.new-ro
 pub back_to-requires : goal.back_to-requires
 back_to-requires g c =
     let w = c.args.world.now in
-    let marked : IsMarked w c.answer_up_to.new.world.1 = c.answer_up_to.ensures.marks w ([], ap (λ (s : Worlds). s.1) c.in_ok-begun.ensures.marked) in
+    let marked : IsWorldMarked w c.answer_up_to.new.world.1 = c.answer_up_to.ensures.marks w ([], ap (λ (s : Worlds). s.1) c.in_ok-begun.ensures.marked) in
     omega (arith, ap length marked.1, length-append w.1 (w.0 ∷ marked.0), c.mark_count-mark.ensures)
 
 pub returns-in-Err-Refused-clause-made : goal.returns-in-Err-Refused-clause-made
@@ -27,7 +27,7 @@ returns-in-Err-Refused-clause-made g c =
     let functions = g.R.Meaning.Meaning.functions in
     let turn = c.args.self.now in
     let w = c.args.world.now in
-    let marked : IsMarked w c.answer_up_to.new.world.1 = c.answer_up_to.ensures.marks w ([], ap (λ (s : Worlds). s.1) c.in_ok-begun.ensures.marked) in
+    let marked : IsWorldMarked w c.answer_up_to.new.world.1 = c.answer_up_to.ensures.marks w ([], ap (λ (s : Worlds). s.1) c.in_ok-begun.ensures.marked) in
     let back : c.back_to.new.self ≡ w = c.back_to.ensures.whole w marked.0 marked.1 (sym c.mark_count-mark.ensures) in
     let first : round_in c.new-round.result c.begin.new.world.0 ≡ first_round turn.last w.0 = c.new-round.ensures ∙ ap (λ (s : Worlds). first_round turn.last s.0) c.in_ok-begun.ensures.marked in
     let e = c.in-Err-Refused in (
@@ -40,9 +40,9 @@ returns-in-Err-Refused-clause-made g c =
 pub returns-in-Err-Refused-clause-marks : goal.returns-in-Err-Refused-clause-marks
 returns-in-Err-Refused-clause-marks g c = λ worlds before.
     let w = c.args.world.now in
-    let marked : IsMarked w c.answer_up_to.new.world.1 = c.answer_up_to.ensures.marks w ([], ap (λ (s : Worlds). s.1) c.in_ok-begun.ensures.marked) in
+    let marked : IsWorldMarked w c.answer_up_to.new.world.1 = c.answer_up_to.ensures.marks w ([], ap (λ (s : Worlds). s.1) c.in_ok-begun.ensures.marked) in
     let back : c.back_to.new.self ≡ w = c.back_to.ensures.whole w marked.0 marked.1 (sym c.mark_count-mark.ensures) in
-    subst (λ (s : Worlds). IsMarked worlds s.1) (sym back) before
+    subst (λ (s : Worlds). IsWorldMarked worlds s.1) (sym back) before
 
 -- memory ran out
 pub returns-in-Err-OutOfMemory-clause-marks : goal.returns-in-Err-OutOfMemory-clause-marks
@@ -55,7 +55,7 @@ returns-in-Err-OutOfMemory-clause-marks g c = λ worlds before.
 pub back_to-requires-then-not-wrote : goal.back_to-requires-then-not-wrote
 back_to-requires-then-not-wrote g c =
     let w = c.args.world.now in
-    let marked : IsMarked w c.answer_up_to.new.world.1 = c.answer_up_to.ensures.marks w ([], ap (λ (s : Worlds). s.1) c.in_ok-begun.ensures.marked) in
+    let marked : IsWorldMarked w c.answer_up_to.new.world.1 = c.answer_up_to.ensures.marks w ([], ap (λ (s : Worlds). s.1) c.in_ok-begun.ensures.marked) in
     omega (arith, ap length marked.1, length-append w.1 (w.0 ∷ marked.0), c.mark_count-mark.ensures)
 
 pub returns-then-not-wrote-clause-made : goal.returns-then-not-wrote-clause-made
@@ -65,7 +65,7 @@ returns-then-not-wrote-clause-made g c =
     let w = c.args.world.now in
     let held = c.answer_up_to.new.self in
     let v = c.answer_up_to.new.world.0 in
-    let marked : IsMarked w c.answer_up_to.new.world.1 = c.answer_up_to.ensures.marks w ([], ap (λ (s : Worlds). s.1) c.in_ok-begun.ensures.marked) in
+    let marked : IsWorldMarked w c.answer_up_to.new.world.1 = c.answer_up_to.ensures.marks w ([], ap (λ (s : Worlds). s.1) c.in_ok-begun.ensures.marked) in
     let back : c.back_to-then-not-wrote.new.self ≡ w = c.back_to-then-not-wrote.ensures.whole w marked.0 marked.1 (sym c.mark_count-mark.ensures) in
     let first : round_in c.new-round.result c.begin.new.world.0 ≡ first_round turn.last w.0 = c.new-round.ensures ∙ ap (λ (s : Worlds). first_round turn.last s.0) c.in_ok-begun.ensures.marked in
     let turned : round_in held v ≡ round_of functions turn w.0 = c.in-Ok.ensures.answered ∙ ap (λ (r : Round). round_after_requests functions r (first_of functions turn.most r turn.requests.now)) first in
@@ -76,9 +76,9 @@ returns-then-not-wrote-clause-made g c =
 pub returns-then-not-wrote-clause-marks : goal.returns-then-not-wrote-clause-marks
 returns-then-not-wrote-clause-marks g c = λ worlds before.
     let w = c.args.world.now in
-    let marked : IsMarked w c.answer_up_to.new.world.1 = c.answer_up_to.ensures.marks w ([], ap (λ (s : Worlds). s.1) c.in_ok-begun.ensures.marked) in
+    let marked : IsWorldMarked w c.answer_up_to.new.world.1 = c.answer_up_to.ensures.marks w ([], ap (λ (s : Worlds). s.1) c.in_ok-begun.ensures.marked) in
     let back : c.back_to-then-not-wrote.new.self ≡ w = c.back_to-then-not-wrote.ensures.whole w marked.0 marked.1 (sym c.mark_count-mark.ensures) in
-    subst (λ (s : Worlds). IsMarked worlds s.1) (sym back) before
+    subst (λ (s : Worlds). IsWorldMarked worlds s.1) (sym back) before
 
 -- ---- a message wrote
 

@@ -1,7 +1,7 @@
 use Rattle.std.proofs.Common.{subst, sym, ◌∙◌, ap}
 use Rattle.plist_state.specs.State.{Worlds}
 use Rattle.messages.specs.Rounds.{MayBeLogged, round_in}
-use Rattle.prevalence_store.specs.steps.Batch.{IsMarked}
+use Rattle.prevalence_store.specs.steps.Batch.{IsWorldMarked}
 use Rattle.messages.proofs.Making.{asked_round, told_made}
 use Rattle.messages.proofs.round.Round.answer_question.Goals as goal
 
@@ -21,12 +21,12 @@ returns-in-Ok-push-clause-made g c = λ first made.
 
 pub returns-in-Ok-push-clause-marks : goal.returns-in-Ok-push-clause-marks
 returns-in-Ok-push-clause-marks g c = λ worlds marked.
-    subst (λ (s : Worlds). IsMarked worlds s.1) (sym c.answer_question.ensures.same) (c.clear.ensures.marks worlds marked)
+    subst (λ (s : Worlds). IsWorldMarked worlds s.1) (sym c.answer_question.ensures.same) (c.clear.ensures.marks worlds marked)
 
 pub returns-in-Err-push-clause-marks : goal.returns-in-Err-push-clause-marks
 returns-in-Err-push-clause-marks g c = λ worlds marked.
-    subst (λ (s : Worlds). IsMarked worlds s.1) (sym c.answer_question.ensures.same) (c.clear.ensures.marks worlds marked)
+    subst (λ (s : Worlds). IsWorldMarked worlds s.1) (sym c.answer_question.ensures.same) (c.clear.ensures.marks worlds marked)
 
 pub returns-in-Err-answer_question-clause-marks : goal.returns-in-Err-answer_question-clause-marks
 returns-in-Err-answer_question-clause-marks g c = λ worlds marked.
-    subst (λ (s : Worlds). IsMarked worlds s.1) (sym c.answer_question.ensures.same) (c.clear.ensures.marks worlds marked)
+    subst (λ (s : Worlds). IsWorldMarked worlds s.1) (sym c.answer_question.ensures.same) (c.clear.ensures.marks worlds marked)

@@ -1,5 +1,5 @@
 use Rattle.std.proofs.Common.{◌≡◌, ◌<◌, ◌-◌, ℕ, suc, cond, nat_eq, length, get_or, take, sym, ap, subst, ◌∙◌, arith}
-use Rattle.package_sets.specs.SymbolChains.{second_of, AreChained}
+use Rattle.package_sets.specs.SymbolChains.{second_of, AreChainsOfNames}
 use Rattle.package_sets.proofs.Chaining.{name_there, chained_pop, take_fits, take_holds}
 use Rattle.package_sets.proofs.chains.Chains.truncate_seconds.Goals as goal
 
@@ -9,7 +9,7 @@ pop-requires-clause-there c =
     let name : c.at.result.second ≡ second_of c.args.pairs.now (c.loop-kept.kept - 1) = ap (λ (p : ℕ × ℕ). p.1) c.at.ensures in
     subst (λ (j : ℕ). j < length c.loop-kept.self.lasts.items) (sym name)
     (name_there (second_of c.args.pairs.now) (c.loop-kept.kept - 1) c.loop-kept.self
-    (subst (λ (n : ℕ). AreChained (second_of c.args.pairs.now) n c.loop-kept.self) more c.loop-kept.invariant.chained))
+    (subst (λ (n : ℕ). AreChainsOfNames (second_of c.args.pairs.now) n c.loop-kept.self) more c.loop-kept.invariant.chained))
 
 pub loop-kept-preserved : goal.loop-kept-preserved
 loop-kept-preserved c =
@@ -18,7 +18,7 @@ loop-kept-preserved c =
     record {
       chained = chained_pop (second_of c.args.pairs.now) (c.loop-kept.kept - 1) c.loop-kept.self c.pop.new.self c.pop.ensures.befores
           (λ j. c.pop.ensures.lasts j ∙ ap (λ (m : ℕ). cond (nat_eq m j) (get_or c.loop-kept.self.befores.items (length c.pop.new.self.befores.items) 0) (get_or c.loop-kept.self.lasts.items j 0)) name)
-          (subst (λ (n : ℕ). AreChained (second_of c.args.pairs.now) n c.loop-kept.self) more c.loop-kept.invariant.chained);
+          (subst (λ (n : ℕ). AreChainsOfNames (second_of c.args.pairs.now) n c.loop-kept.self) more c.loop-kept.invariant.chained);
       fits = omega (arith, c.loop-kept.invariant.fits);
       enough = omega (arith, c.loop-kept-test.true, take_fits c.args.len c.args.pairs.now);
     }
@@ -27,4 +27,4 @@ pub returns : goal.returns
 returns c =
     let holds = take_holds c.args.len c.args.pairs.now c.loop-kept.kept (omega (arith, c.loop-kept-test.false)) c.loop-kept.invariant.fits in
     let is : c.loop-kept.kept ≡ length (take c.args.len c.args.pairs.now) = omega (arith, holds, c.loop-kept.invariant.enough) in
-    subst (λ (n : ℕ). AreChained (second_of c.args.pairs.now) n c.loop-kept.self) is c.loop-kept.invariant.chained
+    subst (λ (n : ℕ). AreChainsOfNames (second_of c.args.pairs.now) n c.loop-kept.self) is c.loop-kept.invariant.chained

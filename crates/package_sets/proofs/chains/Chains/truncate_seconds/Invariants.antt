@@ -1,11 +1,11 @@
 use Rattle.std.proofs.Common.{◌≤◌, ℕ, List, length, take}
 use Rattle.package_sets.specs.declared.chains.Chains.{Chains}
-use Rattle.package_sets.specs.SymbolChains.{second_of, AreChained}
+use Rattle.package_sets.specs.SymbolChains.{second_of, AreChainsOfNames}
 use Rattle.package_sets.proofs.chains.Chains.truncate_seconds.Given as goal
 
 -- the places are the first ones, and none of those that stay is gone
 pub record IsCut (pairs : List (ℕ × ℕ)) (len kept : ℕ) (now : Chains) : Type 0 where
-  pub chained : AreChained (second_of pairs) kept now
+  pub chained : AreChainsOfNames (second_of pairs) kept now
   pub fits : kept ≤ length pairs
   pub enough : length (take len pairs) ≤ kept
 

@@ -4,7 +4,7 @@ use Rattle.std.specs.List.{list_any}
 use Rattle.std.proofs.lemmas.List.{map-append, length-map, length_push}
 use Rattle.package_sets.specs.declared.pair.Pair.{Pair}
 use Rattle.package_sets.specs.KeptSets.{pair_eq}
-use Rattle.package_sets.specs.Groups.{group_at, pair_of, IsGrouped}
+use Rattle.package_sets.specs.Groups.{group_at, pair_of, ArePositionsGrouped}
 use Rattle.package_sets.proofs.Places.{position-map, none_any}
 use Rattle.package_sets.proofs.Positions.{grouped_push}
 use Rattle.package_sets.proofs.pairs.Pairs.push.Goals as goal
@@ -27,7 +27,7 @@ invariant_of-self-2 c =
     let number : c.len-len.result ≡ length (map pair_of ks) = c.len-len.ensures.len ∙ sym (length-map ks pair_of) in
     record {
       few = omega (arith, ap length read, length_push (map pair_of ks) (pair_of pair), number, c.if-len.false);
-      grouped = subst (IsGrouped c.note.new.groups.items) (sym read) (grouped_push gs c.note.new.groups.items (map pair_of ks) (pair_of pair) c.self.invariant.grouped
+      grouped = subst (ArePositionsGrouped c.note.new.groups.items) (sym read) (grouped_push gs c.note.new.groups.items (map pair_of ks) (pair_of pair) c.self.invariant.grouped
           (λ f. c.in_ok-note.ensures.ok f ∙ ap (λ n. cond (nat_eq c.args.first f) (group_at gs f ++ n ∷ []) (group_at gs f)) number));
     }
 

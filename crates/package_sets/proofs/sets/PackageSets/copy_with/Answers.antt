@@ -1,7 +1,7 @@
 use Rattle.std.proofs.Common.{◌≡◌, length, sym, ap, subst, ◌∙◌}
 use Rattle.package_sets.specs.KeptSets.{Kept}
 use Rattle.package_sets.specs.Consistent.{IsGood}
-use Rattle.package_sets.specs.SymbolChains.{external_name, AreChained}
+use Rattle.package_sets.specs.SymbolChains.{external_name, AreChainsOfNames}
 use Rattle.package_sets.specs.Views.{kept_of}
 use Rattle.package_sets.proofs.sets.PackageSets.copy_with.Goals as goal
 
@@ -26,7 +26,7 @@ invariant_of-result c =
     } in
     record {
       good = subst IsGood is c.self.invariant.good;
-      chained = subst (λ (k : Kept). AreChained (external_name k.symbols k.externals) (length k.externals) c.args.chains) (sym c.self.view_is ∙ is) c.requires.chained;
+      chained = subst (λ (k : Kept). AreChainsOfNames (external_name k.symbols k.externals) (length k.externals) c.args.chains) (sym c.self.view_is ∙ is) c.requires.chained;
     }
 
 pub returns : goal.returns

@@ -1,7 +1,7 @@
 use Rattle.std.proofs.Common.{◌≡◌, ℕ, List, length, take, sym, subst}
 use Rattle.package_sets.specs.KeptSets.{Kept, cut}
 use Rattle.package_sets.specs.Consistent.{IsGood}
-use Rattle.package_sets.specs.SymbolChains.{external_name, AreChained}
+use Rattle.package_sets.specs.SymbolChains.{external_name, AreChainsOfNames}
 use Rattle.package_sets.specs.Views.{kept_of}
 use Rattle.package_sets.proofs.Chaining.{chained_cut}
 use Rattle.package_sets.proofs.sets.PackageSets.cut.Goals as goal
@@ -29,6 +29,6 @@ invariant_of-self c =
     } in
     record {
       good = subst IsGood is good;
-      chained = subst (λ (ps : List (ℕ × ℕ) × List (ℕ × ℕ)). AreChained (external_name ps.0 ps.1) (length ps.1) c.truncate.new.self) (λ i. (sym c.truncate-4.ensures i, sym c.truncate-7.ensures i))
+      chained = subst (λ (ps : List (ℕ × ℕ) × List (ℕ × ℕ)). AreChainsOfNames (external_name ps.0 ps.1) (length ps.1) c.truncate.new.self) (λ i. (sym c.truncate-4.ensures i, sym c.truncate-7.ensures i))
           (chained_cut c.self.inside.symbols c.self.inside.externals (length (take c.args.sizes.packages c.self.inside.packages)) c.args.sizes.externals c.args.sizes.symbols c.truncate.new.self good.within.externals c.truncate.ensures);
     }

@@ -3,7 +3,7 @@ use Rattle.package_sets.specs.KeptSets.{Kept, pair_eq}
 use Rattle.package_sets.specs.Consistent.{IsGood}
 use Rattle.package_sets.specs.Changes.{symbol_named, number_among, with_name}
 use Rattle.package_sets.specs.Views.{kept_of}
-use Rattle.package_sets.specs.SymbolChains.{external_name, AreChained}
+use Rattle.package_sets.specs.SymbolChains.{external_name, AreChainsOfNames}
 use Rattle.package_sets.proofs.Chaining.{chained_symbol}
 use Rattle.package_sets.proofs.Growing.{absent_symbol, good_symbol}
 use Rattle.package_sets.proofs.sets.PackageSets.intern.Goals as goal
@@ -27,6 +27,6 @@ invariant_of-self-in_default c =
     λ i. record k { names = sym names i; symbols = sym symbols i } in
     record {
       good = subst IsGood is (good_symbol k c.self.invariant.good c.args.home c.args.name.now home none);
-      chained = subst (λ (ps : List (ℕ × ℕ)). AreChained (external_name ps k.externals) (length k.externals) c.self.inside.chains) (sym symbols)
+      chained = subst (λ (ps : List (ℕ × ℕ)). AreChainsOfNames (external_name ps k.externals) (length k.externals) c.self.inside.chains) (sym symbols)
           (chained_symbol k.symbols k.externals (length k.packages) c.self.invariant.good.within.externals (c.args.home, number_among k.names c.args.name.now) c.self.inside.chains c.self.invariant.chained);
     }

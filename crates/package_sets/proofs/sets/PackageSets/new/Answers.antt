@@ -1,7 +1,7 @@
 use Rattle.std.proofs.Common.{◌≡◌, ℕ, List, [], length, sym, subst}
 use Rattle.package_sets.specs.KeptSets.{Kept, nothing}
 use Rattle.package_sets.specs.Consistent.{IsGood}
-use Rattle.package_sets.specs.SymbolChains.{external_name, AreChained}
+use Rattle.package_sets.specs.SymbolChains.{external_name, AreChainsOfNames}
 use Rattle.package_sets.proofs.Growing.{good_nothing}
 use Rattle.package_sets.proofs.sets.PackageSets.new.Goals as goal
 
@@ -26,5 +26,5 @@ invariant_of-result c =
     } in
     record {
       good = subst IsGood is good_nothing;
-      chained = subst (λ (ps : List (ℕ × ℕ)). AreChained (external_name c.new-3.result ps) (length ps) c.new-7.result) (sym c.new-6.ensures) (c.new-7.ensures (external_name c.new-3.result []));
+      chained = subst (λ (ps : List (ℕ × ℕ)). AreChainsOfNames (external_name c.new-3.result ps) (length ps) c.new-7.result) (sym c.new-6.ensures) (c.new-7.ensures (external_name c.new-3.result []));
     }

@@ -1,7 +1,7 @@
 use Rattle.std.proofs.Common.{◌<◌, ℕ, List, length, position, sym, ap, subst, ◌∙◌}
 use Rattle.package_sets.specs.KeptSets.{Kept, pair_eq}
 use Rattle.package_sets.specs.Consistent.{IsGood}
-use Rattle.package_sets.specs.SymbolChains.{external_name, AreChained}
+use Rattle.package_sets.specs.SymbolChains.{external_name, AreChainsOfNames}
 use Rattle.package_sets.specs.Views.{kept_of}
 use Rattle.package_sets.proofs.Growing.{good_external}
 use Rattle.package_sets.proofs.Chaining.{chained_kept, chained_external}
@@ -18,7 +18,7 @@ invariant_of-self-in_err-push c =
     let k : Kept = kept_of c.self.inside in
     record {
       good = subst (λ (ps : List (ℕ × ℕ)). IsGood (record k { externals = ps })) (sym c.in_err-push.ensures.err) c.self.invariant.good;
-      chained = subst (λ (ps : List (ℕ × ℕ)). AreChained (external_name c.self.inside.symbols ps) (length ps) c.reserve.new.self) (sym c.in_err-push.ensures.err)
+      chained = subst (λ (ps : List (ℕ × ℕ)). AreChainsOfNames (external_name c.self.inside.symbols ps) (length ps) c.reserve.new.self) (sym c.in_err-push.ensures.err)
           (chained_kept (external_name c.self.inside.symbols c.self.inside.externals) (length c.self.inside.externals) c.self.inside.chains c.reserve.new.self c.reserve.ensures.lasts c.reserve.ensures.befores c.self.invariant.chained);
     }
 
@@ -32,7 +32,7 @@ invariant_of-self-2 c =
     record {
       good = subst (λ (ps : List (ℕ × ℕ)). IsGood (record k { externals = ps })) (sym c.in_ok-push.ensures.ok)
           (good_external k c.self.invariant.good c.args.owner c.args.symbol owner symbol none);
-      chained = subst (λ (ps : List (ℕ × ℕ)). AreChained (external_name c.self.inside.symbols ps) (length ps) c.push_reserved.new.self) (sym c.in_ok-push.ensures.ok)
+      chained = subst (λ (ps : List (ℕ × ℕ)). AreChainsOfNames (external_name c.self.inside.symbols ps) (length ps) c.push_reserved.new.self) (sym c.in_ok-push.ensures.ok)
           (chained_external c.self.inside.symbols c.self.inside.externals (c.args.owner, c.args.symbol) c.at-name.result.second c.len.result c.reserve.new.self c.push_reserved.new.self
           (ap (λ (p : ℕ × ℕ). p.1) c.at-name.ensures) (c.len.ensures ∙ ap (λ (ps : List (ℕ × ℕ)). length ps) c.in_ok-push.ensures.ok) c.push_reserved.ensures.lasts c.push_reserved.ensures.befores before);
     }

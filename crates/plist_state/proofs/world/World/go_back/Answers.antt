@@ -9,7 +9,7 @@ use Rattle.plist_state.specs.State.{WorldState, Worlds}
 use Rattle.plist_state.specs.Views.{NumberedRest, Rows, rest_of}
 use Rattle.plist_state.specs.Undoing.{rests_at}
 use Rattle.plist_state.specs.Journal.{marks_of}
-use Rattle.plist_state.specs.MarkedWorlds.{AreKept, AreReplaced, earlier_states, marked_states, state_in}
+use Rattle.plist_state.specs.MarkedWorlds.{AreMarksSound, AreReplacedParts, earlier_states, marked_states, state_in}
 use Rattle.plist_state.proofs.Notes.{notes_of}
 use Rattle.plist_state.proofs.Marking.{states_take, kept_back, state_at, sound_at, owned_at}
 use Rattle.plist_state.proofs.Earlier.{count_left, last_kept, replaced_pop, own_mark, put_back, back_within}
@@ -21,7 +21,7 @@ overflow_sub-self c =
     let a = c.self.inside in
     let es : List Replaced = c.pop.new.self.items in
     let e : Replaced = c.in-Some.before in
-    let all : AreReplaced (es ++ e ∷ []) a.earlier_marks = subst (λ (fs : List Replaced). AreReplaced fs a.earlier_marks) c.in-Some.ensures.items c.self.invariant.earlier in
+    let all : AreReplacedParts (es ++ e ∷ []) a.earlier_marks = subst (λ (fs : List Replaced). AreReplacedParts fs a.earlier_marks) c.in-Some.ensures.items c.self.invariant.earlier in
     omega (arith, count_left es e a.earlier_marks all, c.len.ensures, e.marks.ok.0)
 
 pub invariant_of-self : goal.invariant_of-self
@@ -30,7 +30,7 @@ invariant_of-self c =
     let es : List Replaced = c.pop.new.self.items in
     let e : Replaced = c.in-Some.before in
     let n : ℕ = a.earlier_marks in
-    let all : AreReplaced (es ++ e ∷ []) n = subst (λ (fs : List Replaced). AreReplaced fs n) c.in-Some.ensures.items c.self.invariant.earlier in
+    let all : AreReplacedParts (es ++ e ∷ []) n = subst (λ (fs : List Replaced). AreReplacedParts fs n) c.in-Some.ensures.items c.self.invariant.earlier in
     let left : n ≡ (n - (c.len.result + 1)) + length e.marks.items + 1 = omega (arith, count_left es e n all, c.len.ensures, e.marks.ok.0) in
     record {
       now = last_kept es e n all;
@@ -43,7 +43,7 @@ returns-then-mark-self c =
     let es : List Replaced = c.pop.new.self.items in
     let e : Replaced = c.in-Some.before in
     let n : ℕ = a.earlier_marks in
-    let all : AreReplaced (es ++ e ∷ []) n = subst (λ (fs : List Replaced). AreReplaced fs n) c.in-Some.ensures.items c.self.invariant.earlier in
+    let all : AreReplacedParts (es ++ e ∷ []) n = subst (λ (fs : List Replaced). AreReplacedParts fs n) c.in-Some.ensures.items c.self.invariant.earlier in
     let marked : List WorldState = marked_states a.packages.1.marked (rests_at (marks_of a.marks.items) (rest_of a.stored)) in
     let is : earlier_states (es ++ e ∷ []) ++ marked ≡ c.args.self.now.1 =
     ap (λ (fs : List Replaced). earlier_states fs ++ marked) (sym c.in-Some.ensures.items) ∙ ap (λ (w : Worlds). w.1) c.self.view_is in
@@ -82,7 +82,7 @@ invariant_of-self-2 c =
             (subst (λ (vs : List (Vec Note)). slice_get (rests_at (marks_of vs) r) own ≡ Some u) (sym c.as_slice.ensures.value) c.undo_to.ensures.now) c.self.invariant.now.sizes;
         owned = owned_at ts ms r rows c.self.invariant.now.marked own (table_now c.back_to.new.self) u c.back_to.ensures.now c.undo_to.ensures.now;
         sound = sound_at ts ms r rows c.self.invariant.now.marked own (table_now c.back_to.new.self) u c.back_to.ensures.now c.undo_to.ensures.now;
-        marked = subst (λ us. AreKept us ns u c.undo_to.new.stored.properties.items) (sym c.back_to.ensures.past)
+        marked = subst (λ us. AreMarksSound us ns u c.undo_to.new.stored.properties.items) (sym c.back_to.ensures.past)
             (kept_back ts ms r rows c.self.invariant.now.marked own ns u c.undo_to.ensures.past c.undo_to.new.stored.properties.items c.undo_to.ensures.journal);
       };
       earlier = c.self.invariant.earlier;

@@ -3,12 +3,12 @@ use Rattle.std.proofs.lemmas.List.{map_push}
 use Rattle.package_table.specs.Numbers.{Numbered, Tables, table_now, with_mark}
 use Rattle.plist_state.specs.declared.note.Note.{Note}
 use Rattle.plist_state.specs.State.{WorldState, Worlds}
-use Rattle.plist_state.specs.Lists.{IsOwned}
+use Rattle.plist_state.specs.Lists.{AreListsOfSymbols}
 use Rattle.plist_state.specs.Views.{NumberedRest, Rows, rest_of}
 use Rattle.plist_state.specs.Sound.{IsSoundWorldState}
 use Rattle.plist_state.specs.Undoing.{rests_at}
 use Rattle.plist_state.specs.Journal.{marks_of}
-use Rattle.plist_state.specs.MarkedWorlds.{state_in, AreKept, marked_states, earlier_states}
+use Rattle.plist_state.specs.MarkedWorlds.{state_in, AreMarksSound, marked_states, earlier_states}
 use Rattle.plist_state.proofs.Notes.{notes_of}
 use Rattle.plist_state.proofs.Marking.{states_push, kept_push}
 use Rattle.plist_state.proofs.Earlier.{marks_in}
@@ -30,10 +30,10 @@ invariant_of-self-2 c =
         values = c.self.invariant.now.values;
         indexed = c.self.invariant.now.indexed;
         sizes = c.self.invariant.now.sizes;
-        owned = subst (λ (us : Tables). IsOwned (table_now us) r.properties) (sym changed) c.self.invariant.now.owned;
+        owned = subst (λ (us : Tables). AreListsOfSymbols (table_now us) r.properties) (sym changed) c.self.invariant.now.owned;
         sound = subst (λ (us : Tables). IsSoundWorldState (state_in (table_now us) r)) (sym changed) c.self.invariant.now.sound;
-        marked = subst (λ (us : Tables). AreKept us.1.marked (marks_of c.push_reserved.new.self.items) r rows) (sym changed)
-            (subst (λ ns. AreKept (ts ++ t ∷ []) ns r rows) (sym items) (kept_push ts ms r rows c.self.invariant.now.marked t c.self.invariant.now.owned c.self.invariant.now.sound));
+        marked = subst (λ (us : Tables). AreMarksSound us.1.marked (marks_of c.push_reserved.new.self.items) r rows) (sym changed)
+            (subst (λ ns. AreMarksSound (ts ++ t ∷ []) ns r rows) (sym items) (kept_push ts ms r rows c.self.invariant.now.marked t c.self.invariant.now.owned c.self.invariant.now.sound));
       };
       earlier = c.self.invariant.earlier;
     }

@@ -9,7 +9,7 @@ use Rattle.plist_state.specs.PushedLists.{holds_pair, pair_size, pushed_list, wi
 use Rattle.plist_state.specs.State.{Worlds}
 use Rattle.plist_state.specs.Views.{NumberedRest, symbol_of, rest_of}
 use Rattle.plist_state.specs.Sound.{IsSymbol, IsValue, IsSoundWorldState}
-use Rattle.plist_state.specs.Lists.{same_number, plist_of_number, value_in, IsNumber, named_plist, IsOwned}
+use Rattle.plist_state.specs.Lists.{same_number, plist_of_number, value_in, IsNumber, named_plist, AreListsOfSymbols}
 use Rattle.plist_state.specs.Journal.{marks_of}
 use Rattle.plist_state.specs.MarkedWorlds.{state_in, earlier_states}
 use Rattle.plist_state.specs.Sizes.{AreSizes, AreOtherSizes}
@@ -68,7 +68,7 @@ invariant_of-self c =
         values = c.push.ensures.wider.values c.self.invariant.now.values;
         indexed = c.push.ensures.indexed;
         sizes = subst (λ (q : NumberedRest). AreSizes q.properties a.sizes.entries) (sym c.in_err-push.ensures.err) c.self.invariant.now.sizes;
-        owned = kept_rest c.push.result (λ q. IsOwned s q.properties) r made u c.push.ensures.ok c.push.ensures.err c.self.invariant.now.owned
+        owned = kept_rest c.push.result (λ q. AreListsOfSymbols s q.properties) r made u c.push.ensures.ok c.push.ensures.err c.self.invariant.now.owned
             (owned_put s (symbol_count s.0) c.numbering.ensures r.properties x n _ owner_is numbers c.self.invariant.now.owned);
         marked = kept_continued a.packages.1.marked (marks_of a.marks.items) r a.stored.properties.items c.self.invariant.now.marked (marks_of c.push.new.marks.items) u c.push.new.stored.properties.items
             c.push.ensures.marked (fits_now a.stored.properties.items r refl) c.push.ensures.wider;
@@ -110,7 +110,7 @@ invariant_of-self-2 c =
             (subst (λ (q : NumberedRest). AreOtherSizes q.properties n j a.sizes.entries) (sym c.in_ok-push.ensures.ok)
             (others_with r.properties n j a.sizes.entries c.self.invariant.now.sizes (pushed_list v (value_in r.properties n j))))
             (subst (λ (q : NumberedRest). pair_size (value_in q.properties n j) ≡ Some c.args.size) (sym c.in_ok-push.ensures.ok) (size_pushed r.properties n j v c.args.size size_is));
-        owned = kept_rest c.push.result (λ q. IsOwned s q.properties) r made u c.push.ensures.ok c.push.ensures.err c.self.invariant.now.owned
+        owned = kept_rest c.push.result (λ q. AreListsOfSymbols s q.properties) r made u c.push.ensures.ok c.push.ensures.err c.self.invariant.now.owned
             (owned_put s (symbol_count s.0) c.numbering.ensures r.properties x n _ owner_is numbers c.self.invariant.now.owned);
         marked = kept_continued a.packages.1.marked (marks_of a.marks.items) r a.stored.properties.items c.self.invariant.now.marked (marks_of c.push.new.marks.items) u c.push.new.stored.properties.items
             c.push.ensures.marked (fits_now a.stored.properties.items r refl) c.push.ensures.wider;

@@ -1,7 +1,7 @@
 use Rattle.std.proofs.Common.{◌≡◌, ◌<◌, ◌^◌, ◌+◌, ◌++◌, [], ◌∷◌, ℕ, List, length, sym, ap, subst, ◌∙◌, arith}
 use Rattle.plist_state.specs.declared.replaced.Replaced.{Replaced}
 use Rattle.plist_state.specs.State.{Worlds}
-use Rattle.plist_state.specs.MarkedWorlds.{worlds_in, earlier_states, IsReplaced, AreReplaced}
+use Rattle.plist_state.specs.MarkedWorlds.{worlds_in, earlier_states, CanBePutBack, AreReplacedParts}
 use Rattle.plist_state.proofs.Earlier.{parts, placed, replaced_push}
 use Rattle.plist_state.proofs.world.World.put_in_place.Goals as goal
 
@@ -20,8 +20,8 @@ invariant_of-self-2 c =
     let count : marks ≡ a.earlier_marks + length a.marks.items + 1 = omega (arith, c.len.ensures, a.marks.ok.0) in
     let below : marks < 2 ^ 62 = omega (arith, c.if-earlier_marks-ge-MOST_EARLIER_MARKS.false) in
     record {
-      now = subst IsReplaced (sym is) c.into_parts-other.ensures.kept;
-      earlier = subst (λ (es : List Replaced). AreReplaced es marks) (sym items)
+      now = subst CanBePutBack (sym is) c.into_parts-other.ensures.kept;
+      earlier = subst (λ (es : List Replaced). AreReplacedParts es marks) (sym items)
           (replaced_push a.earlier.items a.earlier_marks (parts a) marks c.self.invariant.earlier c.self.invariant.now count below);
     }
 

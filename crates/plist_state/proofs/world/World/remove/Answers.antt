@@ -9,7 +9,7 @@ use Rattle.plist_state.specs.Changes.{property}
 use Rattle.plist_state.specs.State.{Worlds}
 use Rattle.plist_state.specs.Views.{NumberedRest, symbol_of, rest_of}
 use Rattle.plist_state.specs.Sound.{IsSymbol, IsSoundWorldState}
-use Rattle.plist_state.specs.Lists.{same_number, plist_of_number, IsNumber, named_plist, IsOwned}
+use Rattle.plist_state.specs.Lists.{same_number, plist_of_number, IsNumber, named_plist, AreListsOfSymbols}
 use Rattle.plist_state.specs.Journal.{marks_of}
 use Rattle.plist_state.specs.MarkedWorlds.{state_in, earlier_states}
 use Rattle.plist_state.specs.Sizes.{AreSizes}
@@ -71,7 +71,7 @@ invariant_of-self c =
         sizes = kept_rest c.remove.result (λ q. AreSizes q.properties c.forget.new.sizes.entries) r made u c.remove.ensures.ok c.remove.ensures.err
             (c.forget.ensures r.properties (same_others r.properties n j a.sizes.entries c.self.invariant.now.sizes))
             (c.forget.ensures made.properties (others_without r.properties n j a.sizes.entries c.self.invariant.now.sizes));
-        owned = kept_rest c.remove.result (λ q. IsOwned s q.properties) r made u c.remove.ensures.ok c.remove.ensures.err c.self.invariant.now.owned
+        owned = kept_rest c.remove.result (λ q. AreListsOfSymbols s q.properties) r made u c.remove.ensures.ok c.remove.ensures.err c.self.invariant.now.owned
             (owned_put s (symbol_count s.0) c.numbering.ensures r.properties x n _ owner_is
             (all_without same_number (λ p. IsNumber s p.0) row j (c.self.invariant.now.owned.indicators n)) c.self.invariant.now.owned);
         marked = kept_continued a.packages.1.marked (marks_of a.marks.items) r a.stored.properties.items c.self.invariant.now.marked (marks_of c.remove.new.marks.items) u c.remove.new.stored.properties.items

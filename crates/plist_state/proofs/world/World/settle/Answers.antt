@@ -1,7 +1,7 @@
 use Rattle.std.proofs.Common.{◌≡◌, [], ◌++◌, sym, ap, subst, ◌∙◌}
 use Rattle.package_table.specs.Numbers.{Numbered, Tables, table_now, without_marks}
 use Rattle.plist_state.specs.State.{Worlds}
-use Rattle.plist_state.specs.Lists.{IsOwned}
+use Rattle.plist_state.specs.Lists.{AreListsOfSymbols}
 use Rattle.plist_state.specs.Views.{NumberedRest, rest_of}
 use Rattle.plist_state.specs.Sound.{IsSoundWorldState}
 use Rattle.plist_state.specs.Sizes.{AreSizes}
@@ -25,7 +25,7 @@ invariant_of-self c =
         values = c.tidy.ensures.wider.values c.self.invariant.now.values;
         indexed = c.tidy.ensures.indexed;
         sizes = subst (λ (q : NumberedRest). AreSizes q.properties a.sizes.entries) (sym rest) c.self.invariant.now.sizes;
-        owned = subst (λ (p : Numbered × NumberedRest). IsOwned p.0 p.1.properties) (sym both) c.self.invariant.now.owned;
+        owned = subst (λ (p : Numbered × NumberedRest). AreListsOfSymbols p.0 p.1.properties) (sym both) c.self.invariant.now.owned;
         sound = subst (λ (p : Numbered × NumberedRest). IsSoundWorldState (state_in p.0 p.1)) (sym both) c.self.invariant.now.sound;
         marked = kept_none c.settle.new.self.1.marked (marks_of c.let_go.new.marks.items) u c.tidy.new.stored.properties.items
             (ap (λ (ts : Tables). ts.1.marked) packages) (ap marks_of c.let_go.ensures);

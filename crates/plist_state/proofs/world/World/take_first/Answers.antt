@@ -9,7 +9,7 @@ use Rattle.plist_state.specs.PushedLists.{holds_pair}
 use Rattle.plist_state.specs.PoppedLists.{popped_list, with_popped_by}
 use Rattle.plist_state.specs.Views.{NumberedRest, symbol_of, rest_of}
 use Rattle.plist_state.specs.Sound.{IsSymbol, IsValue, IsSoundWorldState}
-use Rattle.plist_state.specs.Lists.{same_number, plist_of_number, IsNumber, named_plist, IsOwned}
+use Rattle.plist_state.specs.Lists.{same_number, plist_of_number, IsNumber, named_plist, AreListsOfSymbols}
 use Rattle.plist_state.specs.Journal.{marks_of}
 use Rattle.plist_state.specs.MarkedWorlds.{state_in, earlier_states}
 use Rattle.plist_state.specs.Sizes.{AreSizes}
@@ -71,7 +71,7 @@ invariant_of-self c =
         sizes = kept_rest c.pop.result (λ q. AreSizes q.properties c.forget.new.sizes.entries) r made u c.pop.ensures.ok c.pop.ensures.err
             (c.forget.ensures r.properties (same_others r.properties n j a.sizes.entries c.self.invariant.now.sizes))
             (c.forget.ensures made.properties (others_with r.properties n j a.sizes.entries c.self.invariant.now.sizes rest));
-        owned = kept_rest c.pop.result (λ q. IsOwned s q.properties) r made u c.pop.ensures.ok c.pop.ensures.err c.self.invariant.now.owned
+        owned = kept_rest c.pop.result (λ q. AreListsOfSymbols s q.properties) r made u c.pop.ensures.ok c.pop.ensures.err c.self.invariant.now.owned
             (owned_put s (symbol_count s.0) c.numbering.ensures r.properties x n _ owner_is numbers c.self.invariant.now.owned);
         marked = kept_continued a.packages.1.marked (marks_of a.marks.items) r a.stored.properties.items c.self.invariant.now.marked (marks_of c.pop.new.marks.items) u c.pop.new.stored.properties.items
             c.pop.ensures.marked (fits_now a.stored.properties.items r refl) c.pop.ensures.wider;

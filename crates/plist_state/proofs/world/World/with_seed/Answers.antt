@@ -2,7 +2,7 @@ use Rattle.std.proofs.Common.{◌≡◌, List, [], ◌++◌, sym, ap, subst}
 use Rattle.package_table.specs.Numbers.{Numbered, table_now}
 use Rattle.plist_state.specs.State.{initial}
 use Rattle.plist_state.specs.Sound.{IsSoundWorldState}
-use Rattle.plist_state.specs.Lists.{IsOwned}
+use Rattle.plist_state.specs.Lists.{AreListsOfSymbols}
 use Rattle.plist_state.specs.Views.{NumberedRest, rest_of}
 use Rattle.plist_state.specs.Undoing.{rests_at}
 use Rattle.plist_state.specs.Journal.{marks_of}
@@ -23,7 +23,7 @@ invariant_of-result c =
         values = c.in_ok-first_stored.ensures.values;
         indexed = c.in_ok-first_stored.ensures.indexed;
         sizes = no_sizes r.properties c.new-2.result.entries c.new-2.ensures.empty;
-        owned = subst (λ (q : NumberedRest). IsOwned (table_now ps) q.properties) (sym c.in_ok-first_stored.ensures.first) (owned_empty (table_now ps));
+        owned = subst (λ (q : NumberedRest). AreListsOfSymbols (table_now ps) q.properties) (sym c.in_ok-first_stored.ensures.first) (owned_empty (table_now ps));
         marked = kept_none ps.1.marked (marks_of c.new.result.items) r c.in_ok-first_stored.field-0.properties.items c.in_ok-packages.ensures.marked (ap marks_of c.new.ensures.items);
         sound = subst IsSoundWorldState (sym (first_state (table_now ps) r c.in_ok-packages.ensures.table c.in_ok-first_stored.ensures.first)) first_sound;
       };

@@ -6,7 +6,7 @@ use Rattle.prevalence_store.specs.declared.batch.Batch.{Batch}
 use Rattle.sessions.specs.declared.gather.GatheredForms.{GatheredForms}
 use Rattle.sessions.specs.declared.gather.GroupLimit.{GroupLimit}
 use Rattle.prevalence_store.specs.steps.Batch.{entries_in}
-use Rattle.sessions.specs.steps.Gather.{AreWithinLimit, IsGathered}
+use Rattle.sessions.specs.steps.Gather.{AreWithinLimit, AreFormsGathered}
 use Rattle.sessions.proofs.StreamLemmas.{behind_piece}
 use Rattle.sessions.proofs.Gathering.{counted_by, first_gathered, more_gathered, text_at_most}
 use Rattle.sessions.proofs.whole_forms.WholeForms.gather.Goals as goal
@@ -99,9 +99,9 @@ returns-in-None-clause-taken g c =
     let same = c.in_ok-count.ensures.none c.in-None.is in
     record {
       gathers = λ text begins left.
-          subst (λ (s : WorldState). IsGathered functions turn.wanted w text s (entries_in c.add_next.new.batch) c.add_next.new.self) (sym same.0)
-          (subst (λ (b : Batch). IsGathered functions turn.wanted w text c.forms.world.0 (entries_in b) c.add_next.new.self) (sym same.1)
-          (subst (λ (x : GatheredForms). IsGathered functions turn.wanted w text c.forms.world.0 (entries_in c.forms.batch) x) (sym same.2) (so_far.gathers text begins left).0));
+          subst (λ (s : WorldState). AreFormsGathered functions turn.wanted w text s (entries_in c.add_next.new.batch) c.add_next.new.self) (sym same.0)
+          (subst (λ (b : Batch). AreFormsGathered functions turn.wanted w text c.forms.world.0 (entries_in b) c.add_next.new.self) (sym same.1)
+          (subst (λ (x : GatheredForms). AreFormsGathered functions turn.wanted w text c.forms.world.0 (entries_in c.forms.batch) x) (sym same.2) (so_far.gathers text begins left).0));
       counts = subst (AreWithinLimit turn.first.now.next (length turn.rest.now) turn.limit) (sym same.2)
           (counted_by turn.first.now.next (length turn.rest.now) turn.limit turn.limit c.forms.gathered refl so_far.some so_far.forms so_far.first (omega (arith, so_far.bytes)) so_far.records so_far.record_bytes);
       none = λ is. absurd (cc);
