@@ -22,10 +22,10 @@ use Rattle.messages.specs.declared.request.TheConstants.{ANSWER_BYTES}
 use Rattle.prevalence_store.specs.calls.ExecuteAll.{world_left_after, told_of}
 use Rattle.prevalence_store.specs.calls.Store.{StoreView}
 use Rattle.prevalence_store.specs.meaning.Acceptance.{Acceptance, accepts}
-use Rattle.messages.specs.Answers.{Round, answer_in, answer_to_question, first_round, without_its_position, with_its_position, refusal_answer, refusal_text, with_answer, with_form_given, with_own, wrote_by}
-use Rattle.client_table.specs.Calls.{AnswersAllAsked, AnswersFirstAsked, KeepsAnswers, KeepsOne, RefusesAsked, RefusesAnyOwn}
+use Rattle.messages.specs.MessageAnswers.{Round, answer_in, answer_to_question, first_round, without_its_position, with_its_position, refusal_answer, refusal_text, with_answer, with_form_given, with_own, wrote_by}
+use Rattle.client_table.specs.CallsByName.{AnswersAllAsked, AnswersFirstAsked, KeepsAnswers, KeepsOne, RefusesAsked, RefusesAnyOwn}
 use Rattle.client_table.specs.Turn.{first_asked}
-use Rattle.messages.specs.Calls.{IsNotClosed}
+use Rattle.messages.specs.MessageCalls.{IsNotClosed}
 use Rattle.messages.specs.Fronts.{answer_length, is_full, is_none_left, room_left}
 use Rattle.messages.specs.Position.{position_property}
 use Rattle.messages.specs.Rounds.{IfRefused, told_in}

@@ -13,7 +13,7 @@ use Rattle.message_laws.specs.NearRounds.{IsTidy, Near}
 use Rattle.message_laws.proofs.Together.{cleared_last, cleared_left, cleared_tidy}
 use Rattle.message_laws.proofs.Tidy.{tidy_put}
 use Rattle.message_laws.proofs.TidyForms.{given_tidy}
-use Rattle.messages.specs.Answers.{Round, answer_in, without_its_position, given_in, refusal_answer, refusal_text, with_answer, with_form_given, with_old, with_own, wrote_by}
+use Rattle.messages.specs.MessageAnswers.{Round, answer_in, without_its_position, given_in, refusal_answer, refusal_text, with_answer, with_form_given, with_old, with_own, wrote_by}
 use Rattle.messages.specs.Position.{position_property, without_position}
 use Rattle.messages.specs.declared.request.TheConstants.{OLD_NUMBER}
 use Rattle.plist_state.specs.Changes.{with_property}

@@ -17,7 +17,7 @@ use Rattle.client_table.specs.declared.entry.Standing.{Standing}
 use Rattle.client_table.specs.declared.entry.Standing.TheVariants.{Last, Later, Old, Other}
 use Rattle.client_table.proofs.Kept.{entry_there, kept_stands}
 use Rattle.client_table.proofs.Lookups.{standing_is}
-use Rattle.messages.specs.Answers.{Round, without_its_position, given_in, refusal_text, with_answer, with_own}
+use Rattle.messages.specs.MessageAnswers.{Round, without_its_position, given_in, refusal_text, with_answer, with_own}
 use Rattle.messages.specs.Position.{position_property, position_symbol, without_position}
 use Rattle.plist_state.specs.Properties.{list_at, value_at, without_value}
 use Rattle.plist_state.specs.State.{WorldState}

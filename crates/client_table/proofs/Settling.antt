@@ -21,9 +21,9 @@ use Rattle.messages.specs.declared.round.Round.{Round as Held}
 use Rattle.prevalence_store.specs.calls.Store.{StoreView}
 use Rattle.prevalence_store.specs.meaning.Acceptance.{after}
 use Rattle.client_table.specs.Named.{all_answered}
-use Rattle.messages.specs.Answers.{Round, first_round}
-use Rattle.client_table.specs.Calls.{AnswersAllAsked, KeepsAnswers}
-use Rattle.messages.specs.Calls.{AreNotAnswered, FailOnDevice, entries_by, left_after}
+use Rattle.messages.specs.MessageAnswers.{Round, first_round}
+use Rattle.client_table.specs.CallsByName.{AnswersAllAsked, KeepsAnswers}
+use Rattle.messages.specs.MessageCalls.{AreNotAnswered, FailOnDevice, entries_by, left_after}
 use Rattle.messages.specs.Rounds.{MayBeLogged as IsMadeBy, round_in, told_in}
 use Rattle.client_table.specs.Turn.{MakesAnswers, asked_front}
 use Rattle.messages.specs.Turn.{AreRequestsAnswered}

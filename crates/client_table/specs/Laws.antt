@@ -7,7 +7,7 @@ use Rattle.client_table.specs.declared.asked.AnyRequest.{AnyRequest}
 use Rattle.client_table.specs.declared.asked.AnyRequest.TheVariants as asked
 use Rattle.client_table.specs.declared.asked.Named.{Named}
 use Rattle.message_laws.specs.NearRounds.{Near}
-use Rattle.messages.specs.Answers.{Round, without_its_position}
+use Rattle.messages.specs.MessageAnswers.{Round, without_its_position}
 use Rattle.user_macros.specs.Functions.{Functions}
 
 -- the same answer more in both, and then their worlds are the same but for the position, and their last numbers

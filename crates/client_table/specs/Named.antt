@@ -8,7 +8,7 @@ use Rattle.client_table.specs.declared.entry.Standing.{Standing}
 use Rattle.client_table.specs.declared.entry.Standing.TheVariants.{New, NoEntry, Old, Other, Last, Later}
 use Rattle.client_table.specs.declared.asked.TheConstants.{NO_ENTRY, NO_FRAME, NO_ROOM, NOT_KEPT, OTHER_TEXT}
 use Rattle.lisp_object.specs.Object.{Object}
-use Rattle.messages.specs.Answers.{Round, answer_in, without_its_position, with_its_position, given_in, one_request, refusal_answer, refusal_text, with_answer, with_form_given, with_old, with_set}
+use Rattle.messages.specs.MessageAnswers.{Round, answer_in, without_its_position, with_its_position, given_in, one_request, refusal_answer, refusal_text, with_answer, with_form_given, with_old, with_set}
 use Rattle.plist_state.specs.State.{WorldState}
 use Rattle.prevalence_store.specs.calls.ExecuteAll.{world_left_after, told_of}
 use Rattle.prevalence_store.specs.meaning.Acceptance.{Acceptance, accepts}

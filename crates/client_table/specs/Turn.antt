@@ -1,11 +1,11 @@
 -- What is asked, as a turn.
 use Rattle.std.specs.Prelude.{◌≡◌, ℕ, if◌then◌else◌, List, [], ◌∷◌, Option, Some, Result, Ok, Err}
-use Rattle.client_table.specs.Calls.{KeepsAnswers, RefusesAnyOwn}
+use Rattle.client_table.specs.CallsByName.{KeepsAnswers, RefusesAnyOwn}
 use Rattle.client_table.specs.Named.{all_answered, one_asked}
 use Rattle.client_table.specs.declared.asked.AnyRequest.{AnyRequest}
 use Rattle.client_table.specs.declared.turn.FirstAsked.{FirstAsked}
 use Rattle.gate_log.specs.Layout.{LogRecord}
-use Rattle.messages.specs.Answers.{Round, first_round}
+use Rattle.messages.specs.MessageAnswers.{Round, first_round}
 use Rattle.messages.specs.Fronts.{is_full}
 use Rattle.messages.specs.Turn.{AreRequestsAnswered}
 use Rattle.messages.specs.declared.request.Replies.{Replies}

@@ -7,7 +7,7 @@ ghost use Rattle.client_table.specs.Names.{form_in, is_client_name, client_name_
 ghost use Rattle.client_table.specs.declared.asked.AnyRequest.{AnyRequest};
 ghost use Rattle.client_table.specs.declared.asked.TheConstants.{OTHER_TEXT as IS_OTHER};
 ghost use Rattle.message_laws.specs.NearRounds.{Near};
-ghost use Rattle.messages.specs.Answers.{Round, without_its_position, refusal_text, with_answer};
+ghost use Rattle.messages.specs.MessageAnswers.{Round, without_its_position, refusal_text, with_answer};
 ghost use Rattle.user_macros.specs.Functions.{Functions};
 
 /// Of a message with a name, by the world in which it comes:

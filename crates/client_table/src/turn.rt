@@ -1,7 +1,7 @@
 // The first of what is asked, as a turn that makes the answers.
 ghost use Rattle.std.specs.Prelude.{◌≡◌, [], Some, IfErr, IfOk, OnOk};
 ghost use Rattle.messages.specs.declared.request.TheConstants.{ANSWER_BYTES};
-ghost use Rattle.client_table.specs.Calls.{KeepsAnswers, KeepsOne, RefusesAsked, RefusesAnyOwn};
+ghost use Rattle.client_table.specs.CallsByName.{KeepsAnswers, KeepsOne, RefusesAsked, RefusesAnyOwn};
 ghost use Rattle.client_table.specs.Named.{all_answered, each_asked, one_asked};
 ghost use Rattle.client_table.specs.Turn.{MakesAnswers, first_asked};
 ghost use Rattle.messages.specs.Rounds.{IfRefused, StaysMade, round_in};

@@ -1,8 +1,8 @@
 // The line of a fault, that with its cause, and how a text is written.
 ghost use Rattle.std.specs.Prelude.{◌≢◌, ℕ, List, [], ◌∷◌, ◌++◌, All};
-ghost use Rattle.sessions.specs.Answers.{refusal_line};
+ghost use Rattle.sessions.specs.FormAnswers.{refusal_line};
 ghost use Rattle.diagnostics.specs.Faults.{IsFaultText};
-ghost use Rattle.diagnostics.specs.Texts.{WritesOut, WritesText};
+ghost use Rattle.diagnostics.specs.StreamTexts.{WritesOut, WritesText};
 
 use arrayvec::{ArrayString, ArrayVec};
 use disk_trait::HostError;

@@ -15,9 +15,9 @@ use Rattle.lisp_reading.specs.Reading.{ReadingResult, attempt, empty, form, outc
 use Rattle.lisp_reading.proofs.Forms.{reads_is}
 use Rattle.session_words.specs.declared.mode.Mode.TheVariants.{Current}
 use Rattle.prevalence_store.specs.meaning.Acceptance.{form_limits, read_in, transaction_value}
-use Rattle.sessions.specs.Answers.{Progress, after_forms, first_progress as before_forms, form_progress, one_form, one_form_more, onward}
+use Rattle.sessions.specs.FormAnswers.{Progress, after_forms, first_progress as before_forms, form_progress, one_form, one_form_more, onward}
 use Rattle.world_text.proofs.Begun.{newline_begun}
-use Rattle.export_laws.specs.Texts.{Makes, ReadsAsExported}
+use Rattle.export_laws.specs.ExportedTexts.{Makes, ReadsAsExported}
 
 -- the same, a byte later
 abbrev later : ReadingResult → ReadingResult

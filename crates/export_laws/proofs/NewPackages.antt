@@ -29,9 +29,9 @@ use Rattle.snapshot_text.proofs.PartFinds.{present_entry, present_more, present_
 use Rattle.snapshot_text.proofs.PartMakes.{intern_goes, make_goes, make_part}
 use Rattle.snapshot_text.proofs.PartSame.{first_part, where_first}
 use Rattle.world_forms.specs.Packages.{is_first, own_line, own_lines, package_line}
-use Rattle.world_forms.specs.Tokens.{call_text, line_of_form}
+use Rattle.world_forms.specs.NameTokens.{call_text, line_of_form}
 use Rattle.text_laws.specs.Objects.{call}
-use Rattle.export_laws.specs.Texts.{ReadsAsExported}
+use Rattle.export_laws.specs.ExportedTexts.{ReadsAsExported}
 use Rattle.export_laws.proofs.OnTheWay.{Goes, IsOnTheWay, Made, at, every_line, nothing_more, one_line}
 use Rattle.export_laws.proofs.PackageForms.{intern_leaves, make_leaves}
 use Rattle.export_laws.proofs.PackageText.{IsOperator, call_is_form}

@@ -16,12 +16,12 @@ use Rattle.lisp_reading.specs.Reading.{form, outcome, reads, reads_at}
 use Rattle.lisp_reading.proofs.Forms.{drop_front, reads_is}
 use Rattle.session_words.specs.declared.mode.Mode.TheVariants.{Current}
 use Rattle.prevalence_store.specs.meaning.Acceptance.{between, form_limits, read_in, transaction_value}
-use Rattle.sessions.specs.Answers.{first_progress as before_forms, form_progress, one_form, one_form_more, onward}
+use Rattle.sessions.specs.FormAnswers.{first_progress as before_forms, form_progress, one_form, one_form_more, onward}
 use Rattle.world_text.proofs.Begun.{begun, newline_begun}
 use Rattle.world_forms.specs.Properties.{form_setting}
 use Rattle.wider_functions.proofs.Keeping.{none_are_among}
 use Rattle.wider_functions.proofs.Reading.{reading_widens}
-use Rattle.export_laws.specs.Texts.{Makes, ReadsAsExported}
+use Rattle.export_laws.specs.ExportedTexts.{Makes, ReadsAsExported}
 
 -- the text is read as this form, before a newline and whatever follows
 abbrev pub IsForm : Packages → List ℕ → Object → Type 0

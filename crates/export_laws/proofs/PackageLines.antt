@@ -29,9 +29,9 @@ use Rattle.snapshot_text.proofs.PartFinds.{external_entry, present_package}
 use Rattle.snapshot_text.proofs.PartSame.{first_part}
 use Rattle.snapshot_text.proofs.PartSteps.{after_used, export_goes, export_part, export_there, import_goes, import_part, import_there, not_locked, use_goes, use_part, use_there}
 use Rattle.world_forms.specs.Packages.{change_line, export_form_line, import_line, own_lines, package_line, package_lines, shown_lines, use_line, use_lines}
-use Rattle.world_forms.specs.Tokens.{call_text, line_of_form}
+use Rattle.world_forms.specs.NameTokens.{call_text, line_of_form}
 use Rattle.text_laws.specs.Objects.{call}
-use Rattle.export_laws.specs.Texts.{ReadsAsExported}
+use Rattle.export_laws.specs.ExportedTexts.{ReadsAsExported}
 use Rattle.export_laws.proofs.OnTheWay.{Goes, IsOnTheWay, Made, at, every_line, nothing_more, one_line}
 use Rattle.export_laws.proofs.PackageForms.{argument, export_leaves, import_leaves, use_leaves}
 use Rattle.export_laws.proofs.PackageText.{call_is_form, change_argument, change_is_form, change_text}

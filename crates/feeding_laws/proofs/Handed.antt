@@ -8,8 +8,8 @@ use Rattle.feeding_laws.proofs.Over.{names_both}
 use Rattle.feeding_laws.proofs.Stands.{Stands, fed_later, first_stands, requests_alike, stands_after}
 use Rattle.message_frames.specs.Frames.{IsFrame, Sent}
 use Rattle.message_session.specs.Account.{MessageAccount, FramesAreLogged, AreNext, AnswersAreStored, FramesAreUnderWay, round_after, with_frames}
-use Rattle.message_session.specs.Answers.{each_frame}
-use Rattle.message_session.specs.Sessions.{text_limit}
+use Rattle.message_session.specs.FrameAnswers.{each_frame}
+use Rattle.message_session.specs.MessageSessions.{text_limit}
 use Rattle.plist_state.specs.State.{WorldState}
 use Rattle.prevalence_store.specs.Theorem.{Keeps}
 use Rattle.prevalence_store.specs.calls.ExecuteAll.{MeansAllOrNone}
@@ -17,8 +17,8 @@ use Rattle.prevalence_store.specs.calls.Store.{StoreView}
 use Rattle.messages.specs.declared.request.Request.{Request}
 use Rattle.prevalence_store.specs.meaning.Acceptance.{after}
 use Rattle.prevalence_store.specs.meaning.Files.{MeansWorld}
-use Rattle.messages.specs.Answers.{Round, round_after_requests, first_round, with_its_position}
-use Rattle.messages.specs.Calls.{entries_by, left_after}
+use Rattle.messages.specs.MessageAnswers.{Round, round_after_requests, first_round, with_its_position}
+use Rattle.messages.specs.MessageCalls.{entries_by, left_after}
 use Rattle.prevalence_store.proofs.Surviving.{one_world}
 use Rattle.store_laws.specs.Rounds.{Place, after_rounds, begun_from, with_round}
 use Rattle.user_macros.specs.Functions.{Functions}

@@ -15,10 +15,10 @@ use Rattle.message_frames.specs.declared.frame.Kind.TheVariants.{Do, By, Ask}
 use Rattle.message_laws.specs.NearRounds.{Near}
 use Rattle.message_laws.proofs.Tidy.{out_twice}
 use Rattle.message_laws.proofs.Together.{More, cleared_last, cleared_left, cleared_tidy, near_itself}
-use Rattle.message_session.specs.Answers.{answers_to, by_kind, each_frame, one_frame}
+use Rattle.message_session.specs.FrameAnswers.{answers_to, by_kind, each_frame, one_frame}
 use Rattle.message_session.specs.declared.answer.TheConstants.{MOST_CLIENTS}
 use Rattle.message_session.proofs.Rounds.{kind_near}
-use Rattle.messages.specs.Answers.{Round, without_its_position, with_asked, with_message, with_old}
+use Rattle.messages.specs.MessageAnswers.{Round, without_its_position, with_asked, with_message, with_old}
 use Rattle.messages.specs.Position.{position_symbol, without_position}
 use Rattle.user_macros.specs.Functions.{Functions}
 

@@ -22,13 +22,13 @@ use Rattle.message_laws.specs.NearRounds.{IsTidy, Near}
 use Rattle.message_laws.proofs.Tidy.{sound_tidy}
 use Rattle.message_laws.proofs.Together.{StandsAt, near_itself, stands_first}
 use Rattle.message_session.specs.Account.{MessageAccount}
-use Rattle.message_session.specs.Answers.{AskAlike, answers_of, answers_to, each_frame, one_frame, parts_of_asked}
+use Rattle.message_session.specs.FrameAnswers.{AskAlike, answers_of, answers_to, each_frame, one_frame, parts_of_asked}
 use Rattle.message_session.specs.declared.answer.TheConstants.{MOST_CLIENTS}
-use Rattle.message_session.specs.Sessions.{text_limit}
+use Rattle.message_session.specs.MessageSessions.{text_limit}
 use Rattle.message_session.proofs.Rounds.{answers_append, both_rounds, same_rounds}
 use Rattle.plist_state.specs.State.{WorldState}
-use Rattle.messages.specs.Answers.{Round, first_round, with_its_position, each_request}
-use Rattle.messages.specs.Calls.{left_after}
+use Rattle.messages.specs.MessageAnswers.{Round, first_round, with_its_position, each_request}
+use Rattle.messages.specs.MessageCalls.{left_after}
 use Rattle.messages.specs.Position.{number_of_object, position_property}
 use Rattle.store_laws.proofs.MessagesDone.{closed_at}
 use Rattle.user_macros.specs.Functions.{Functions}

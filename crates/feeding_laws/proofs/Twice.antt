@@ -8,9 +8,9 @@ use Rattle.message_frames.specs.Frames.{Sent}
 use Rattle.message_frames.specs.declared.frame.Kind.{Kind}
 use Rattle.message_frames.specs.declared.frame.Kind.TheVariants.{Do, By, Ask}
 use Rattle.message_laws.specs.NearRounds.{Near}
-use Rattle.message_session.specs.Answers.{answers_of, each_frame}
+use Rattle.message_session.specs.FrameAnswers.{answers_of, each_frame}
 use Rattle.plist_state.specs.State.{WorldState}
-use Rattle.messages.specs.Answers.{Round, first_round}
+use Rattle.messages.specs.MessageAnswers.{Round, first_round}
 use Rattle.user_macros.specs.Functions.{Functions}
 
 near_on : (a b c : Round) → Near a b → Near b c → Near a c

@@ -7,13 +7,13 @@ use Rattle.message_frames.specs.declared.frame.Kind.{Kind}
 use Rattle.message_frames.specs.declared.frame.Kind.TheVariants.{Do, By, Ask}
 use Rattle.message_laws.specs.NearRounds.{Near}
 use Rattle.message_session.specs.Account.{MessageAccount, AnswersAreStored, IsToldIn, with_frames}
-use Rattle.message_session.specs.Answers.{answers_of, each_frame}
+use Rattle.message_session.specs.FrameAnswers.{answers_of, each_frame}
 use Rattle.plist_state.specs.Sound.{IsSoundWorldState}
 use Rattle.plist_state.specs.State.{WorldState}
 use Rattle.prevalence_store.specs.calls.Store.{StoreView}
 use Rattle.sessions.specs.Streams.{Writes}
 use Rattle.messages.specs.declared.request.Request.{Request}
-use Rattle.messages.specs.Answers.{first_round}
+use Rattle.messages.specs.MessageAnswers.{first_round}
 use Rattle.messages.specs.Position.{position}
 use Rattle.store_laws.specs.Rounds.{Place}
 use Rattle.user_macros.specs.Functions.{Functions}

@@ -5,7 +5,7 @@ ghost use Rattle.disk_trait.specs.Disk.{Image, IsHonest};
 ghost use Rattle.feeding_laws.specs.Feeding.{AreAnsweredAgain, FramesAreHanded, AccountTellsPlace, FeedsAgain, FrameHanding, HaveNoNames, IsFirst, account_after_frames, over, rounds_of_frames, told_position};
 ghost use Rattle.message_frames.specs.Frames.{IsFrame, Sent, frame_bytes};
 ghost use Rattle.message_session.specs.Account.{MessageAccount, AnswersAreStored, FramesAreUnderWay, with_frames};
-ghost use Rattle.message_session.specs.Sessions.{ServesMessages, text_limit};
+ghost use Rattle.message_session.specs.MessageSessions.{ServesMessages, text_limit};
 ghost use Rattle.plist_state.specs.State.{WorldState};
 ghost use Rattle.prevalence_store.specs.Theorem.{Keeps};
 ghost use Rattle.prevalence_store.specs.calls.Store.{StoreView};

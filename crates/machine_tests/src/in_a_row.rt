@@ -5,7 +5,7 @@ ghost use Rattle.plist_state.specs.State.{WorldState};
 ghost use Rattle.sessions.specs.Account.{first_account};
 ghost use Rattle.session_ledger.specs.OutgoingLines.{Went, handings_of};
 ghost use Rattle.store_commands.specs.Accounts.{AccountGoesOn};
-ghost use Rattle.store_laws.specs.Sessions.{account_after};
+ghost use Rattle.store_laws.specs.SessionLines.{account_after};
 
 use disk_trait::{Disk, MemoryDisk};
 use prevalence_store::{Mode, Store};

@@ -3,12 +3,12 @@ use Rattle.std.proofs.Common.{◌≡◌, inl, inr, ℕ, Bool, true, false, List,
 use Rattle.disk_trait.specs.Disk.{State}
 use Rattle.lisp_object.specs.declared.refusal.TheConstants.{LOG_FULL}
 use Rattle.message_session.specs.Account.{IsToldIn}
-use Rattle.message_session.specs.Sessions.{HasNoRoomToBegin}
+use Rattle.message_session.specs.MessageSessions.{HasNoRoomToBegin}
 use Rattle.plist_state.specs.State.{WorldState}
 use Rattle.prevalence_store.specs.calls.Execute.{Executes, Stores}
 use Rattle.prevalence_store.specs.calls.Store.{StoreView}
 use Rattle.prevalence_store.specs.declared.outcome.Outcome.TheVariants.{Refused}
-use Rattle.messages.specs.Calls.{BeginsMessages}
+use Rattle.messages.specs.MessageCalls.{BeginsMessages}
 use Rattle.messages.specs.Position.{position}
 use Rattle.session_words.specs.declared.mode.Mode.{Mode}
 use Rattle.user_macros.specs.Functions.{Functions}

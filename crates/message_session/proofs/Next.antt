@@ -10,7 +10,7 @@ use Rattle.std.specs.Option.{option_map}
 use Rattle.std.proofs.lemmas.List.{append-nil, take-append-drop}
 use Rattle.message_frames.specs.Frames.{AreFrames, Sent, frame_bytes}
 use Rattle.message_session.specs.Account.{MessageAccount, AreNext, with_frames}
-use Rattle.message_session.specs.Sessions.{text_limit}
+use Rattle.message_session.specs.MessageSessions.{text_limit}
 use Rattle.message_session.specs.Standing.{AnswersFirstOf, AnswersMore, ComeNext, ComesNext, IsNextInInput, IsReadIn}
 use Rattle.message_session.specs.Steps.{TakesPiece}
 use Rattle.message_session.proofs.Frames.{frames_both, frames_fed, frames_first, no_frames}

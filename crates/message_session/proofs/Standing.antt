@@ -2,7 +2,7 @@
 use Rattle.std.proofs.Common.{◌≡◌, ◌≢◌, ◌⊎◌, ℕ, ◌+◌, ◌<◌, Bool, true, false, List, [], length, Option, Some, IsTrue, take, Result, Ok, Err, inl, inr, refl, sym, ap, subst, ◌∙◌, arith}
 use Rattle.std.specs.Option.{option_map}
 use Rattle.std.specs.Prelude.{unwrap_or}
-use Rattle.client_table.specs.Calls.{AnswersAllAsked, AnswersFirstAsked}
+use Rattle.client_table.specs.CallsByName.{AnswersAllAsked, AnswersFirstAsked}
 use Rattle.client_table.specs.Named.{all_answered}
 use Rattle.client_table.specs.declared.asked.AnyRequest.{AnyRequest}
 use Rattle.client_table.proofs.Settling.{asked_unchanged}
@@ -12,7 +12,7 @@ use Rattle.gate_log.specs.Layout.{LogRecord}
 use Rattle.lisp_object.specs.declared.refusal.TheConstants.{DEVICE, SNAPSHOT_TOO_LARGE}
 use Rattle.message_frames.specs.Frames.{Sent}
 use Rattle.message_session.specs.Account.{MessageAccount, FramesAreLogged, AreNext, AnswersAreStored, FramesAreUnderWay, first_message_account, round_after, with_frames}
-use Rattle.message_session.specs.Answers.{AskAlike, answered_bytes, each_frame}
+use Rattle.message_session.specs.FrameAnswers.{AskAlike, answered_bytes, each_frame}
 use Rattle.message_session.specs.Standing.{AcknowledgesNoFrame, ComeNext, HasLoggedNothing, RestsAt, RestsOrStops}
 use Rattle.message_session.specs.Steps.{RenewsWhereDue, StopsAfter}
 use Rattle.message_session.specs.declared.answer.TheConstants.{MOST_CLIENTS}
@@ -33,8 +33,8 @@ use Rattle.prevalence_store.specs.declared.outcome.Outcome.{Outcome}
 use Rattle.prevalence_store.specs.declared.outcome.Outcome.TheVariants.{Accepted, Snapshotted, Refused}
 use Rattle.prevalence_store.specs.meaning.Acceptance.{after}
 use Rattle.prevalence_store.specs.meaning.Files.{MeansWorld}
-use Rattle.messages.specs.Answers.{Round, first_round, with_its_position}
-use Rattle.messages.specs.Calls.{AreAnsweredAndLogged, FailOnDevice, entries_by, left_after}
+use Rattle.messages.specs.MessageAnswers.{Round, first_round, with_its_position}
+use Rattle.messages.specs.MessageCalls.{AreAnsweredAndLogged, FailOnDevice, entries_by, left_after}
 use Rattle.prevalence_store.proofs.Surviving.{both_survive, fewer_survive, none_taken}
 use Rattle.user_macros.specs.Functions.{Functions}
 

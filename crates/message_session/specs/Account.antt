@@ -3,15 +3,15 @@ use Rattle.std.specs.Prelude.{ℕ, ◌≡◌, ◌≤◌, List, [], ◌++◌, len
 use Rattle.disk_trait.specs.Disk.{State, IsHonest, Throughout}
 use Rattle.gate_log.specs.Layout.{LogRecord}
 use Rattle.message_frames.specs.Frames.{AreFrames, Sent}
-use Rattle.message_session.specs.Answers.{answered_bytes, each_frame}
-use Rattle.message_session.specs.Sessions.{text_limit}
+use Rattle.message_session.specs.FrameAnswers.{answered_bytes, each_frame}
+use Rattle.message_session.specs.MessageSessions.{text_limit}
 use Rattle.plist_state.specs.State.{WorldState}
 use Rattle.prevalence_store.specs.Theorem.{Survives}
 use Rattle.prevalence_store.specs.calls.ExecuteAll.{MeansAllOrNone}
 use Rattle.prevalence_store.specs.calls.Store.{StoreView}
 use Rattle.prevalence_store.specs.meaning.Acceptance.{after}
-use Rattle.messages.specs.Answers.{Round, first_round, with_its_position}
-use Rattle.messages.specs.Calls.{entries_by, left_after}
+use Rattle.messages.specs.MessageAnswers.{Round, first_round, with_its_position}
+use Rattle.messages.specs.MessageCalls.{entries_by, left_after}
 use Rattle.messages.specs.Position.{position}
 use Rattle.user_macros.specs.Functions.{Functions}
 

@@ -4,7 +4,7 @@ use Rattle.std.specs.Io.KnownBytes.{Consumes}
 use Rattle.disk_trait.specs.Disk.{State, IsHonest}
 use Rattle.message_frames.specs.Frames.{AreFrames, Sent}
 use Rattle.message_session.specs.Account.{MessageAccount, AreNext, FramesAreUnderWay}
-use Rattle.message_session.specs.Sessions.{text_limit}
+use Rattle.message_session.specs.MessageSessions.{text_limit}
 use Rattle.message_session.specs.declared.answer.Stop.{Stop}
 use Rattle.message_session.specs.declared.answer.Stop.TheVariants as stop
 use Rattle.message_session.specs.declared.ended.MessagesEnd.{MessagesEnd}

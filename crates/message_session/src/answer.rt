@@ -2,7 +2,7 @@
 ghost use Rattle.std.specs.Prelude.{◌≡◌, ℕ, ◌<◌, ◌≤◌, length, map, take, IfErr, IfOk, OnOk, Some};
 ghost use Rattle.std.specs.List.{flat_map};
 ghost use Rattle.message_frames.specs.Frames.{answer_bytes, sent_frame};
-ghost use Rattle.message_session.specs.Answers.{AskAlike, answers_to, parts_of_asked};
+ghost use Rattle.message_session.specs.FrameAnswers.{AskAlike, answers_to, parts_of_asked};
 ghost use Rattle.message_session.specs.Standing.{AnswersMore, ComeNext, RestsAt, RestsOrEnds, RestsOrStops};
 ghost use Rattle.message_session.specs.Steps.{AnswersFront, AnswersFrames, RenewsForRoom, RenewsWhereDue, StopsAfter, TakesFrames, TakesWithRoom, ended_by};
 ghost use Rattle.plist_state.specs.Sound.{IsSoundWorldState};

@@ -3,7 +3,7 @@ ghost use Rattle.std.specs.Prelude.{◌≡◌, ◌<◌, ◌≤◌, ℕ, List, []
 ghost use Rattle.lisp_object.specs.declared.refusal.TheConstants.{REOPEN};
 ghost use Rattle.message_frames.specs.declared.held.Next.TheVariants as next;
 ghost use Rattle.message_session.specs.Account.{MessageAccount, IsToldIn};
-ghost use Rattle.message_session.specs.Sessions.{SessionAsksToReopen, HasNoRoomToBegin, ServesMessages};
+ghost use Rattle.message_session.specs.MessageSessions.{SessionAsksToReopen, HasNoRoomToBegin, ServesMessages};
 ghost use Rattle.message_session.specs.Standing.{AcknowledgesNoFrame, AnswersFirstOf, ComesNext, IsReadIn, RestsAt, RestsOrEnds};
 ghost use Rattle.message_session.specs.Steps.{AnswersAllHeld, AnswersFramesOfInput, AnswersSomeHeld, MayBegin, TakesPiece};
 ghost use Rattle.plist_state.specs.State.{WorldState};
@@ -32,8 +32,8 @@ const MOST_READS: u64 = 1 << 40;
 /// Serves the frames of an input over a store: tells its position, and answers each frame, those together that stand whole in what was
 /// read at once. A snapshot is taken after so many messages that wrote, never if that is 0, and where the half has no room.
 ///
-/// What is written is the position, and the answer to each frame, in order (`session_bytes` of specs/Answers.antt): whole at the end of the
-/// input and at bytes that are no frame. A fault has one of these causes (`IsBroken` of specs/Sessions.antt), and nothing is written of it:
+/// What is written is the position, and the answer to each frame, in order (`session_bytes` of specs/FrameAnswers.antt): whole at the end of the
+/// input and at bytes that are no frame. A fault has one of these causes (`IsBroken` of specs/MessageSessions.antt), and nothing is written of it:
 ///
 /// - 67: a read failed, or there were 2^40 of them. All that came whole is answered.
 /// - 68: a write failed or took nothing. The frames whose answers were to go out are stored, and a part of their answers is written.

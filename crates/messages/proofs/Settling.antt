@@ -20,8 +20,8 @@ use Rattle.messages.specs.declared.request.Request.{Request}
 use Rattle.messages.specs.declared.round.Round.{Round as Held}
 use Rattle.prevalence_store.specs.calls.Store.{StoreView}
 use Rattle.prevalence_store.specs.meaning.Acceptance.{after}
-use Rattle.messages.specs.Answers.{Round, round_after_requests, first_round}
-use Rattle.messages.specs.Calls.{AnswersRequests, AreNotAnswered, FailOnDevice, entries_by, left_after}
+use Rattle.messages.specs.MessageAnswers.{Round, round_after_requests, first_round}
+use Rattle.messages.specs.MessageCalls.{AnswersRequests, AreNotAnswered, FailOnDevice, entries_by, left_after}
 use Rattle.messages.specs.Rounds.{MayBeLogged as IsMadeBy, round_in, told_in}
 use Rattle.messages.specs.Turn.{AreRequestsAnswered, MakesReplies, front_requests, round_of}
 use Rattle.prevalence_store.specs.steps.Batch.{FailsBatch, IsEmpty, StoresBatch, entries_in, entries_of}

@@ -6,8 +6,8 @@ use Rattle.prevalence_store.specs.calls.Store.{StoreView}
 use Rattle.messages.specs.declared.request.Replies.{Replies}
 use Rattle.messages.specs.declared.request.Request.{Request}
 use Rattle.messages.specs.declared.request.TheConstants.{ANSWER_BYTES}
-use Rattle.messages.specs.Answers.{Round, first_round, each_request, one_request}
-use Rattle.messages.specs.Calls.{AnswersRequests}
+use Rattle.messages.specs.MessageAnswers.{Round, first_round, each_request, one_request}
+use Rattle.messages.specs.MessageCalls.{AnswersRequests}
 use Rattle.user_macros.specs.Functions.{Functions}
 
 -- the bytes of the answers

@@ -19,7 +19,7 @@ use Rattle.session_words.specs.declared.mode.Mode.TheVariants.{Rescue}
 use Rattle.messages.specs.declared.request.RequestAnswer.{RequestAnswer}
 use Rattle.messages.specs.declared.round.Round.{Round as Held}
 use Rattle.prevalence_store.specs.meaning.Acceptance.{after, read_in}
-use Rattle.messages.specs.Answers.{Round}
+use Rattle.messages.specs.MessageAnswers.{Round}
 use Rattle.messages.specs.Position.{own_form, own_text, position_property}
 use Rattle.prevalence_store.specs.steps.Batch.{entries_in}
 use Rattle.user_macros.specs.Functions.{Functions}

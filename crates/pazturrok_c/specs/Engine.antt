@@ -4,7 +4,7 @@ use Rattle.std.specs.Borrow.{Bor}
 use Rattle.std.specs.Int.{w16, w64, to_le_bytes}
 use Rattle.std.specs.List.{flat_map}
 use Rattle.canon_printer.specs.Printed.{printed}
-use Rattle.deferred_disk.specs.Calls.{first_calls}
+use Rattle.deferred_disk.specs.DiskRequests.{first_calls}
 use Rattle.deferred_disk.specs.Disk.{calls_of, pending_of, state_by_calls}
 use Rattle.disk_trait.specs.Orders.{OrderValue}
 use Rattle.deferred_disk.specs.declared.disk.DeferredDisk.{DeferredDisk}
@@ -21,7 +21,7 @@ use Rattle.session_words.specs.declared.mode.Mode.{Mode}
 use Rattle.session_words.specs.declared.mode.Mode.TheVariants.{Current, Rescue}
 use Rattle.prevalence_store.specs.declared.outcome.Outcome.{Outcome}
 use Rattle.prevalence_store.specs.declared.outcome.Outcome.TheVariants.{Accepted, Snapshotted, Refused}
-use Rattle.pazturrok_c.specs.Texts.{texts_in}
+use Rattle.pazturrok_c.specs.JoinedTexts.{texts_in}
 use Rattle.six_functions.specs.MacroFunctions.{six_functions}
 
 -- the mode that a flag asks for

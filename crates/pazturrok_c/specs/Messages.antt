@@ -10,7 +10,7 @@ use Rattle.plist_state.specs.State.{WorldState}
 use Rattle.prevalence_store.specs.calls.Store.{StoreView}
 use Rattle.messages.specs.declared.request.Replies.{Replies}
 use Rattle.messages.specs.declared.request.Request.{Request}
-use Rattle.messages.specs.Calls.{AnswersRequests, BeginsMessages}
+use Rattle.messages.specs.MessageCalls.{AnswersRequests, BeginsMessages}
 use Rattle.six_functions.specs.MacroFunctions.{six_functions}
 
 -- The number of replies, and what is told of them. Where there is no room for that the number is 90.

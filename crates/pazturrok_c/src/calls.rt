@@ -1,6 +1,6 @@
 // What C asks of an engine.
 ghost use Rattle.std.specs.Prelude.{◌≡◌, length, min};
-ghost use Rattle.pazturrok_c.specs.Calls.{AnswersEach, BeginsWithMessages, ExecutesForm, ExecutesForms, AreBytesCopied, TakesSnapshot, TellsEnd};
+ghost use Rattle.pazturrok_c.specs.EngineCalls.{AnswersEach, BeginsWithMessages, ExecutesForm, ExecutesForms, AreBytesCopied, TakesSnapshot, TellsEnd};
 
 use crate::done::{CallResult, RequestHead};
 use crate::engine::Engine;

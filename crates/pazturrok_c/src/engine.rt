@@ -47,7 +47,7 @@ fn mode_of(rescue: bool) -> Mode
 }
 
 impl Engine {
-    ghost use Rattle.pazturrok_c.specs.Calls.{AreOrdersPerformed};
+    ghost use Rattle.pazturrok_c.specs.EngineCalls.{AreOrdersPerformed};
 
     /// Opens the store of two files that hold these bytes. Else the number of the refusal: where the store is not
     /// opened on them, or there was no memory for a copy.

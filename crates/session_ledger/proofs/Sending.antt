@@ -10,7 +10,7 @@ use Rattle.sessions.specs.Streams.{Writes, WritesPart}
 use Rattle.session_ledger.specs.Ledger.{Agrees, IsAccountOf, account_from, account_past, named_first}
 use Rattle.session_ledger.specs.OutgoingLines.{Outgoing, Went, calls_in, disk_at, handings_of, out_of}
 use Rattle.store_laws.specs.Batches.{MeansCalls}
-use Rattle.store_laws.specs.Sessions.{AreCalls, AreHanded, Handing, account_after, call_since, calls_of}
+use Rattle.store_laws.specs.SessionLines.{AreCalls, AreHanded, Handing, account_after, call_since, calls_of}
 use Rattle.user_macros.specs.Functions.{Functions}
 
 -- ---- one time more

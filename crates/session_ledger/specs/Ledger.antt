@@ -5,7 +5,7 @@ use Rattle.std.specs.Option.{option_map}
 use Rattle.disk_trait.specs.Disk.{State}
 use Rattle.sessions.specs.Account.{Account, with_forms}
 use Rattle.prevalence_store.specs.calls.Store.{StoreView, store_view_code}
-use Rattle.store_laws.specs.Sessions.{account_after}
+use Rattle.store_laws.specs.SessionLines.{account_after}
 use Rattle.session_ledger.specs.OutgoingLines.{GoesOut, handings_of}
 use Rattle.user_macros.specs.Functions.{Functions}
 

@@ -5,7 +5,7 @@ use Rattle.prevalence_store.specs.Theorem.{Call}
 use Rattle.sessions.specs.Account.{Account, AreUnderWay}
 use Rattle.prevalence_store.specs.calls.Store.{StoreView}
 use Rattle.sessions.specs.Streams.{Writes}
-use Rattle.store_laws.specs.Sessions.{AreHanded, Handing, account_after, call_since, calls_of}
+use Rattle.store_laws.specs.SessionLines.{AreHanded, Handing, account_after, call_since, calls_of}
 use Rattle.user_macros.specs.Functions.{Functions}
 
 -- Lines that were handed to the output, and the part of them, from their front, that went out: all of them, if the output did not fail.

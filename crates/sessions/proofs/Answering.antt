@@ -16,7 +16,7 @@ use Rattle.sessions.specs.declared.ending.Ending.{Ending}
 use Rattle.sessions.specs.declared.ending.Ending.TheVariants.{End, Reader, Store}
 use Rattle.prevalence_store.specs.meaning.Acceptance.{read_in}
 use Rattle.user_macros.specs.Functions.{Functions}
-use Rattle.sessions.specs.Answers.{Progress, after_forms, first_progress, onward}
+use Rattle.sessions.specs.FormAnswers.{Progress, after_forms, first_progress, onward}
 use Rattle.sessions.specs.steps.Input.{HasForm, IsPending}
 use Rattle.sessions.specs.Pace.{EndsInPace, Paces, fill_of}
 use Rattle.sessions.specs.Serve.{Advances, AreFormsAccepted, IsAfter, IsPlace, Serves, ServesInPace, StaysAnswered, StaysRefused, StopsStrict}

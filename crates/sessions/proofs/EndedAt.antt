@@ -18,7 +18,7 @@ use Rattle.sessions.specs.declared.answer.Answered.{Answered}
 use Rattle.sessions.specs.declared.answer.Answered.TheVariants.{Accepted, Refused}
 use Rattle.sessions.specs.declared.input.Pending.{Pending}
 use Rattle.prevalence_store.specs.meaning.Acceptance.{read_in, setting_in}
-use Rattle.sessions.specs.Answers.{Progress, after_forms, first_progress}
+use Rattle.sessions.specs.FormAnswers.{Progress, after_forms, first_progress}
 use Rattle.sessions.specs.Pace.{Paces, fill_of}
 use Rattle.sessions.specs.Serve.{IsRefusedFrom, IsFormUnaccepted, ServesInPace, StaysAnswered, StopsStrict}
 use Rattle.prevalence_store.specs.calls.Store.{StoreView}

@@ -11,7 +11,7 @@ use Rattle.session_words.specs.declared.mode.Mode.{Mode}
 use Rattle.sessions.specs.declared.ending.Ending.{Ending}
 use Rattle.sessions.specs.declared.ending.Ending.TheVariants.{End, Reader, Store}
 use Rattle.prevalence_store.specs.meaning.Acceptance.{read_in}
-use Rattle.sessions.specs.Answers.{Progress, after_forms, first_progress, last_line, one_form, onward, refusal_line}
+use Rattle.sessions.specs.FormAnswers.{Progress, after_forms, first_progress, last_line, one_form, onward, refusal_line}
 use Rattle.sessions.specs.Serve.{Ends, IsAfter, Serves}
 use Rattle.prevalence_store.specs.calls.Store.{StoreView, Describes}
 use Rattle.sessions.specs.Streams.{Writes, WritesPart}

@@ -17,7 +17,7 @@ use Rattle.session_words.specs.declared.wanted.SessionOptions.{SessionOptions}
 use Rattle.sessions.specs.declared.gather.GatheredForms.{GatheredForms}
 use Rattle.sessions.specs.declared.group.Grouped.TheVariants as grouped
 use Rattle.prevalence_store.specs.meaning.Acceptance.{after, between, read_in, transaction_value}
-use Rattle.sessions.specs.Answers.{Progress, after_forms, first_progress, form_progress, last_line, one_form, onward}
+use Rattle.sessions.specs.FormAnswers.{Progress, after_forms, first_progress, form_progress, last_line, one_form, onward}
 use Rattle.prevalence_store.specs.calls.ExecuteAll.{LogsAll}
 use Rattle.sessions.specs.Pace.{Paces, fill_of}
 use Rattle.sessions.specs.Serve.{IsAfter, room_of}

@@ -20,7 +20,7 @@ use Rattle.sessions.specs.declared.gather.GatheredForms.{GatheredForms}
 use Rattle.sessions.specs.declared.gather.GroupLimit.{GroupLimit}
 use Rattle.sessions.specs.declared.input.Pending.{Pending}
 use Rattle.prevalence_store.specs.meaning.Acceptance.{acceptance_of, after, between, read_in, records_of, transaction_value}
-use Rattle.sessions.specs.Answers.{Progress, after_forms, first_progress, form_progress, one_form, onward}
+use Rattle.sessions.specs.FormAnswers.{Progress, after_forms, first_progress, form_progress, one_form, onward}
 use Rattle.sessions.specs.steps.Answer.{BeginsWith}
 use Rattle.form_eval.specs.Laws.{MayEvaluate}
 use Rattle.prevalence_store.specs.steps.Batch.{entries_in, IsEmpty}

@@ -23,7 +23,7 @@ use Rattle.prevalence_store.specs.calls.Store.{StoreView}
 use Rattle.sessions.specs.Streams.{Writes}
 use Rattle.prevalence_store.specs.meaning.Acceptance.{after, accepted_record, read_in}
 use Rattle.prevalence_store.specs.meaning.Files.{MeansWorld}
-use Rattle.sessions.specs.Answers.{Progress, after_forms, first_progress, last_line, onward, refusal_line}
+use Rattle.sessions.specs.FormAnswers.{Progress, after_forms, first_progress, last_line, onward, refusal_line}
 use Rattle.sessions.specs.steps.Answer.{LeavesRecord, TriesForm, was_logged}
 use Rattle.sessions.specs.steps.Course.{Course}
 use Rattle.sessions.specs.steps.Gather.{FailsForms, TakesForms}

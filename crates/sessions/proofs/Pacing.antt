@@ -10,7 +10,7 @@ use Rattle.sessions.specs.declared.ending.Ending.{Ending}
 use Rattle.sessions.specs.declared.ending.Ending.TheVariants.{End, Reader, Store}
 use Rattle.prevalence_store.specs.meaning.Acceptance.{after, read_in}
 use Rattle.user_macros.specs.Functions.{Functions}
-use Rattle.sessions.specs.Answers.{Progress, after_forms, first_progress, onward}
+use Rattle.sessions.specs.FormAnswers.{Progress, after_forms, first_progress, onward}
 use Rattle.sessions.specs.Pace.{CountsLoggedForm, EndsInPace, Fill, HasMadeRoom, IsOverIn, IsFillAfterForms, IsFillAfterRecord, LogsWithRoom, Pace, Paces, IsFillAfterForm, fill_of_new_half, fill_of}
 use Rattle.prevalence_store.specs.calls.Store.{StoreView}
 use Rattle.sessions.specs.steps.Answer.{AnswersFault, LeavesRecord, LogsAtOnce}

@@ -13,7 +13,7 @@ use Rattle.session_words.specs.declared.mode.Mode.{Mode}
 use Rattle.sessions.specs.declared.ending.Ending.TheVariants.{End}
 use Rattle.prevalence_store.specs.meaning.Acceptance.{between, read_in, setting_in, transaction_value}
 use Rattle.user_macros.specs.Functions.{Functions}
-use Rattle.sessions.specs.Answers.{Progress, after_forms, form_progress, one_form}
+use Rattle.sessions.specs.FormAnswers.{Progress, after_forms, form_progress, one_form}
 use Rattle.sessions.specs.steps.Gather.{BeginsWhole}
 use Rattle.sessions.specs.steps.Input.{HasForm, IsLastForm, IsPending}
 use Rattle.sessions.specs.Serve.{Advances}

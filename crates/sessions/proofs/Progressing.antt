@@ -12,7 +12,7 @@ use Rattle.sessions.specs.declared.ending.Ending.TheVariants.{End, Reader, Store
 use Rattle.prevalence_store.specs.meaning.Acceptance.{after, read_in}
 use Rattle.prevalence_store.specs.calls.Execute.{SurvivesAs}
 use Rattle.prevalence_store.specs.calls.Store.{LeavesAlone, StoreView, Describes}
-use Rattle.sessions.specs.Answers.{Progress, after_forms, first_progress, last_line, one_form, one_form_more, onward}
+use Rattle.sessions.specs.FormAnswers.{Progress, after_forms, first_progress, last_line, one_form, one_form_more, onward}
 use Rattle.sessions.specs.Serve.{Advances, Ends, IsAfter, IsHalfExtended, IsHalfRenewed, Serves, contents_after, half_after}
 use Rattle.sessions.specs.Streams.{Writes}
 use Rattle.plist_state.specs.State.{WorldState}

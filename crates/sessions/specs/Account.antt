@@ -8,7 +8,7 @@ use Rattle.prevalence_store.specs.calls.ExecuteAll.{MeansAllOrNone}
 use Rattle.prevalence_store.specs.calls.Store.{StoreView}
 use Rattle.session_words.specs.declared.mode.Mode.{Mode}
 use Rattle.prevalence_store.specs.meaning.Acceptance.{read_in}
-use Rattle.sessions.specs.Answers.{Progress, after_forms, last_line}
+use Rattle.sessions.specs.FormAnswers.{Progress, after_forms, last_line}
 use Rattle.user_macros.specs.Functions.{Functions}
 
 -- How the session began: its world, the mode in which it reads, and what its reader had, if that is told. And how it was when lines were

@@ -10,7 +10,7 @@ use Rattle.sessions.specs.declared.ending.Ending.{Ending}
 use Rattle.sessions.specs.declared.ending.Ending.TheVariants.{End, Reader, Store}
 use Rattle.prevalence_store.specs.meaning.Acceptance.{after, read_in}
 use Rattle.user_macros.specs.Functions.{Functions}
-use Rattle.sessions.specs.Answers.{Progress, one_form}
+use Rattle.sessions.specs.FormAnswers.{Progress, one_form}
 use Rattle.prevalence_store.specs.calls.Store.{StoreView}
 use Rattle.prevalence_store.specs.calls.Snapshot.{IsTooLargeFor}
 

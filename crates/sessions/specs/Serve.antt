@@ -24,7 +24,7 @@ use Rattle.lisp_reading.specs.Deciding.{decided_from}
 use Rattle.prevalence_store.specs.calls.Execute.{DeviceFails, SurvivesAs}
 use Rattle.prevalence_store.specs.calls.ExecuteAll.{AllOrNone}
 use Rattle.prevalence_store.specs.calls.Store.{LeavesAlone, StoreView, Describes}
-use Rattle.sessions.specs.Answers.{Progress, after_forms, last_line, refusal_line}
+use Rattle.sessions.specs.FormAnswers.{Progress, after_forms, last_line, refusal_line}
 use Rattle.sessions.specs.Pace.{EndsInPace, IsOverIn, Pace, Paces, fill_of, first_pace}
 use Rattle.lisp_object.specs.Object.{Object}
 use Rattle.form_reader.specs.Reader.{MayGoOn}

@@ -1,7 +1,7 @@
 // What a session writes.
 ghost use Rattle.std.specs.Prelude.{◌≡◌, OnOk, OnErr, IfOk, true};
 ghost use Rattle.lisp_object.specs.Datum.{object_of, is_proper};
-ghost use Rattle.sessions.specs.Answers.{refusal_line, value_line};
+ghost use Rattle.sessions.specs.FormAnswers.{refusal_line, value_line};
 ghost use Rattle.sessions.specs.Streams.{Writes, WritesPart};
 
 use crate::recipient::OutputFault;

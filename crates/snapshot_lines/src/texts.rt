@@ -5,8 +5,8 @@ ghost use Rattle.std.specs.List.{list_all};
 ghost use Rattle.lisp_object.specs.Ascii.{is_ascii};
 ghost use Rattle.canon_printer.specs.Written.{printed_text};
 ghost use Rattle.package_table.specs.Table.{Name};
-ghost use Rattle.snapshot_lines.specs.Texts.{unescaped, unescaped_pair, texts_text, pair_text, pairs_text, IsAtItems, IsNextItem, LeavesLess};
-ghost use Rattle.snapshot_lines.specs.Answers.{IsOfMade, Succeeds};
+ghost use Rattle.snapshot_lines.specs.QuotedTexts.{unescaped, unescaped_pair, texts_text, pair_text, pairs_text, IsAtItems, IsNextItem, LeavesLess};
+ghost use Rattle.snapshot_lines.specs.PartAnswers.{IsOfMade, Succeeds};
 
 use crate::error::BuildError;
 use lisp_object::Bytes;

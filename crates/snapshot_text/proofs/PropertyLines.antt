@@ -18,10 +18,10 @@ use Rattle.plist_state.specs.Readers.{symbols_with_properties}
 use Rattle.plist_state.specs.Sound.{IsSoundWorldState}
 use Rattle.snapshot_text.specs.BuiltWorlds.{with_properties_of}
 use Rattle.world_text.specs.Lines.{snapshot_limits}
-use Rattle.world_text.specs.Texts.{row_of}
+use Rattle.world_text.specs.ObjectTexts.{row_of}
 use Rattle.snapshot_text.specs.Rows.{row_symbol_at, row_text, text_after, IsUpTo}
 use Rattle.world_text.specs.Snapshot.{snapshot_line, properties_object}
-use Rattle.world_text.specs.Tokens.{ends_with_token}
+use Rattle.world_text.specs.PrintedTokens.{ends_with_token}
 use Rattle.world_text.proofs.Spelling.{met_text}
 use Rattle.world_text.proofs.Whole.{object_read_back}
 use Rattle.world_text.proofs.WithinLimits.{tokens_short, plist_depth}

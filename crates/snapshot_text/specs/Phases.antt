@@ -5,7 +5,7 @@ use Rattle.package_table.specs.Table.{Name, Table, common_lisp, IsPackage, IsPre
 use Rattle.package_table.specs.Readers.{package_names, used_names, imports}
 use Rattle.snapshot_text.specs.declared.package_parts.PackageParts.{PackageParts}
 use Rattle.world_text.specs.Snapshot.{made_names, shown_names}
-use Rattle.snapshot_lines.specs.Texts.{unescaped, unescaped_pair}
+use Rattle.snapshot_lines.specs.QuotedTexts.{unescaped, unescaped_pair}
 use Rattle.snapshot_text.specs.Part.{IsPartOf}
 
 -- t has the package p, with the symbols that are at home there in s

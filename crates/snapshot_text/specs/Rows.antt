@@ -10,7 +10,7 @@ use Rattle.canon_printer.specs.Printed.{printed, printed_prefix}
 use Rattle.plist_state.specs.Properties.{Symbol, symbol_cmp}
 use Rattle.plist_state.specs.State.{WorldState}
 use Rattle.plist_state.specs.Readers.{symbols_with_properties}
-use Rattle.world_text.specs.Texts.{row_of}
+use Rattle.world_text.specs.ObjectTexts.{row_of}
 use Rattle.snapshot_text.specs.BuiltWorlds.{with_properties, with_packages_of}
 
 -- the symbol of the row at an index

@@ -5,9 +5,9 @@ ghost use Rattle.package_table.specs.Table.{Name, Table, common_lisp, keyword, I
 ghost use Rattle.package_table.specs.Growth.{Grows};
 ghost use Rattle.plist_state.specs.Changes.{with_packages};
 ghost use Rattle.world_text.specs.Snapshot.{package_object, packages_object};
-ghost use Rattle.world_text.specs.Texts.{object_text};
-ghost use Rattle.snapshot_lines.specs.Texts.{unescaped, unescaped_pair, texts_text};
-ghost use Rattle.snapshot_lines.specs.Answers.{IsOfMade, OrNoMemory};
+ghost use Rattle.world_text.specs.ObjectTexts.{object_text};
+ghost use Rattle.snapshot_lines.specs.QuotedTexts.{unescaped, unescaped_pair, texts_text};
+ghost use Rattle.snapshot_lines.specs.PartAnswers.{IsOfMade, OrNoMemory};
 ghost use Rattle.snapshot_text.specs.Part.{IsPartOf};
 ghost use Rattle.snapshot_text.specs.Phases.{IsImport, HasImport, HasOwn, HasSymbols, HasExternals, HasUses, HasItsPackages, IsRowOf, AreRowsOf, Everywhere};
 

@@ -4,7 +4,7 @@ ghost use Rattle.std.specs.List.{list_all};
 ghost use Rattle.lisp_object.specs.Object.{Object, text, list_of};
 ghost use Rattle.lisp_object.specs.Datum.{object_of, is_proper};
 ghost use Rattle.world_text.specs.Snapshot.{number};
-ghost use Rattle.snapshot_lines.specs.Answers.{Succeeds};
+ghost use Rattle.snapshot_lines.specs.PartAnswers.{Succeeds};
 
 use lisp_object::{Bytes, Datum};
 use snapshot_lines::BuildError;

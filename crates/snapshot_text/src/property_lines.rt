@@ -8,7 +8,7 @@ ghost use Rattle.plist_state.specs.Sound.{IsSoundWorldState as IsSoundState};
 ghost use Rattle.snapshot_text.specs.BuiltWorlds.{with_packages_of, with_properties_of};
 ghost use Rattle.snapshot_text.specs.Rows.{IsUpTo, row_text, text_after};
 ghost use Rattle.world_text.specs.Snapshot.{snapshot_line, properties_object};
-ghost use Rattle.snapshot_lines.specs.Answers.{IsOfMade};
+ghost use Rattle.snapshot_lines.specs.PartAnswers.{IsOfMade};
 
 use crate::property_parts::put_row;
 use plist_state::World;

@@ -16,7 +16,7 @@ ghost use Rattle.plist_state.specs.Changes.{with_base};
 ghost use Rattle.plist_state.specs.Sound.{IsSymbol, HasKeywordFunctions, IsSoundWorldState as IsSoundState};
 ghost use Rattle.world_text.specs.Snapshot.{number, dispatch_objects, entry_object, entry_objects, readtable_object, readtables_object, tables_object, tables_object_1, tables_object_in};
 ghost use Rattle.snapshot_text.specs.BuiltWorlds.{with_table, with_properties_of, with_readtables_of, CanBeMade, IsWritable, IsSubFunction, IsNamedEntry};
-ghost use Rattle.snapshot_lines.specs.Answers.{OrNoMemory, Succeeds};
+ghost use Rattle.snapshot_lines.specs.PartAnswers.{OrNoMemory, Succeeds};
 
 use crate::parts::{character_in, items_in, text_in};
 use lisp_object::Datum;

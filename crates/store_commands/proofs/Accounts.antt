@@ -13,7 +13,7 @@ use Rattle.sessions.specs.Serve.{ended_after_cut}
 use Rattle.sessions.specs.declared.ending.Ended.{Ended}
 use Rattle.sessions.specs.declared.ending.Ended.TheVariants.{Store}
 use Rattle.store_commands.specs.Accounts.{EndsAccount}
-use Rattle.store_laws.specs.Sessions.{account_after}
+use Rattle.store_laws.specs.SessionLines.{account_after}
 use Rattle.user_macros.specs.Functions.{Functions}
 
 -- it has a world

@@ -9,9 +9,9 @@ use Rattle.prevalence_store.specs.calls.Store.{StoreView}
 use Rattle.sessions.specs.declared.ending.Ended.{Ended}
 use Rattle.session_ledger.specs.OutgoingLines.{Went, calls_in, handings_of}
 use Rattle.session_words.specs.declared.wanted.SessionOptions.{SessionOptions}
-use Rattle.store_commands.specs.Sessions.{Earlier, InTurn, calls_before, calls_in_turn}
+use Rattle.store_commands.specs.SessionsInRow.{Earlier, InTurn, calls_before, calls_in_turn}
 use Rattle.store_laws.specs.Batches.{AreTogether}
-use Rattle.store_laws.specs.Sessions.{AreCalls, AreHanded, Handing, account_after, call_since, calls_of}
+use Rattle.store_laws.specs.SessionLines.{AreCalls, AreHanded, Handing, account_after, call_since, calls_of}
 use Rattle.user_macros.specs.Functions.{Functions}
 
 -- ---- calls after calls

@@ -18,7 +18,7 @@ use Rattle.prevalence_store.specs.calls.Open.{fault_number}
 use Rattle.lisp_object.specs.Object.{Object}
 use Rattle.lisp_operators.specs.Evaluation.{Evaluation}
 use Rattle.lisp_reading.specs.Reading.{ReadingResult as Reading, empty, refused}
-use Rattle.sessions.specs.Answers.{Progress, after_forms, first_progress, form_progress, last_line, one_form, one_form_more, onward, refusal_line}
+use Rattle.sessions.specs.FormAnswers.{Progress, after_forms, first_progress, form_progress, last_line, one_form, one_form_more, onward, refusal_line}
 use Rattle.sessions.specs.Serve.{IsFormUnaccepted, Serves, ServesInput, ServesWanted}
 use Rattle.prevalence_store.specs.calls.Store.{StoreView}
 use Rattle.prevalence_store.specs.meaning.Acceptance.{between, read_in}

@@ -12,7 +12,7 @@ use Rattle.prevalence_store.specs.calls.Store.{StoreView}
 use Rattle.user_macros.specs.Functions.{Functions}
 use Rattle.diagnostics.specs.Refusals.{IsRefusalOf}
 use Rattle.sessions.specs.Serve.{ServesWanted}
-use Rattle.store_commands.specs.Sessions.{Drops, DropsByte, Earlier, EndsRefused, InTurn, IsOfLine, ServesOut}
+use Rattle.store_commands.specs.SessionsInRow.{Drops, DropsByte, Earlier, EndsRefused, InTurn, IsOfLine, ServesOut}
 use Rattle.diagnostics.specs.declared.refusal.Refusal.{Refusal}
 
 -- where there is a refusal the session ended with it

@@ -12,7 +12,7 @@ use Rattle.prevalence_store.specs.meaning.Acceptance.{read_in}
 use Rattle.user_macros.specs.Functions.{Functions}
 use Rattle.sessions.specs.Account.{first_account}
 use Rattle.prevalence_store.specs.calls.Open.{IsOpened}
-use Rattle.sessions.specs.Answers.{Progress, after_forms, last_line, refusal_line}
+use Rattle.sessions.specs.FormAnswers.{Progress, after_forms, last_line, refusal_line}
 use Rattle.sessions.specs.Serve.{IsPlace, IsFormUnaccepted, ServesWanted, ended_after_cut}
 use Rattle.prevalence_store.specs.calls.Store.{StoreView}
 use Rattle.prevalence_store.specs.calls.Zeros.{TriesToCutZeros}

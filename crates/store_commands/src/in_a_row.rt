@@ -6,7 +6,7 @@ ghost use Rattle.user_macros.specs.Functions.{are_registered};
 ghost use Rattle.store_commands.specs.Accounts.{BeginsAccount, EndsAccount, IsAccountOfSessions};
 ghost use Rattle.store_commands.specs.Commands.{AreStreamsUntouched};
 ghost use Rattle.store_commands.specs.Session.{half_limit};
-ghost use Rattle.store_commands.specs.Sessions.{AreSessions, InTurn};
+ghost use Rattle.store_commands.specs.SessionsInRow.{AreSessions, InTurn};
 
 use crate::opening::Opening;
 use crate::recipient::SessionRecipient;

@@ -1,6 +1,6 @@
 // A terminal: prompts before its lines, and sessions in a row.
 ghost use Rattle.std.specs.Prelude.{◌≡◌};
-ghost use Rattle.store_commands.specs.Sessions.{Drops, DropsByte};
+ghost use Rattle.store_commands.specs.SessionsInRow.{Drops, DropsByte};
 
 use crate::answers::Heard;
 use crate::given::is_blank;

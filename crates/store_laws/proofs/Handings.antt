@@ -7,7 +7,7 @@ use Rattle.sessions.specs.Account.{Account, AreStored, AreUnderWay, call_of, wit
 use Rattle.prevalence_store.specs.calls.Store.{StoreView}
 use Rattle.store_laws.specs.Batches.{AreTogether, InWholeCalls}
 use Rattle.store_laws.specs.Histories.{Happened, called}
-use Rattle.store_laws.specs.Sessions.{AreCalls, AreHanded, Handing, account_after, call_since, calls_of}
+use Rattle.store_laws.specs.SessionLines.{AreCalls, AreHanded, Handing, account_after, call_since, calls_of}
 use Rattle.user_macros.specs.Functions.{Functions}
 
 module _ (functions : Functions) {D : Type 0} (state : D → State) where

@@ -9,7 +9,7 @@ use Rattle.lisp_operators.specs.Evaluation.{Evaluation}
 use Rattle.plist_state.specs.State.{WorldState}
 use Rattle.session_words.specs.declared.mode.Mode.{Mode}
 use Rattle.prevalence_store.specs.meaning.Acceptance.{between, read_in, transaction_value}
-use Rattle.sessions.specs.Answers.{Progress, after_forms, first_progress, form_progress, last_line, one_form, one_form_more, onward}
+use Rattle.sessions.specs.FormAnswers.{Progress, after_forms, first_progress, form_progress, last_line, one_form, one_form_more, onward}
 use Rattle.sessions.specs.Serve.{IsFormUnaccepted}
 use Rattle.store_laws.specs.Outcomes.{EndsAtRefusal, HasForms, answers}
 use Rattle.user_macros.specs.Functions.{Functions}

@@ -13,8 +13,8 @@ use Rattle.messages.specs.declared.request.Replies.{Replies}
 use Rattle.messages.specs.declared.request.Request.{Request}
 use Rattle.prevalence_store.specs.meaning.Acceptance.{after}
 use Rattle.prevalence_store.specs.meaning.Files.{MeansWorld}
-use Rattle.messages.specs.Answers.{Round, round_after_requests, first_round, each_request}
-use Rattle.messages.specs.Calls.{AnswersRequests, AreAnsweredAndLogged, FailOnDevice, left_after}
+use Rattle.messages.specs.MessageAnswers.{Round, round_after_requests, first_round, each_request}
+use Rattle.messages.specs.MessageCalls.{AnswersRequests, AreAnsweredAndLogged, FailOnDevice, left_after}
 use Rattle.messages.specs.Position.{position_property}
 use Rattle.messages.proofs.Settling.{unchanged_or_failed}
 use Rattle.prevalence_store.proofs.Surviving.{one_world}

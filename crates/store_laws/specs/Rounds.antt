@@ -8,8 +8,8 @@ use Rattle.prevalence_store.specs.calls.Execute.{SurvivesAs}
 use Rattle.prevalence_store.specs.calls.Store.{StoreView}
 use Rattle.messages.specs.declared.request.Replies.{Replies}
 use Rattle.messages.specs.declared.request.Request.{Request}
-use Rattle.messages.specs.Answers.{Round, round_after_requests, first_round, each_request, one_request}
-use Rattle.messages.specs.Calls.{AnswersRequests, left_after}
+use Rattle.messages.specs.MessageAnswers.{Round, round_after_requests, first_round, each_request, one_request}
+use Rattle.messages.specs.MessageCalls.{AnswersRequests, left_after}
 use Rattle.messages.specs.Position.{position_property}
 use Rattle.user_macros.specs.Functions.{Functions}
 

@@ -28,7 +28,7 @@ use Rattle.store_commands.specs.Report.{IsReport}
 use Rattle.store_commands.specs.Status.{IsOfWords}
 use Rattle.store_reports.specs.Log.{IsLogText, least_records}
 use Rattle.store_commands.specs.Session.{half_limit}
-use Rattle.store_commands.specs.Texts.{TellsText}
+use Rattle.store_commands.specs.StatusAfterText.{TellsText}
 use Rattle.store_commands.specs.declared.status.Status.{Status}
 use Rattle.store_commands.specs.declared.status.Status.TheVariants as statuses
 use Rattle.store_looks.specs.Looks.{PrintsText}

@@ -7,7 +7,7 @@ use Rattle.command_words.specs.CheckLine.{AsksToCheck}
 use Rattle.command_words.specs.LookLine.{text_of}
 use Rattle.command_words.specs.declared.check.Check.{Check}
 use Rattle.diagnostics.specs.Refusals.{form_of, line_of}
-use Rattle.diagnostics.specs.Texts.{WritesFront}
+use Rattle.diagnostics.specs.StreamTexts.{WritesFront}
 use Rattle.diagnostics.specs.declared.refusal.Refusal.{Refusal}
 use Rattle.diagnostics.specs.declared.refusal.Spots.{Spots}
 use Rattle.form_check.specs.Checking.{Checking, check_of_text, setting_under}

@@ -26,7 +26,7 @@ use Rattle.prevalence_store.specs.calls.Store.{StoreView}
 use Rattle.store_commands.specs.Folders.{OpensStore}
 use Rattle.store_commands.specs.Report.{IsReport}
 use Rattle.store_commands.specs.Session.{half_limit}
-use Rattle.store_commands.specs.Texts.{TellsText}
+use Rattle.store_commands.specs.StatusAfterText.{TellsText}
 use Rattle.store_commands.specs.Status.{IsOfWords}
 use Rattle.store_commands.specs.declared.status.Status.{Status}
 use Rattle.store_commands.specs.declared.status.Status.TheVariants as statuses
@@ -36,7 +36,7 @@ use Rattle.store_looks.specs.declared.unlooked.Unlooked.TheVariants as unlooked
 use Rattle.store_reports.specs.Backup.{IsBackupMade, HasNoBackup}
 use Rattle.store_reports.specs.Figures.{AreFiguresOf, file_info_text, info_text, verified_text}
 use Rattle.store_reports.specs.Log.{IsLogText, least_records}
-use Rattle.store_reports.specs.Places.{Deed}
+use Rattle.store_reports.specs.NewStorePlaces.{Deed}
 use Rattle.store_reports.specs.PropertyCounts.{IsCountText, IsNoCount}
 use Rattle.store_reports.specs.ShownProperties.{ArePropertiesShown, ArePropertiesUnshown}
 use Rattle.store_reports.specs.declared.backups.BackupError.{BackupError}

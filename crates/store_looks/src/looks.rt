@@ -10,7 +10,7 @@ ghost use Rattle.prevalence_store.specs.calls.Open.{IsOpened};
 ghost use Rattle.store_commands.specs.Session.{half_limit};
 ghost use Rattle.command_words.specs.LookLine.{AsksToLook};
 ghost use Rattle.store_reports.specs.Backup.{IsBackupMade, HasNoBackup};
-ghost use Rattle.store_commands.specs.Texts.{TellsText};
+ghost use Rattle.store_commands.specs.StatusAfterText.{TellsText};
 ghost use Rattle.store_looks.specs.Looks.{EndsUnlooked, Prints};
 ghost use Rattle.store_looks.specs.LookReports.{BacksUp, LooksAsAsked, LooksAt, Sees, TellsDump, TellsLog, TellsLook, Unopens, WithholdsBackup, WithholdsDump, WithholdsLog, WithholdsLook, notation_of, system_of};
 ghost use Rattle.store_looks.specs.FailedLooks.{status_of};

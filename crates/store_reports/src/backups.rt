@@ -6,7 +6,7 @@ ghost use Rattle.gate_log.specs.HalfInUse.{IsAt, Shows};
 ghost use Rattle.gate_log.specs.Layout.{Contents};
 ghost use Rattle.gate_log.specs.Log.{FilesMean};
 ghost use Rattle.store_reports.specs.Backup.{HoldsWorld, HoldsNoRecord, HoldsTextAlone, IsCompared, IsBackupMade, IsNotBegun, HasItsName, IsToldAs, IsUncompared, HasNoBackup, IsBackupUnopened, IsCopyUnplaced, IsHalfUnread, IsCopyUnwritten, IsCopyWritten};
-ghost use Rattle.store_reports.specs.Numbers.{open_number, read_number, start_number};
+ghost use Rattle.store_reports.specs.LogRefusals.{open_number, read_number, start_number};
 ghost use Rattle.store_reports.specs.declared.backups.BackupError.TheVariants as errors;
 
 use crate::places::StorePlaces;

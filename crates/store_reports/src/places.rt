@@ -1,6 +1,6 @@
 //! Where new stores are made.
 ghost use Rattle.std.specs.Prelude.{◌≡◌, ℕ, List, IfOk, MatchResult, ⊤};
-ghost use Rattle.store_reports.specs.Places.{Deed, begun, not_begun, opened, told, placed, not_placed, taken_away};
+ghost use Rattle.store_reports.specs.NewStorePlaces.{Deed, begun, not_begun, opened, told, placed, not_placed, taken_away};
 
 use crate::backups::BackupError;
 use disk_trait::{Disk, HostDisk, HostError, IfMissing};

@@ -14,7 +14,7 @@ use Rattle.package_table.specs.Symbols.{symbols}
 use Rattle.package_table.specs.Table.{Name, Table as Packages, common_lisp}
 use Rattle.plist_state.specs.State.{WorldState, standard_name}
 use Rattle.plist_state.specs.Changes.{with_macro, with_dispatch, with_packages}
-use Rattle.lisp_operators.specs.Kinds.{a_character, a_keyword, given_or, given_or_nil, is_true}
+use Rattle.lisp_operators.specs.ArgumentKinds.{a_character, a_keyword, given_or, given_or_nil, is_true}
 use Rattle.lisp_operators.specs.Evaluation.{Done, Evaluation, gives, also, and_then, of_kind}
 use Rattle.lisp_operators.specs.Properties.{t}
 use Rattle.lisp_operators.specs.Readtables.{a_function, after_first, changeable, is_function, set_dispatch, set_macro, with_readtables}

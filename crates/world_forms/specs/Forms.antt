@@ -11,7 +11,7 @@ use Rattle.plist_state.specs.State.{WorldState}
 use Rattle.canon_printer.specs.Written.{printed_text}
 use Rattle.session_words.specs.declared.content.Content.{Content}
 use Rattle.session_words.specs.declared.content.Content.TheVariants.{World, Data}
-use Rattle.world_forms.specs.Tokens.{line_of_form, value_text}
+use Rattle.world_forms.specs.NameTokens.{line_of_form, value_text}
 use Rattle.world_forms.specs.Packages.{package_lines}
 use Rattle.world_forms.specs.Properties.{property_lines}
 use Rattle.world_forms.specs.Readtables.{readtable_lines}

@@ -7,7 +7,7 @@ use Rattle.package_table.specs.Table.{Name, Table, common_lisp, common_lisp_user
 use Rattle.package_table.specs.Lookup.{is_present}
 use Rattle.package_table.specs.Readers.{package_names, used_names, own_names, external_names, imports}
 use Rattle.canon_printer.specs.Written.{printed_text}
-use Rattle.world_forms.specs.Tokens.{line_of_form, call_text, value_text}
+use Rattle.world_forms.specs.NameTokens.{line_of_form, call_text, value_text}
 
 -- a package that is there from the first
 unfoldable pub is_first : Name → Bool

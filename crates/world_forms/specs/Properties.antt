@@ -13,7 +13,7 @@ use Rattle.plist_state.specs.Properties.{Symbol}
 use Rattle.plist_state.specs.State.{WorldState}
 use Rattle.plist_state.specs.Changes.{plist}
 use Rattle.plist_state.specs.Readers.{symbols_with_properties}
-use Rattle.world_forms.specs.Tokens.{line_of_form, symbol_text, quoted_text, told_text}
+use Rattle.world_forms.specs.NameTokens.{line_of_form, symbol_text, quoted_text, told_text}
 
 -- the form that sets a property of a symbol
 unfoldable pub property_form : Table → Symbol → Symbol × Object → List ℕ

@@ -16,7 +16,7 @@ use Rattle.readtable_core.specs.Tables.{Table, CharacterEntry, entry_at, standar
 use Rattle.package_table.specs.Table.{Name, keyword}
 use Rattle.plist_state.specs.State.{WorldState, standard_name}
 use Rattle.plist_state.specs.Readers.{readtable_names}
-use Rattle.world_forms.specs.Tokens.{line_of_form, value_text, keyword_argument, character_argument}
+use Rattle.world_forms.specs.NameTokens.{line_of_form, value_text, keyword_argument, character_argument}
 
 -- the first character with this syntax type, and without a function, in the standard readtable
 unfoldable pub character_of_type : Syntax → Option ℕ

@@ -26,7 +26,7 @@ use Rattle.session_words.specs.declared.wanted.SessionOptions.{SessionOptions}
 use Rattle.sessions.specs.declared.ending.Ending.{Ending}
 use Rattle.sessions.specs.declared.ending.Ending.TheVariants.{End, Reader, Store}
 use Rattle.prevalence_store.specs.meaning.Acceptance.{between, read_in, records_of, transaction_value}
-use Rattle.sessions.specs.Answers.{Progress, first_progress, refusal_line, value_line}
+use Rattle.sessions.specs.FormAnswers.{Progress, first_progress, refusal_line, value_line}
 use Rattle.sessions.specs.Pace.{Fill, LogsWithRoom, Pace, Paces, fill_of, fill_with_record}
 use Rattle.sessions.specs.Serve.{Advances, IsOver, IsFormUnaccepted, Serves, ServesInPace}
 use Rattle.prevalence_store.specs.calls.Store.{StoreView}

@@ -23,7 +23,7 @@ use Rattle.sessions.specs.declared.whole_forms.WholeForms.{WholeForms}
 use Rattle.sessions.specs.Serve.{room_of}
 use Rattle.prevalence_store.specs.calls.Store.{StoreView}
 use Rattle.prevalence_store.specs.meaning.Acceptance.{after, between, read_in, transaction_value}
-use Rattle.sessions.specs.Answers.{Progress, after_forms, form_progress}
+use Rattle.sessions.specs.FormAnswers.{Progress, after_forms, form_progress}
 use Rattle.sessions.specs.steps.Course.{Course}
 use Rattle.prevalence_store.specs.steps.Batch.{entries_in}
 use Rattle.sessions.specs.steps.Input.{IsPending}

@@ -10,7 +10,7 @@ use Rattle.sessions.specs.declared.ending.Place.{Place}
 use Rattle.session_words.specs.declared.wanted.SessionOptions.{SessionOptions}
 use Rattle.sessions.specs.declared.ending.Ending.{Ending}
 use Rattle.sessions.specs.declared.ending.Ending.TheVariants.{End, Reader, Store}
-use Rattle.sessions.specs.Answers.{Progress, after_forms}
+use Rattle.sessions.specs.FormAnswers.{Progress, after_forms}
 use Rattle.sessions.specs.Pace.{Pace, Paces, fill_of}
 use Rattle.sessions.specs.steps.Input.{IsPending}
 use Rattle.sessions.specs.steps.Course.{Comes, Course}

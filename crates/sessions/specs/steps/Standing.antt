@@ -8,7 +8,7 @@ use Rattle.sessions.specs.Account.{Account, AreUnderWay}
 use Rattle.prevalence_store.specs.calls.Store.{StoreView}
 use Rattle.session_words.specs.declared.mode.Mode.{Mode}
 use Rattle.sessions.specs.declared.input.Pending.{Pending}
-use Rattle.sessions.specs.Answers.{Progress, after_forms}
+use Rattle.sessions.specs.FormAnswers.{Progress, after_forms}
 use Rattle.prevalence_store.specs.meaning.Acceptance.{read_in}
 use Rattle.sessions.specs.steps.Answer.{BeginsWith}
 use Rattle.sessions.specs.steps.Gather.{BeginsWhole}

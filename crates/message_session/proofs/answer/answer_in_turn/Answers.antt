@@ -2,8 +2,8 @@ use Rattle.std.proofs.Common.{◌≡◌, ℕ, ◌+◌, List, ◌++◌, map, take
 use Rattle.message_frames.specs.Frames.{sent_frame}
 use Rattle.message_frames.specs.declared.frame.MessageFrame.{MessageFrame}
 use Rattle.message_laws.proofs.Tidy.{sound_tidy}
-use Rattle.message_session.specs.Answers.{answered_bytes}
-use Rattle.message_session.specs.Sessions.{AreFramesAnswered}
+use Rattle.message_session.specs.FrameAnswers.{answered_bytes}
+use Rattle.message_session.specs.MessageSessions.{AreFramesAnswered}
 use Rattle.message_session.specs.Standing.{AnswersMore, ComeNext}
 use Rattle.message_session.specs.Steps.{Breaks, ended_by}
 use Rattle.message_session.proofs.Causes.{breaks_both, breaks_more}

@@ -1,7 +1,7 @@
 use Rattle.std.proofs.Common.{◌≡◌, Some, map, take, drop}
 use Rattle.message_frames.specs.Frames.{sent_frame}
-use Rattle.message_session.specs.Answers.{answered_bytes}
-use Rattle.message_session.specs.Sessions.{AreFramesAnswered}
+use Rattle.message_session.specs.FrameAnswers.{answered_bytes}
+use Rattle.message_session.specs.MessageSessions.{AreFramesAnswered}
 use Rattle.message_session.specs.Standing.{AnswersMore, ComeNext, RestsAt}
 use Rattle.plist_state.specs.State.{WorldState}
 use Rattle.message_session.proofs.answer.answer_in_turn.Given as goal

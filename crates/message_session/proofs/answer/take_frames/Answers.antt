@@ -2,14 +2,14 @@ use Rattle.std.proofs.Common.{◌≡◌, ℕ, List, ◌++◌, Option, Some, Ok, 
 use Rattle.std.specs.Option.{option_map}
 use Rattle.std.specs.List.{flat_map}
 use Rattle.std.proofs.lemmas.List.{take-append-drop, take-map}
-use Rattle.client_table.specs.Calls.{AnswersAllAsked}
+use Rattle.client_table.specs.CallsByName.{AnswersAllAsked}
 use Rattle.client_table.specs.declared.asked.AnyRequest.{AnyRequest}
 use Rattle.disk_trait.specs.Disk.{IsHonest}
 use Rattle.message_frames.specs.Frames.{Sent, answer_bytes, sent_frame}
 use Rattle.message_laws.proofs.Tidy.{sound_tidy}
-use Rattle.message_session.specs.Answers.{AskAlike, answered_bytes, answers_to}
+use Rattle.message_session.specs.FrameAnswers.{AskAlike, answered_bytes, answers_to}
 use Rattle.message_session.specs.Account.{MessageAccount, AnswersAreStored, with_frames}
-use Rattle.message_session.specs.Sessions.{AreFramesAnswered, HasCarriedOut}
+use Rattle.message_session.specs.MessageSessions.{AreFramesAnswered, HasCarriedOut}
 use Rattle.message_session.specs.Standing.{ComeNext, RestsAt}
 use Rattle.message_session.specs.Steps.{Breaks}
 use Rattle.message_session.specs.declared.answer.TheConstants.{MOST_CLIENTS}

@@ -1,7 +1,7 @@
 use Rattle.std.proofs.Common.{◌<◌, ◌++◌, map, length, inr, ap, subst, ◌∙◌, sym, arith}
 use Rattle.snapshot_lines.specs.declared.texts.Coming.{Coming}
 use Rattle.snapshot_lines.specs.declared.texts.Coming.TheVariants.{Item, End}
-use Rattle.snapshot_lines.specs.Texts.{unescaped_pair, pair_text, items_rest, IsNextItem, LeavesLess}
+use Rattle.snapshot_lines.specs.QuotedTexts.{unescaped_pair, pair_text, items_rest, IsNextItem, LeavesLess}
 use Rattle.snapshot_lines.proofs.Quoted.{IsItem, next_item, one_more_read, all_read}
 use Rattle.snapshot_lines.proofs.texts.pairs_in.Goals as goal
 

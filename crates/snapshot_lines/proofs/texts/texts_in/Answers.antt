@@ -2,7 +2,7 @@ use Rattle.std.proofs.Common.{◌<◌, ◌++◌, map, length, inr, ap, subst, �
 use Rattle.canon_printer.specs.Written.{printed_text}
 use Rattle.snapshot_lines.specs.declared.texts.Coming.{Coming}
 use Rattle.snapshot_lines.specs.declared.texts.Coming.TheVariants.{Item, End}
-use Rattle.snapshot_lines.specs.Texts.{unescaped, items_rest, IsNextItem, LeavesLess}
+use Rattle.snapshot_lines.specs.QuotedTexts.{unescaped, items_rest, IsNextItem, LeavesLess}
 use Rattle.snapshot_lines.proofs.Quoted.{IsItem, next_item, one_more_read, all_read}
 use Rattle.snapshot_lines.proofs.texts.texts_in.Goals as goal
 

@@ -1,10 +1,10 @@
 use Rattle.std.proofs.Common.{ℕ, ◌+◌, ◌<◌, List, [], ◌++◌, map, length, drop, get_or, inl, inr, sym, ap, subst, ◌∙◌, arith}
 use Rattle.package_table.specs.Table.{Name}
 use Rattle.world_text.specs.Snapshot.{package_object}
-use Rattle.world_text.specs.Texts.{object_text}
+use Rattle.world_text.specs.ObjectTexts.{object_text}
 use Rattle.snapshot_lines.specs.declared.texts.Coming.{Coming}
 use Rattle.snapshot_lines.specs.declared.texts.Coming.TheVariants.{Item, End}
-use Rattle.snapshot_lines.specs.Texts.{items_rest, IsNextItem, LeavesLess}
+use Rattle.snapshot_lines.specs.QuotedTexts.{items_rest, IsNextItem, LeavesLess}
 use Rattle.snapshot_lines.proofs.Quoted.{IsItem, next_item}
 use Rattle.snapshot_text.specs.declared.package_parts.PackageParts.{PackageParts}
 use Rattle.snapshot_text.specs.Phases.{AreFirstRows, IsRowOf, other_packages}

@@ -2,7 +2,7 @@ use Rattle.std.proofs.Common.{◌∙◌, ℕ, List, Option, IsSome, refl, subst,
 use Rattle.sessions.specs.Account.{Account}
 use Rattle.plist_state.specs.State.{WorldState}
 use Rattle.store_commands.specs.Accounts.{BeginsAccount}
-use Rattle.store_commands.specs.Sessions.{InTurn}
+use Rattle.store_commands.specs.SessionsInRow.{InTurn}
 use Rattle.store_commands.proofs.in_a_row.sessions_on.Goals as goal
 
 pub serve_in_turn-ended-requires-clause-is_open : goal.serve_in_turn-ended-requires-clause-is_open

@@ -9,7 +9,7 @@ use Rattle.client_table.specs.Named.{by_name}
 use Rattle.client_table.specs.declared.asked.AnyRequest.{AnyRequest}
 use Rattle.client_table.specs.declared.asked.AnyRequest.TheVariants as asked
 use Rattle.message_session.specs.declared.answer.TheConstants.{MOST_CLIENTS}
-use Rattle.messages.specs.Answers.{Round, first_round, by_number}
+use Rattle.messages.specs.MessageAnswers.{Round, first_round, by_number}
 use Rattle.user_macros.specs.Functions.{Functions}
 
 -- what is asked, and by which frame

@@ -22,7 +22,7 @@ use Rattle.prevalence_store.specs.calls.Execute.{DeviceFails, Executes, IsTextAc
 use Rattle.prevalence_store.specs.calls.ExecuteAll.{AllOrNone, LogsAll}
 use Rattle.prevalence_store.specs.calls.Store.{StoreView}
 use Rattle.prevalence_store.specs.meaning.Acceptance.{accepts, after, read_in}
-use Rattle.messages.specs.Answers.{Round, round_after_requests, first_round, each_request}
+use Rattle.messages.specs.MessageAnswers.{Round, round_after_requests, first_round, each_request}
 use Rattle.messages.specs.Position.{is_position_hidden, own_form, own_text, position, position_property}
 use Rattle.messages.specs.Rounds.{told_in}
 use Rattle.prevalence_store.specs.steps.Failure.{failure_number, is_device_failure}

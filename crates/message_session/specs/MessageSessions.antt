@@ -5,7 +5,7 @@ use Rattle.std.specs.List.{flat_map}
 use Rattle.disk_trait.specs.Disk.{State}
 use Rattle.message_frames.specs.Frames.{AreFrames, IsBegunFrame, IsMalformedFrame, Sent, frame_bytes, position_bytes}
 use Rattle.message_laws.specs.NearRounds.{Near}
-use Rattle.message_session.specs.Answers.{AskAlike, each_frame, session_bytes}
+use Rattle.message_session.specs.FrameAnswers.{AskAlike, each_frame, session_bytes}
 use Rattle.message_session.specs.declared.ended.MessagesEnd.{MessagesEnd}
 use Rattle.message_session.specs.declared.ended.MessagesEnd.TheVariants.{End, NoFrame, Fault}
 use Rattle.lisp_object.specs.declared.refusal.TheConstants.{INPUT, LOG_FULL, NO_MEMORY, OUTPUT, REOPEN, SNAPSHOT_TOO_LARGE}
@@ -14,12 +14,12 @@ use Rattle.prevalence_store.specs.calls.Execute.{SurvivesAs}
 use Rattle.prevalence_store.specs.calls.Snapshot.{IsSnapshotted, Snapshots}
 use Rattle.prevalence_store.specs.calls.Store.{StoreView}
 use Rattle.sessions.specs.Streams.{Writes, WritesPart}
-use Rattle.client_table.specs.Calls.{AnswersAllAsked}
+use Rattle.client_table.specs.CallsByName.{AnswersAllAsked}
 use Rattle.client_table.specs.declared.asked.AnyRequest.{AnyRequest}
 use Rattle.message_session.specs.declared.answer.TheConstants.{MOST_CLIENTS}
 use Rattle.prevalence_store.specs.declared.outcome.Outcome.TheVariants.{Refused}
-use Rattle.messages.specs.Answers.{first_round}
-use Rattle.messages.specs.Calls.{BeginsMessages}
+use Rattle.messages.specs.MessageAnswers.{first_round}
+use Rattle.messages.specs.MessageCalls.{BeginsMessages}
 use Rattle.user_macros.specs.Functions.{Functions}
 use Rattle.world_text.specs.Snapshot.{snapshot}
 

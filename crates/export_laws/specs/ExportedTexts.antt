@@ -5,7 +5,7 @@ use Rattle.package_table.specs.Table.{common_lisp_user}
 use Rattle.plist_state.specs.State.{WorldState}
 use Rattle.session_words.specs.declared.mode.Mode.TheVariants.{Current}
 use Rattle.prevalence_store.specs.meaning.Acceptance.{table_in}
-use Rattle.sessions.specs.Answers.{Progress, after_forms}
+use Rattle.sessions.specs.FormAnswers.{Progress, after_forms}
 use Rattle.snapshot_text.specs.BuiltWorlds.{with_properties_of}
 use Rattle.user_macros.specs.Functions.{Functions}
 

@@ -19,7 +19,7 @@ use Rattle.lisp_operators.specs.declared.places.Direction.TheVariants.{Increment
 use Rattle.lisp_operators.specs.Evaluation.{Evaluation, writes, of_kind}
 use Rattle.lisp_operators.specs.declared.evaluated.Evaluated.{Evaluated}
 use Rattle.lisp_operators.specs.EvaluationAnswers.{Answers, done}
-use Rattle.lisp_operators.specs.Kinds.{a_symbol, an_integer}
+use Rattle.lisp_operators.specs.ArgumentKinds.{a_symbol, an_integer}
 use Rattle.lisp_operators.specs.Properties.{amount, is_in_range}
 
 -- the integer that comes of another one and an amount

@@ -8,8 +8,8 @@ use Rattle.client_table.specs.declared.asked.AnyRequest.TheVariants as asked
 use Rattle.client_table.specs.declared.asked.Named.{Named}
 use Rattle.client_table.specs.declared.asked.TheConstants.{NO_ENTRY}
 use Rattle.disk_trait.specs.Disk.{State}
-use Rattle.messages.specs.Answers.{Round, first_round, without_its_position}
-use Rattle.messages.specs.Calls.{AreAnsweredAndLogged, AreNotAnswered, IsNotCleared, IsNotClosed, RefusesRequest}
+use Rattle.messages.specs.MessageAnswers.{Round, first_round, without_its_position}
+use Rattle.messages.specs.MessageCalls.{AreAnsweredAndLogged, AreNotAnswered, IsNotCleared, IsNotClosed, RefusesRequest}
 use Rattle.messages.specs.Fronts.{answer_length}
 use Rattle.messages.specs.declared.request.Replies.{Replies}
 use Rattle.messages.specs.declared.request.TheConstants.{ANSWER_BYTES}
