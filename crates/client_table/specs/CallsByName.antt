@@ -23,25 +23,26 @@ use Rattle.user_macros.specs.Functions.{Functions}
 
 -- ---- one message with a name
 
--- the answer to it, the last one that was given, stands in the entry of its client, beside its number and its form
+-- the answer to this message, the last one that was given, stands in the entry of its client, beside its number and its form
 abbrev pub HasAnswer : ℕ → List ℕ → List ℕ → Round → Round → Type 0
 HasAnswer number name form round after =
     (answer : List ℕ) × (wrote : Bool) × (after.told ≡ round.told ++ (answer, wrote) ∷ []) × (entry after.left name ≡ Some (number, kept_message form answer))
 
--- Nothing has changed; or the answer to its form is kept; or its client has gone.
+-- After a message nothing has changed; or the answer to its form is kept; or its client has gone.
 abbrev pub KeepsAnswerAt : ℕ → List ℕ → Option (List ℕ) → Round → Round → Type 0
 KeepsAnswerAt number name None round after = (after.left ≡ round.left) ⊎ (entry_property after.left name ≡ None)
 KeepsAnswerAt number name (Some form) round after = (after.left ≡ round.left) ⊎ HasAnswer number name form round after
 
--- but that the position is out
+-- what a message with a name keeps, in a world from which the position was taken out
 abbrev pub KeepsAnswer : Round → Named → Round → Type 0
 KeepsAnswer round message after = KeepsAnswerAt message.number (client_name_in message.text.now) (form_in message.text.now) (without_its_position round) after
 
+-- what one request keeps: of one without a name nothing is said
 abbrev pub KeepsOne : Round → AnyRequest → Round → Type 0
 KeepsOne round (asked.Request request) after = Unit {0}
 KeepsOne round (asked.Named message) after = KeepsAnswer round message after
 
--- so it is of each of them, one after the other
+-- what each of these keeps, one after the other
 unfoldable pub KeepsAnswers : Functions → ℕ → Round → List AnyRequest → Type 0
 KeepsAnswers functions most round [] = Unit {0}
 KeepsAnswers functions most round (one ∷ later) =
@@ -61,10 +62,13 @@ RefusesNamed functions most round message number =
     IsNotCleared functions round number
     ⊎ ((number ≡ NO_ENTRY) × IsAmissAt functions (client_name_in message.text.now) (form_in message.text.now) (without_its_position round))
 
+-- why the store's own form before one request is refused with this number
 abbrev pub RefusesAsked : Functions → ℕ → Round → AnyRequest → ℕ → Type 0
 RefusesAsked functions most round (asked.Request request) number = RefusesRequest functions round request number
 RefusesAsked functions most round (asked.Named message) number = RefusesNamed functions most round message number
 
+-- a form of the store's own is refused with this number: before one of these requests, or as the position is set after all
+-- of them
 abbrev pub RefusesAnyOwn : Functions → ℕ → Round → List AnyRequest → ℕ → Type 0
 RefusesAnyOwn functions most first all number =
     ((before : List AnyRequest) × (one : AnyRequest) × (later : List AnyRequest) × (all ≡ before ++ one ∷ later)
@@ -74,7 +78,8 @@ RefusesAnyOwn functions most first all number =
 -- ---- the call
 
 module _ (functions : Functions) {D R : Type 0} (state : D → State) (old new : StoreView D R) (world : WorldState) (most : ℕ) (last : ℕ) where
-  -- They have these answers, and what they need was logged together, with the position. Each answer of a message with a name is in the table.
+  -- All have these answers, and what they need was logged together, with the position. Each answer of a message with a name
+  -- is in the table. Or they are not answered, and this is why.
   abbrev pub AnswersAllAsked : List AnyRequest → Result Replies ℕ → Type 0
   AnswersAllAsked all (Ok replies) =
       AreAnsweredAndLogged functions state old new world (all_answered functions most (first_round last world) all) replies
@@ -83,7 +88,8 @@ module _ (functions : Functions) {D R : Type 0} (state : D → State) (old new :
       (RefusesAnyOwn functions most (first_round last world) all number × (new ≡ old))
       ⊎ ((cause : Unlogged) × (number ≡ failure_number cause) × AreNotAnswered functions state old new world (all_answered functions most (first_round last world) all) cause)
 
-  -- The first of them, up to the one with whose answer the answers have so many bytes. The rest is as if it had not been asked.
+  -- The first of these are answered, up to the one with whose answer the answers have so many bytes. The rest is as if it
+  -- had not been asked.
   pub record AnswersFirstAsked (all : List AnyRequest) (result : Result Replies ℕ) : Type 0 where
     pub front : List AnyRequest
     pub rest : List AnyRequest

@@ -36,6 +36,7 @@ module _ (functions : Functions) (most : ℕ) (name : List ℕ) where
       ((client_name_in message.text.now ≡ name) × IsSome (form_in message.text.now) × IsHandable message)
       ⊎ (entry (one_asked functions most round (asked.Named message)).left name ≡ entry round.left name)
 
+  -- each of these, one after the other, leaves the entry of this client alone
   unfoldable pub LeaveAlone : Round → List AnyRequest → Type 0
   LeaveAlone round [] = Unit {0}
   LeaveAlone round (one ∷ later) = LeavesEntry round one × LeaveAlone (one_asked functions most round one) later

@@ -13,7 +13,7 @@ use Rattle.user_macros.specs.Functions.{Functions}
 abbrev pub RefusesMessageAt : Functions → List ℕ → Option (List ℕ) → Round → ℕ → Type 0
 RefusesMessageAt functions name form round refusal = (refusal ≡ NO_ENTRY) × IsAmissAt functions name form round
 
--- the number with which a form was refused
+-- the number with which a form was refused; None, where it was not
 abbrev pub refusal_of : Result Object ℕ → Option ℕ
 refusal_of (Ok value) = None
 refusal_of (Err number) = Some number
@@ -23,5 +23,6 @@ abbrev pub IsAdmittedBy : List ℕ → Result Acceptance ℕ → Round → Round
 IsAdmittedBy name (Ok given) round after refusal = (refusal ≡ None) × (after ≡ with_form_given (Ok given) round) × IsSome (entry_property after.left name)
 IsAdmittedBy name (Err number) round after refusal = (refusal ≡ Some number) × (after ≡ round)
 
+-- a client was admitted by the form that makes its entry, or refused with this number
 abbrev pub IsAdmitted : Functions → List ℕ → Round → Round → Option ℕ → Type 0
 IsAdmitted functions name round after refusal = IsAdmittedBy name (accepts functions round.left Rescue (admission_text round.left name)) round after refusal

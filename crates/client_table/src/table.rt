@@ -1,4 +1,5 @@
 // A message with a name, in a round: by the table.
+// After an error the world and the round may have changed: the marks of the world lead back.
 ghost use Rattle.std.specs.Prelude.{◌≡◌, ◌∷◌, ◌++◌, [], ℕ, Bool, List, true, false, None, Some, IfErr, IfOk, IsSome, OnOk};
 ghost use Rattle.client_table.specs.CallsByName.{HasAnswer, KeepsAnswer, KeepsAnswerAt, RefusesNamed};
 ghost use Rattle.client_table.specs.Entries.{HasEntrySymbols, entry, entry_property, kept_message};

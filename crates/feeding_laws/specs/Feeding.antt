@@ -20,12 +20,14 @@ use Rattle.user_macros.specs.Functions.{Functions}
 
 -- ---- frames without a name
 
--- A message with a name is answered again by the table of clients. These laws are of the others.
+-- A frame is none of a message with a name: those are answered again by the table of clients, and these laws are of the
+-- others.
 abbrev pub HasNoName : Kind → Type 0
 HasNoName (Do number) = Unit {0}
 HasNoName (By number) = ⊥
 HasNoName Ask = Unit {0}
 
+-- none of these frames is of a message with a name
 abbrev pub HaveNoNames : List Sent → Type 0
 HaveNoNames frames = AllByRecursion (λ (frame : Sent). HasNoName frame.0) frames
 
@@ -37,12 +39,12 @@ pub record FrameHanding (D R : Type 0) : Type 0 where
   pub bytes : List ℕ
   pub frames : List Sent
 
--- the account after them
+-- the account after the answers to these frames were handed on, one time after the other
 abbrev pub account_after_frames : Functions → {D R : Type 0} → MessageAccount D → List (FrameHanding D R) → MessageAccount D
 account_after_frames functions account [] = account
 account_after_frames functions account (one ∷ more) = account_after_frames functions (with_frames functions one.frames one.store account) more
 
--- each as the recipient asks, of frames without a name
+-- the answers to frames without a name were handed on one time after the other, each time as the recipient asks
 abbrev pub FramesAreHanded : Functions → {D R : Type 0} → (D → State) → MessageAccount D → List (FrameHanding D R) → Type 0
 FramesAreHanded functions state account [] = Unit {0}
 FramesAreHanded functions state account (one ∷ more) =
@@ -56,7 +58,7 @@ pub record IsFirst {D : Type 0} (account : MessageAccount D) : Type 0 where
 
 -- ---- as rounds of requests
 
--- a message without a name has a number, a question none
+-- the number of a message without a name; None for a question, which has none, and for a message with a name
 abbrev pub number_with : Kind → Option ℕ
 number_with (Do number) = Some number
 number_with (By number) = None

@@ -28,15 +28,15 @@ pub record MessageAccount (D : Type 0) : Type 0 where
 abbrev pub IsToldIn : ℕ → WorldState → Type 0
 IsToldIn number world = number ≤ unwrap_or (position world) 0
 
--- as this position is told in this world
+-- the account as a session begins: this position was told in this world, and no frame was answered
 abbrev pub first_message_account : {D : Type 0} → Option (List ℕ) → ℕ → WorldState → D → MessageAccount D
 first_message_account input position world disk = record { input = input; answered = []; last = position; now = world; disk = disk }
 
--- these frames after those that were answered: the answers, and what was logged together, with the position
+-- the round of these frames after those that were answered: their answers, and what was logged together, with the position
 abbrev pub round_after : Functions → {D : Type 0} → MessageAccount D → List Sent → Round
 round_after functions account frames = with_its_position (each_frame functions (first_round account.last account.now) frames)
 
--- after the answers to these frames
+-- the account after the answers to these frames, with the store as it is then
 abbrev pub with_frames : Functions → {D R : Type 0} → List Sent → StoreView D R → MessageAccount D → MessageAccount D
 with_frames functions frames store account = record {
   input = account.input;

@@ -12,30 +12,31 @@ use Rattle.message_session.specs.declared.answer.TheConstants.{MOST_CLIENTS}
 use Rattle.messages.specs.MessageAnswers.{Round, first_round, by_number}
 use Rattle.user_macros.specs.Functions.{Functions}
 
--- what is asked, and by which frame
+-- the kind of the frame in which a request comes: DO with the number of a message, or ASK for a question
 abbrev pub kind_by_number : Option ℕ → Kind
 kind_by_number (Some number) = Do number
 kind_by_number None = Ask
 
+-- the kind and the text of the frame in which this is asked
 abbrev pub parts_of_asked : AnyRequest → Sent
 parts_of_asked (asked.Request request) = (kind_by_number request.number, request.text.now)
 parts_of_asked (asked.Named message) = (By message.number, message.text.now)
 
--- this is what these frames ask
+-- these are asked in these frames, one after the other
 abbrev pub AskAlike : List AnyRequest → List Sent → Type 0
 AskAlike all frames = map parts_of_asked all ≡ frames
 
--- by its kind
+-- a round with the answer to one frame more, of this kind and text
 abbrev pub by_kind : Functions → Round → Kind → List ℕ → Round
 by_kind functions round (Do number) text = by_number functions round (Some number) text
 by_kind functions round (By number) text = by_name functions MOST_CLIENTS number text round
 by_kind functions round Ask text = by_number functions round None text
 
--- a round with the answer to one frame more, and to frames one after the other
+-- a round with the answer to one frame more
 abbrev pub one_frame : Functions → Round → Sent → Round
 one_frame functions round frame = by_kind functions round frame.0 frame.1
 
--- how far a round comes with these frames
+-- a round with the answers to these frames more, one after the other
 abbrev pub each_frame : Functions → Round → List Sent → Round
 each_frame functions round frames = fold (λ far frame. one_frame functions far frame) round frames
 
@@ -45,7 +46,7 @@ answers_to [] told = []
 answers_to (frame ∷ frames) [] = []
 answers_to (frame ∷ frames) (one ∷ more) = (frame.0, one.0) ∷ answers_to frames more
 
--- the answers to frames, after the message of this number, in a world; and their bytes
+-- the answers to frames in a world, after the message of this number
 abbrev pub answers_of : Functions → ℕ → WorldState → List Sent → List Sent
 answers_of functions last world frames = answers_to frames (each_frame functions (first_round last world) frames).told
 

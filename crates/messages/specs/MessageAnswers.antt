@@ -37,17 +37,17 @@ refusal_text number name = codes "! " ++ decimal number ++ 32 ∷ name
 abbrev pub refusal_answer : ℕ → List ℕ
 refusal_answer number = refusal_text number (name_of number)
 
--- a value or a refusal, in the world after it
+-- the answer to a form in the world after it: its value, or the number of its refusal
 abbrev pub answer_in : WorldState → Result Object ℕ → List ℕ
 answer_in world (Ok x) = printed_value world x
 answer_in world (Err number) = refusal_answer number
 
--- what evaluation gave for a question: one that would write is refused
+-- the answer to a question, by what evaluation gave: one that would write is refused
 abbrev pub answer_to_asked : Evaluation Object → List ℕ
 answer_to_asked (Ok done) = if done.wrote then refusal_text QUESTION_WRITES (codes "QUESTION-WRITES") else printed_value done.state done.value
 answer_to_asked (Err number) = refusal_answer number
 
--- by what was read: a text without a form is refused, and one with more after it
+-- the answer to a question whose text was read so: a text without a form is refused, and one with more after it
 abbrev pub answer_by_reading : Functions → WorldState → List ℕ → Reading → List ℕ
 answer_by_reading functions world text (form object start end next) =
     if next == length text then answer_to_asked (question_in_force functions.names world object) else refusal_answer TEXT_LEFT_OVER
@@ -73,15 +73,16 @@ pub record Round : Type 0 where
 abbrev pub first_round : ℕ → WorldState → Round
 first_round last world = record { told = []; last = max last (unwrap_or (position world) 0); left = world; entries = []; wrote = false }
 
--- one answer more
+-- a round with one answer more, of a message that wrote or not
 abbrev pub with_answer : List ℕ → Bool → Round → Round
 with_answer text wrote round = record round { told = round.told ++ (text, wrote) ∷ [] }
 
--- a form of the store's own more, and its record
+-- a round after one of the store's own forms: it has the world after the form, and its record; no answer is added
 abbrev pub with_own : Own → Round → Round
 with_own own round = record round { left = own_left own round.left; entries = round.entries ++ accepted_record Rescue (own_text own) ∷ [] }
 
--- without the position
+-- A round whose world has no position. Where it has one, the store's own form that takes it out is carried out, and its
+-- record is added.
 abbrev pub without_its_position : Round → Round
 without_its_position round = if is_some (position_property round.left) then with_own Clearing round else round
 
@@ -90,7 +91,8 @@ abbrev pub wrote_by : Result Acceptance ℕ → Bool
 wrote_by (Ok given) = given.wrote
 wrote_by (Err number) = false
 
--- a message more of this number, by what its text gives
+-- a round with one message more of this number, by what its text gives: its answer, the world after it, and its record if it
+-- wrote
 abbrev pub with_given : ℕ → Result Acceptance ℕ → Round → Round
 with_given number given round = record {
   told = round.told ++ (answer_in (world_left_after round.left given) (told_of given), wrote_by given) ∷ [];
@@ -100,11 +102,12 @@ with_given number given round = record {
   wrote = round.wrote || wrote_by given;
 }
 
--- a form more that is no message, by what it gives in Rescue: its records are logged with those of the messages
+-- A round after a form that is no message, by what it gives in Rescue. Its records are logged with those of the messages; no
+-- answer is added.
 abbrev pub with_form_given : Result Acceptance ℕ → Round → Round
 with_form_given given round = record round { left = world_left_after round.left given; entries = round.entries ++ logged_entries Rescue given; wrote = round.wrote || wrote_by given }
 
--- a property of a symbol more, and the record of a form that sets it
+-- a round after a property of a symbol was set, with the record of a form that sets it; no answer is added
 abbrev pub with_set : Symbol → Symbol → Object → List ℕ → Round → Round
 with_set owner indicator value text round = record round {
   left = with_property round.left owner indicator value;
@@ -112,43 +115,44 @@ with_set owner indicator value text round = record round {
   wrote = true;
 }
 
--- a message is carried out in a world without the position
+-- a round with one message more, carried out in the world of the round as it stands
 abbrev pub given_in : Functions → ℕ → List ℕ → Round → Round
 given_in functions number text round = with_given number (accepts functions round.left Current text) round
 
--- a message, which is carried out in a world without the position
+-- a round with one message more: the position is taken out, and then the message is carried out
 abbrev pub with_message : Functions → ℕ → List ℕ → Round → Round
 with_message functions number text round = given_in functions number text (without_its_position round)
 
--- a question is asked in the world as it stands, which stays
+-- a round with one question more, asked in the world of the round as it stands: its answer is added, and nothing else
 abbrev pub after_question : Functions → List ℕ → Round → Round
 after_question functions text round = with_answer (answer_to_question functions round.left text) false round
 
--- a question, which is asked in a world without the position
+-- a round with one question more: the position is taken out, and then the question is asked
 abbrev pub with_asked : Functions → List ℕ → Round → Round
 with_asked functions text round = after_question functions text (without_its_position round)
 
--- a message whose number is not over the last one is refused, and does nothing
+-- a round with one message more whose number is not over the last one: it is refused, and does nothing
 abbrev pub with_old : Round → Round
 with_old round = with_answer (refusal_text OLD_NUMBER (codes "OLD-NUMBER")) false round
 
--- a question has no number; a message is carried out if its number is over the last one, and else refused
+-- A round with one request more, by its number. A question has none; a message is carried out if its number is over the last
+-- one, and else refused.
 abbrev pub by_number : Functions → Round → Option ℕ → List ℕ → Round
 by_number functions round None text = with_asked functions text round
 by_number functions round (Some number) text = if nat_le number round.last then with_old round else with_message functions number text round
 
--- one request more
+-- a round with one request more
 abbrev pub one_request : Functions → Round → Request → Round
 one_request functions round request = by_number functions round request.number request.text.now
 
--- these requests more, one after the other
+-- a round with these requests more, one after the other
 abbrev pub each_request : Functions → Round → List Request → Round
 each_request functions round requests = fold (λ far request. one_request functions far request) round requests
 
--- The number of the last message becomes the position, if a message wrote.
+-- The end of a round: the number of the last message becomes the position, if a message wrote.
 abbrev pub with_its_position : Round → Round
 with_its_position round = if round.wrote then with_own (Position round.last) round else round
 
--- requests after these
+-- a whole round: these requests, one after the other, and then the position
 abbrev pub round_after_requests : Functions → Round → List Request → Round
 round_after_requests functions round requests = with_its_position (each_request functions round requests)

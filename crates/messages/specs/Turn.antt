@@ -20,7 +20,7 @@ pub record AreRequestsAnswered (functions : Functions) (world : WorldState) (rou
   pub records_are : records ≡ entries_by round.wrote round.entries
 
 module _ (functions : Functions) (turn : FirstRequests) (world : WorldState) where
-  -- those that are to be answered together
+  -- the requests that this turn answers: the first of its requests, up to the one with whose answer a batch ends
   abbrev pub front_requests : List Request
   front_requests = first_of functions turn.most (first_round turn.last world) turn.requests.now
 

@@ -1,4 +1,5 @@
 // The first of some requests, answered until their answers have so many bytes.
+// After an error the world and the round may have changed: the marks of the world lead back.
 ghost use Rattle.std.specs.Prelude.{◌≡◌, ℕ, Bool, List, [], ◌∷◌, ◌++◌, false, length, map, IfErr, OnOk};
 ghost use Rattle.plist_state.specs.State.{Worlds};
 ghost use Rattle.messages.specs.MessageAnswers.{round_after_requests, with_its_position, each_request};

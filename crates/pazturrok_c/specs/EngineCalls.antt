@@ -47,27 +47,29 @@ pub record EngineIsAsked (old new : Engine) (answer : ℕ) (done : CallResult) (
   pub orders : done.orders ≡ orders_of new
 
 module _ (old new : Engine) (rescue : Bool) where
+  -- what a call with one form does, and what C is given of it
   abbrev pub ExecutesForm : List ℕ → CallResult → Type 0
   ExecutesForm text done = EngineIsAsked old new (length new.answer.items) done (ExecutesText old.store new.store (mode_in rescue) text done.number new.answer.items)
 
+  -- what a call with many forms does, and what C is given of it
   abbrev pub ExecutesForms : List ℕ → List ℕ → CallResult → Type 0
   ExecutesForms texts ends done =
       EngineIsAsked old new (length new.answer.items) done (ExecutesMany old.store new.store (mode_in rescue) texts ends done.number new.answer.items)
 
--- what a call for a snapshot does
+-- what a call for a snapshot does, and what C is given of it
 abbrev pub TakesSnapshot : Engine → Engine → CallResult → Type 0
 TakesSnapshot old new done = EngineIsAsked old new 0 done (StoreTakesSnapshot old.store new.store done.number)
 
--- what the call does that begins with messages
+-- what the call does that begins with messages, and what C is given of it
 abbrev pub BeginsWithMessages : Engine → Engine → ℕ → CallResult → Type 0
 BeginsWithMessages old new position done = EngineIsAsked old new 0 done (StoreBeginsWithMessages old.store new.store done.number position)
 
--- what a call with several requests does
+-- what a call with several requests does, after the message of the last number, and what C is given of it
 abbrev pub AnswersEach : Engine → Engine → ℕ → List ℕ → List RequestHead → CallResult → Type 0
 AnswersEach old new last texts heads done =
     EngineIsAsked old new (length new.answer.items) done (AnswersAll old.store new.store last texts heads done.number new.answer.items)
 
--- so many bytes of orders were reported done
+-- so many bytes of orders were reported done; nothing but the disk of the store changes
 pub record AreOrdersPerformed (old new : Engine) (count : ℕ) : Type 0 where
   pub reported : ReportsOrdersDone count old.store.disk new.store.disk
   pub store : new.store ≡ record old.store { disk = new.store.disk }

@@ -25,12 +25,12 @@ ledger_code {D} {R} {O} disk macros output =
     (λ p. record { output = p.0; name = p.1.0; past = p.1.1 })
     (λ _. refl)
 
--- the account after them
+-- the account after lines of so many forms were handed on, one time after the other
 abbrev pub account_past : {D R : Type 0} → Account D → List (StoreView D R × ℕ) → Account D
 account_past account [] = account
 account_past account (one ∷ more) = account_past (with_forms one.1 one.0 account) more
 
--- the account after these steps, where it was begun
+-- the account after these steps; None, if none was kept at the beginning
 abbrev pub account_from : {D R : Type 0} → Option (Account D) → List (StoreView D R × ℕ) → Option (Account D)
 account_from {D} first past = option_map (λ (account : Account D). account_past account past) first
 
@@ -39,7 +39,7 @@ account_from {D} first past = option_map (λ (account : Account D). account_past
 abbrev pub named_first : {D : Type 0} → Option (Account D) → ℕ → Option (Account D)
 named_first {D} first name = option_map (λ (account : Account D). record account { forms = name }) first
 
--- an account that the output keeps itself is the same
+-- an account that the output keeps itself is the same as the one of the ledger
 abbrev pub Agrees : {D : Type 0} → (theirs ours : Option (Account D)) → Type 0
 Agrees {D} theirs ours = (kept : Account D) → theirs ≡ Some kept → ours ≡ Some kept
 

@@ -15,7 +15,7 @@ pub record Outgoing (D R : Type 0) : Type 0 where
   pub rest : List ℕ
   pub parts : handing.lines ≡ out ++ rest
 
--- the lines, one time after the other
+-- what was handed to the output, one time after the other, whether it went out or not
 abbrev pub handings_of : {D R : Type 0} → List (Outgoing D R) → List (Handing D R)
 handings_of [] = []
 handings_of (one ∷ more) = one.handing ∷ handings_of more

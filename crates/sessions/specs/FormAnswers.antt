@@ -30,11 +30,11 @@ pub record Progress : Type 0 where
   pub lines : List ℕ
   pub refused : List ℕ
 
--- before the first form
+-- how far a session has come before its first form
 abbrev pub first_progress : WorldState → List ℕ → Progress
 first_progress world text = record { world = world; rest = text; taken = []; lines = []; refused = [] }
 
--- and what came of the rest
+-- how far a session has come, and then with what came of the rest of its text
 abbrev pub onward : Progress → Progress → Progress
 onward p q = record { world = q.world; rest = q.rest; taken = p.taken ++ q.taken; lines = p.lines ++ q.lines; refused = p.refused ++ q.refused }
 
@@ -50,14 +50,14 @@ form_progress world mode own rest (Ok done) = record {
 }
 form_progress world mode own rest (Err number) = record { world = world; rest = rest; taken = []; lines = refusal_line number; refused = number ∷ [] }
 
--- of what the text begins with, if that is a form
+-- what comes of the form that a text begins with, by what was read there; None, if that is no form
 abbrev pub one_form : Functions → WorldState → Mode → List ℕ → Reading → Option Progress
 one_form functions world mode text (form object start end next) =
     Some (form_progress world mode (between start end text) (drop next text) (transaction_value functions.names world object))
 one_form functions world mode text empty = None
 one_form functions world mode text (refused number at) = None
 
--- one form more
+-- how far a session has come with one form more; None, if the rest of its text begins with none
 abbrev pub one_form_more : Functions → Mode → Progress → Option Progress
 one_form_more functions mode p = option_map (onward p) (one_form functions p.world mode p.rest (read_in functions p.world mode p.rest))
 
@@ -66,7 +66,7 @@ abbrev pub after_forms : Functions → ℕ → WorldState → Mode → List ℕ 
 after_forms functions zero world mode text = Some (first_progress world text)
 after_forms functions (suc n) world mode text = option_and_then (one_form_more functions mode) (after_forms functions n world mode text)
 
--- the line that ends a session at a refusal of the reader
+-- the line that ends a session at a refusal of the reader; empty, if the reader refuses nothing there
 abbrev pub last_line : Reading → List ℕ
 last_line (form object start end next) = []
 last_line empty = []

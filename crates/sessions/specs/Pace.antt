@@ -21,11 +21,12 @@ pub record Pace : Type 0 where
   pub left : ℕ
   pub ratio : ℕ
 
--- as a session begins
+-- the pace as a session begins
 abbrev pub first_pace : (every ratio : ℕ) → Pace
 first_pace every ratio = record { every = every; left = every; ratio = ratio }
 
--- that form was counted
+-- A form that was logged was counted: one fewer is left until the next snapshot. Where it was the last one, the count begins
+-- anew.
 pub record CountsLoggedForm (pace later : Pace) : Type 0 where
   pub every : later.every ≡ pace.every
   pub ratio : later.ratio ≡ pace.ratio
@@ -43,7 +44,7 @@ pub record Fill : Type 0 where
 abbrev pub fill_of : {D R : Type 0} → StoreView D R → Fill
 fill_of store = record { generation = store.generation; record_count = store.record_count; size = store.size; first_size = store.first_size }
 
--- it has at least 1 MiB, and so many times the bytes that it had before its first record
+-- the half has at least 1 MiB, and so many times the bytes that it had before its first record; never, if that is 0 times
 abbrev pub HasHalfGrown : ℕ → (size first_size : ℕ) → Type 0
 HasHalfGrown ratio size first_size = (0 < ratio) × (1048576 ≤ size) × (ratio * first_size ≤ size)
 
@@ -55,11 +56,11 @@ IsDueByCount pace = (pace.left ≤ 1) × (0 < pace.every)
 abbrev pub IsDue : Pace → Fill → Type 0
 IsDue pace fill = IsDueByCount pace ⊎ HasHalfGrown pace.ratio fill.size fill.first_size
 
--- with a record more
+-- what the half in use has with one record more
 abbrev pub fill_with_record : LogRecord → Fill → Fill
 fill_with_record entry fill = record { generation = fill.generation; record_count = fill.record_count + 1; size = fill.size + (6 + length entry.text); first_size = fill.first_size }
 
--- the next half, with the text of this world
+-- what the half in use has after a snapshot: the next generation, the text of this world, and no record
 abbrev pub fill_of_new_half : WorldState → Fill → Fill
 fill_of_new_half world fill = record { generation = fill.generation + 1; record_count = 0; size = 16 + length (snapshot world); first_size = 16 + length (snapshot world) }
 

@@ -147,7 +147,7 @@ pub fn serve_wanted<D: Disk, R: MacroFunctions, I: Read, W: Recipient<D, R>>(
     Ended::Store(INPUT)
 }
 
-// Answers what these bytes decide, with those that are pending.
+// Answers what these bytes decide, with those that are pending. None if the session goes on; else it has ended so.
 fn answer_piece<D: Disk, R: MacroFunctions, W: Recipient<D, R>>(
     store: &mut Store<D, R>,
     pending: &mut Pending,

@@ -18,33 +18,33 @@ abbrev mutual
   unescaped_first [] = []
   unescaped_first (c ∷ cs) = c ∷ unescaped cs
 
--- as what was written before ends with a backslash or not
+-- the text that is written so, as what was written before it ends with a backslash or not
 abbrev pub unescaped_after : Bool → List ℕ → List ℕ
 unescaped_after escaped cs = if escaped then unescaped_first cs else unescaped cs
 
--- two texts that are written so
+-- the two texts of a pair, each as `unescaped` has it
 abbrev pub unescaped_pair : Bor (List ℕ) × Bor (List ℕ) → Name × Name
 unescaped_pair pair = (unescaped pair.0.now, unescaped pair.1.now)
 
--- what stands after the first item of a list: each after a space, and the parenthesis
+-- how the items of a list are written that are still to come after one: each after a space, and then the parenthesis
 abbrev pub items_rest : List (List ℕ) → List ℕ
 items_rest [] = codes ")"
 items_rest (x ∷ xs) = codes " " ++ (x ++ items_rest xs)
 
--- a list of items that are written so
+-- how a list is written whose items are written so: NIL, if it has none
 abbrev pub text_of_items : List (List ℕ) → List ℕ
 text_of_items [] = codes "NIL"
 text_of_items (x ∷ xs) = codes "(" ++ (x ++ items_rest xs)
 
--- a list of texts
+-- how a list of texts is written
 abbrev pub texts_text : List Name → List ℕ
 texts_text names = text_of_items (map printed_text names)
 
--- a pair of texts
+-- how a pair of texts is written
 abbrev pub pair_text : Name × Name → List ℕ
 pair_text pair = codes "(" ++ (printed_text pair.0 ++ (codes " " ++ (printed_text pair.1 ++ codes ")")))
 
--- a list of pairs
+-- how a list of pairs of texts is written
 abbrev pub pairs_text : List (Name × Name) → List ℕ
 pairs_text pairs = text_of_items (map pair_text pairs)
 
@@ -59,7 +59,7 @@ IsNextItem [] after (End bytes) = bytes.now ≡ after
 IsNextItem (x ∷ xs) after (Item bytes) = bytes.now ≡ x ++ (items_rest xs ++ after)
 IsNextItem (x ∷ xs) after (End bytes) = ⊥
 
--- less than these bytes comes
+-- what comes, an item or the end of the list, leaves fewer bytes than these
 abbrev pub LeavesLess : List ℕ → Coming → Type 0
 LeavesLess bytes (Item item) = length item.now < length bytes
 LeavesLess bytes (End after) = length after.now < length bytes

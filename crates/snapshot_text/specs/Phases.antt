@@ -51,12 +51,12 @@ pub record IsRowOf (s : Table) (p : Name) (row : PackageParts) : Type 0 where
 abbrev pub other_packages : Table → List Name
 other_packages s = filter (λ p. not (bytes_eq p common_lisp)) (package_names s)
 
--- the rows of the first of them
+-- these are rows of the first so many packages of s but COMMON-LISP, in the order of their names
 pub record AreFirstRows (s : Table) (count : ℕ) (rows : List PackageParts) : Type 0 where
   pub long : length rows ≡ count
   pub each : (i : ℕ) (row : PackageParts) → i < length rows → IsRowOf s (slice_index_or (other_packages s) i []) (slice_index_or rows i row)
 
--- a row for each of them
+-- these are rows of all packages of s but COMMON-LISP
 abbrev pub AreRowsOf : Table → List PackageParts → Type 0
 AreRowsOf s rows = AreFirstRows s (length (other_packages s)) rows
 

@@ -37,7 +37,7 @@ DropsByte true byte there has = Consumes there has (byte ∷ [])
 DropsByte false byte there has = Consumes there has []
 
 module _ (functions : Functions) (wanted : SessionOptions) {D R : Type 0} (state : D → State) where
-  -- One of them: it served so, and this went out of it.
+  -- One of the sessions: it served so, and this went out of it.
   abbrev pub ServesOut : (old new : StoreView D R) → WorldState → (had has held written : Option (List ℕ)) → Ended → Type 0
   ServesOut old new world had has held written ended =
       ServesWanted functions state wanted old new world had has held written ended × Went functions state (first_account world wanted.mode had old.disk) new held written
@@ -60,7 +60,8 @@ module _ (functions : Functions) (wanted : SessionOptions) {D R : Type 0} (state
       × ServesOut mid new between begun there before written ended
       × Drops there has
 
-  -- The sessions as calls of the store: of each one for each time that its lines went out, and a last one.
+  -- The sessions before the last one as calls of the store: of each one for each time that its lines went out, and a last
+  -- one.
   abbrev pub calls_before : (others : List Ended) (old new : StoreView D R) (world left : WorldState) (had has held written : Option (List ℕ))
       → Earlier others old new world left had has held written → List (Call D)
   calls_before [] old new world left had has held written earlier = []
@@ -68,6 +69,7 @@ module _ (functions : Functions) (wanted : SessionOptions) {D R : Type 0} (state
       calls_before others old earlier.0 world earlier.1 had earlier.2 held earlier.4 earlier.5
       ++ calls_in functions state (first_account earlier.1 wanted.mode earlier.2 earlier.0.disk) new earlier.7.1
 
+  -- all sessions as calls of the store, those before the last one and then that one
   abbrev pub calls_in_turn : (old new : StoreView D R) (world : WorldState) (had has held written : Option (List ℕ)) (ended : Ended)
       → InTurn old new world had has held written ended → List (Call D)
   calls_in_turn old new world had has held written ended turn =

@@ -24,7 +24,7 @@ pub data Event (D : Type 0) : Type 0 where
   -- a stop within an opening, which would have left the first of these disks, refused or not
   stopped_in_opening : D → D → Event D
 
--- the disk that is there then, and the world of the open store: none is open after a device fault, a stop or a refused opening
+-- the disk that is there after an event
 abbrev pub disk_by : {D : Type 0} → Event D → D
 disk_by (opened now world) = now
 disk_by (refused limit fault back) = back
@@ -33,7 +33,8 @@ disk_by (stopped now) = now
 disk_by (stopped_in_call call now) = now
 disk_by (stopped_in_opening there now) = now
 
--- the world that an event left, where it left one that is known
+-- The world of the open store after an event. None, if no store is open then: after a device fault, a stop or a refused
+-- opening.
 abbrev pub world_left_by : {D : Type 0} → Event D → Option WorldState
 world_left_by (opened now world) = Some world
 world_left_by (refused limit fault back) = None
@@ -120,12 +121,12 @@ module _ (functions : Functions) {D : Type 0} (state : D → State) (first : Wor
     pub no_less : sure ≤ now_sure
     pub stands : Stands (take sure line ++ more) now_sure disk left
 
--- the disk and the world of the open store after events
+-- the disk that is there after these events
 abbrev pub last_disk : {D : Type 0} → D → List (Event D) → D
 last_disk disk [] = disk
 last_disk disk (event ∷ events) = last_disk (disk_by event) events
 
--- the world after these events
+-- the world of the open store after these events; None, if none is open
 abbrev pub last_left : {D : Type 0} → Option WorldState → List (Event D) → Option WorldState
 last_left left [] = left
 last_left left (event ∷ events) = last_left (world_left_by event) events

@@ -14,18 +14,18 @@ pub record Handing (D R : Type 0) : Type 0 where
   pub lines : List ℕ
   pub forms : ℕ
 
--- the account after them
+-- the account after these lines were handed on
 abbrev pub account_after : {D R : Type 0} → Account D → List (Handing D R) → Account D
 account_after account [] = account
 account_after account (one ∷ more) = account_after (with_forms one.forms one.store account) more
 
 module _ (functions : Functions) {D R : Type 0} (state : D → State) where
-  -- each as the recipient asks
+  -- the lines were handed on one time after the other, each time as the recipient asks
   abbrev pub AreHanded : Account D → List (Handing D R) → Type 0
   AreHanded account [] = Unit {0}
   AreHanded account (one ∷ more) = AreStored functions state account one.store one.lines one.forms × AreHanded (with_forms one.forms one.store account) more
 
-  -- as calls of the store, one for each
+  -- the times that lines were handed on, each as a call of the store
   abbrev pub calls_of : (account : Account D) (handings : List (Handing D R)) → AreHanded account handings → List (Call D)
   calls_of account [] handed = []
   calls_of account (one ∷ more) handed =

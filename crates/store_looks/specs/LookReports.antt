@@ -109,7 +109,7 @@ part_of records = record {
 
 -- ---- the records of what was seen
 
--- the lines of those that are asked for were written
+-- the lines of the records that are asked for were written
 unfoldable pub TellsLog : Option (List ℕ) → Option (List ℕ) → Records → Sight → Status → Type 0
 TellsLog held written records sight status =
     (text : List ℕ) × IsLogText (part_of records) (state_of_sight sight).reads text × TellsText status held written text
@@ -138,7 +138,7 @@ WithholdsFileFigures measured sight why =
 -- ---- a store that was seen is opened in memory, with these macro functions
 
 module _ (functions : Functions) {R : Type 0} (macros : R) where
-  -- a text of its world was written
+  -- the files that were seen opened as a store, and a text of its world was written
   pub record TellsOfWorld (Is : WorldState → List ℕ → Type 0) (sight : Sight) (held written : Option (List ℕ)) (status : Status) : Type 0 where
     pub opened : StoreView Sight R
     pub is_opened : IsOpened functions state_of_sight sight macros half_limit opened
@@ -152,7 +152,7 @@ module _ (functions : Functions) {R : Type 0} (macros : R) where
     pub is_opened : IsOpened functions state_of_sight sight macros half_limit opened
     pub is : Is is_opened.world
 
-  -- a backup was made of its world
+  -- the files that were seen opened as a store, and a backup was made of its world
   unfoldable pub BacksUp : (WorldState → Type 0) → Sight → Status → Type 0
   BacksUp made sight status = HasWorldThat made sight × (status ≡ statuses.Done)
 
@@ -169,7 +169,7 @@ module _ (functions : Functions) {R : Type 0} (macros : R) where
       pub reads : (state_of_sight same).reads ≡ (state_of_sight sight).reads
       pub tells : TellsOfWorld (λ world text. text ≡ info_text notation half world files) same held written status
 
-    -- those of the half in use that was seen and of the files, or these with those of its world
+    -- the figures of the half in use that was seen and of the files, or these with the figures of its world
     unfoldable pub TellsInfo : InfoPart → (Result Figures HostError → Type 0) → Sight → Status → Type 0
     TellsInfo part measured sight status =
         ((part.files ≡ true) × TellsFileFigures held written (notation_of part.json) measured sight status)
@@ -202,12 +202,12 @@ module _ (functions : Functions) {R : Type 0} (macros : R) where
     TellsLook system folder (Dump place) sight status = TellsDump place sight status
     TellsLook system folder Verify sight status = TellsVerified sight status
 
--- it was not opened, all macro functions registered or not
+-- the files that were seen opened as no store, whether all macro functions are registered or not
 unfoldable pub Unopens : Functions → Bool → Sight → Unlooked → Type 0
 Unopens functions whole sight why =
     (number : ℕ) × (back : Sight) × IsUnopened functions state_of_sight sight whole half_limit number back × (why ≡ unlooked.Fault number)
 
--- nor, where memory was refused, told of
+-- why `verify` tells nothing: the files opened as no store, or memory ran out
 unfoldable pub WithholdsVerified : Functions → Bool → Sight → Unlooked → Type 0
 WithholdsVerified functions whole sight why = Unopens functions whole sight why ⊎ (why ≡ unlooked.Fault NO_MEMORY)
 
@@ -232,6 +232,7 @@ module _ (functions : Functions) {R : Type 0} (macros : R) (whole : Bool) where
       ⊎ ((selection : Selection) × IsSelection shown selection
       × ((error : ShowError) × HasWorldThat functions macros (λ world. WithholdsProperties shown.count selection world error) sight × (why ≡ of_show error)))
 
+  -- why `dump` tells nothing: there is no such record, or the files, cut off after it, opened as no store
   unfoldable pub WithholdsDump : RecordPlace → Sight → Unlooked → Type 0
   WithholdsDump place sight why =
       ((error : LogError) × IsNoPlace place.number place.generation error (state_of_sight sight).reads × (why ≡ of_log error))
@@ -243,6 +244,7 @@ module _ (functions : Functions) {R : Type 0} (macros : R) (whole : Bool) where
       Unopens functions whole sight why
       ⊎ ((error : BackupError) × HasWorldThat functions macros (λ world. unmade world error) sight × IsOfBackup error why)
 
+  -- why a look of each kind tells nothing
   unfoldable pub WithholdsLook : System → Text → Look → Sight → Unlooked → Type 0
   WithholdsLook system folder (Show shown) sight why = WithholdsShown shown sight why
   WithholdsLook system folder (Info part) sight why = WithholdsInfo part (system.measures folder) sight why
@@ -253,7 +255,7 @@ module _ (functions : Functions) {R : Type 0} (macros : R) (whole : Bool) where
 
 -- ---- the whole look
 
--- how it ends: with what it told, or why it told nothing
+-- how a look ends: with what it told, or why it told nothing
 abbrev pub status_in : Result Status Unlooked → Status
 status_in (Ok status) = status
 status_in (Err why) = status_of why

@@ -40,7 +40,7 @@ symbol_text home name = prefix_text home ++ name_text name
 abbrev pub prefix_length : Name → ℕ
 prefix_length home = if bytes_eq home keyword then 1 else (if bytes_eq home common_lisp_user then 0 else length home + 2)
 
--- it has more characters than a token in a form may have
+-- whether the token of a symbol has more characters than a token in a form may have
 unfoldable pub is_too_long : Name → Name → Bool
 is_too_long home name = nat_lt 4096 (prefix_length home + length name)
 
@@ -64,7 +64,7 @@ value_text before after home name =
 abbrev pub quoted_text : Name → Name → List ℕ
 quoted_text = value_text (codes "'") []
 
--- a keyword as an argument, and a character
+-- a keyword, as an argument of a form
 abbrev pub keyword_argument : Name → List ℕ
 keyword_argument name = codes " " ++ symbol_text keyword name
 

@@ -284,7 +284,7 @@ fn push_kind(text: &mut Vec<u8>, syntax: Syntax) -> Result<(), AllocError>
     }
 }
 
-/// The function of a sub-character in an entry.
+/// The function of a sub-character in an entry; None where it has none, or the entry is of no dispatching character.
 fn function_at(entry: &CharacterSlot, sub: u8) -> Option<FnName>
     ensures { result ≡ get_or entry.now.dispatch sub None }
 {

@@ -62,7 +62,8 @@ LeavesRecord Logged taken fill now wrote =
 abbrev pub LogsAtOnce : ℕ → (fill now : Fill) → LogRecord → Type 0
 LogsAtOnce limit fill now entry = (fill.size + (6 + length entry.text) ≤ limit) × (now ≡ fill_with_record entry fill)
 
--- what became of a form that has a line
+-- what became of a form that has a line: it was accepted, and logged or not, or refused with a number. Of one that failed
+-- without a line nothing is meant.
 abbrev pub answered_of : Result Evaluated Failure → Answered
 answered_of (Ok evaluated) = Accepted evaluated.wrote
 answered_of (Err (failure.Refused number)) = Refused number
@@ -81,7 +82,7 @@ abbrev pub was_logged : Answered → Bool
 was_logged (Accepted logged) = logged
 was_logged (Refused number) = false
 
--- the number of the refusal, if it ends a session that may be strict
+-- the number of a refusal, if it ends the session, as it does in a strict one; else None
 abbrev pub refusal_that_ends : (strict : Bool) → Answered → Option ℕ
 refusal_that_ends strict (Accepted logged) = None
 refusal_that_ends true (Refused number) = Some number
@@ -121,7 +122,7 @@ module _ (functions : Functions) {D R : Type 0} (state : D → State) (old new :
   abbrev pub IsFormLeft : Unlogged → Type 0
   IsFormLeft cause = TakesForm functions state old new mode own object (Err (of_unlogged cause))
 
--- it was refused, or not
+-- what is told of the form that a text begins with is so: it was accepted, or refused with this number
 abbrev pub TellsForm : Functions → WorldState → Mode → List ℕ → Progress → Answered → Type 0
 TellsForm functions world mode text far (Accepted logged) = far.refused ≡ []
 TellsForm functions world mode text far (Refused number) = (far.refused ≡ number ∷ []) × ((start : ℕ) × IsFormUnaccepted functions world mode text number start)

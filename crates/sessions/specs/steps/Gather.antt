@@ -43,7 +43,7 @@ pub record BeginsWhole (functions : Functions) (world : WorldState) (mode : Mode
 abbrev pub record_size : (logged : Bool) → List ℕ → ℕ
 record_size logged own = if logged then 6 + length own else 0
 
--- no form is there yet
+-- no form is gathered yet
 pub record HoldsNone (gathered : GatheredForms) : Type 0 where
   pub lines : gathered.lines.items ≡ []
   pub records : gathered.records ≡ 0
@@ -51,8 +51,8 @@ pub record HoldsNone (gathered : GatheredForms) : Type 0 where
   pub forms : gathered.forms ≡ 0
   pub bytes : gathered.bytes ≡ 0
 
--- There are some, of which no more wrote than the limit says, and their records take no more bytes. The first takes so many bytes of the
--- input, and the others are among so many.
+-- Some forms are gathered, of which no more wrote than the limit says, and their records take no more bytes. The first takes
+-- so many bytes of the input, and the others are among so many.
 pub record AreWithinLimit (next many : ℕ) (limit : GroupLimit) (gathered : GatheredForms) : Type 0 where
   pub some : 0 < gathered.forms
   pub forms : gathered.forms ≤ gathered.bytes
@@ -115,7 +115,7 @@ module _ (functions : Functions) (wanted : SessionOptions) where
     abbrev pub TakesForms : GatheredForms → Type 0
     TakesForms gathered = IsMade functions state old new world (λ left records. AreFormsGathered world text left records gathered)
 
-    -- the device failed as they were logged
+    -- the device failed as the forms of a group were logged
     abbrev pub FailsForms : Type 0
     FailsForms = HasFailedIn functions state old new world (λ left records. (gathered : GatheredForms) × (0 < gathered.forms) × AreFormsGathered world text left records gathered)
 
@@ -127,8 +127,9 @@ module _ (functions : Functions) (wanted : SessionOptions) where
     TakesGroup (Err DeviceFault) = FailsForms
     TakesGroup (Err OutOfMemory) = new ≡ old
 
-  -- They were answered, and so many bytes of what follows the first are passed with the others, so that none of those is pending; or the
-  -- session has ended in them, whatever follows the text; or they were left.
+  -- The forms of a group were answered, and so many bytes of what follows the first are passed with the others, so that none
+  -- of those is pending; or the session has ended in them, whatever follows the text; or they were left, and nothing has
+  -- changed.
   abbrev pub AnswersGroup : {D R : Type 0} (state : D → State) (course later : Course) (old new : StoreView D R) (world : WorldState) (text rest : List ℕ) (held written : Option (List ℕ)) → Grouped → Type 0
   AnswersGroup state course later old new world text rest held written (grouped.Answered count) =
       (pending : Pending) → ((in_world : WorldState) → IsPending functions in_world wanted.mode pending [])

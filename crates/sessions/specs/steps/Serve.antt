@@ -71,7 +71,7 @@ module _ (functions : Functions) {D R : Type 0} (state : D → State) (wanted : 
       × ServesInPace functions state course.pace old new world mode text held written ending served
       × (wanted.strict ≡ true → AreFormsAccepted served.forms served.lines served.far served.answered)
 
-  -- the same, with the place of a refusal
+  -- a session over the text that ended so, with the place of a refusal
   abbrev pub EndsAt : Ended → Type 0
   EndsAt ways.End = ServesStrict End
   EndsAt (ways.Unreadable number place) =
@@ -80,7 +80,7 @@ module _ (functions : Functions) {D R : Type 0} (state : D → State) (wanted : 
       (wanted.strict ≡ true) × StopsStrict functions state old new world mode text held written course.pace course.forms course.bytes number place
   EndsAt (ways.Store number) = ServesStrict (Store number) × (number ≢ INPUT)
 
-  -- the session has ended, before the end of the text
+  -- the session ended so before the end of the text, with the place of a refusal; it has not come to the end of the input
   abbrev pub HasEndedAt : Ended → Type 0
   HasEndedAt ways.End = ⊥
   HasEndedAt (ways.Unreadable number place) =
