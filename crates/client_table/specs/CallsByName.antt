@@ -38,15 +38,15 @@ abbrev pub KeepsAnswer : Round → Named → Round → Type 0
 KeepsAnswer round message after = KeepsAnswerAt message.number (client_name_in message.text.now) (form_in message.text.now) (without_its_position round) after
 
 -- what one request keeps: of one without a name nothing is said
-abbrev pub KeepsOne : Round → AnyRequest → Round → Type 0
-KeepsOne round (asked.Request request) after = Unit {0}
-KeepsOne round (asked.Named message) after = KeepsAnswer round message after
+abbrev pub KeepsRequest : Round → AnyRequest → Round → Type 0
+KeepsRequest round (asked.Request request) after = Unit {0}
+KeepsRequest round (asked.Named message) after = KeepsAnswer round message after
 
 -- what each of these keeps, one after the other
 unfoldable pub KeepsAnswers : Functions → ℕ → Round → List AnyRequest → Type 0
 KeepsAnswers functions most round [] = Unit {0}
 KeepsAnswers functions most round (one ∷ later) =
-    KeepsOne round one (one_asked functions most round one) × KeepsAnswers functions most (one_asked functions most round one) later
+    KeepsRequest round one (one_asked functions most round one) × KeepsAnswers functions most (one_asked functions most round one) later
 
 -- ---- why they are not answered
 

@@ -37,6 +37,6 @@ module _ (functions : Functions) (most : ℕ) (name : List ℕ) where
       ⊎ (entry (one_asked functions most round (asked.Named message)).left name ≡ entry round.left name)
 
   -- each of these, one after the other, leaves the entry of this client alone
-  unfoldable pub LeaveAlone : Round → List AnyRequest → Type 0
-  LeaveAlone round [] = Unit {0}
-  LeaveAlone round (one ∷ later) = LeavesEntry round one × LeaveAlone (one_asked functions most round one) later
+  unfoldable pub LeaveEntryAlone : Round → List AnyRequest → Type 0
+  LeaveEntryAlone round [] = Unit {0}
+  LeaveEntryAlone round (one ∷ later) = LeavesEntry round one × LeaveEntryAlone (one_asked functions most round one) later

@@ -18,8 +18,8 @@ use Rattle.user_macros.specs.Functions.{Functions}
 -- ---- a form of the store's own, and a message that is carried out
 
 -- a round after a form of the store's own, which is no message; no answer is added
-abbrev pub with_form : Functions → List ℕ → Round → Round
-with_form functions text round = with_form_given (accepts functions round.left Rescue text) round
+abbrev pub with_own_form : Functions → List ℕ → Round → Round
+with_own_form functions text round = with_form_given (accepts functions round.left Rescue text) round
 
 -- A round after this entry of a client was put in, with the record of the form that makes it: read in Rescue it does just
 -- that, where the symbols are there.
@@ -61,7 +61,7 @@ with_first_message functions most number name form round =
 
 -- the client goes: its entry is taken out, and the answer is NIL
 abbrev pub without_client : Functions → List ℕ → Round → Round
-without_client functions name round = with_answer (codes "NIL") true (with_form functions (leaving_text round.left name) round)
+without_client functions name round = with_answer (codes "NIL") true (with_own_form functions (leaving_text round.left name) round)
 
 -- a message over the last one, which is carried out; without a form the client goes
 abbrev pub by_later : Functions → ℕ → List ℕ → Option (List ℕ) → Round → Round

@@ -22,7 +22,7 @@ use Rattle.package_table.proofs.KeptChanges.{kept_intern, kept_make}
 use Rattle.package_table.proofs.KeptSound.{used_is_package}
 use Rattle.plist_state.specs.State.{WorldState}
 use Rattle.user_macros.specs.Functions.{Functions}
-use Rattle.snapshot_text.specs.Phases.{Everywhere, HasOwn}
+use Rattle.snapshot_text.specs.Phases.{InEachPackage, HasOwn}
 use Rattle.snapshot_text.proofs.KeysSoFar.{AreApart}
 use Rattle.snapshot_text.proofs.OwnNames.{own_among, own_are}
 use Rattle.snapshot_text.proofs.PartFinds.{present_entry, present_more, present_package}
@@ -168,7 +168,7 @@ module _ (functions : Functions) (first : WorldState) (whole : List ℕ) (base :
   -- ---- INTERN
 
   abbrev pub HasPackages : Table → Type 0
-  HasPackages t = Everywhere s (λ p. IsPackage t p)
+  HasPackages t = InEachPackage s (λ p. IsPackage t p)
 
   pub packages_last : (t u : Table) → Grows t u → HasPackages t → HasPackages u
   packages_last t u grows all = λ p there. grows.packages p (all p there)

@@ -20,7 +20,7 @@ use Rattle.package_table.proofs.Growing.{grows_both}
 use Rattle.package_table.proofs.KeptChanges.{kept_export, kept_import, kept_use}
 use Rattle.plist_state.specs.State.{WorldState}
 use Rattle.user_macros.specs.Functions.{Functions}
-use Rattle.snapshot_text.specs.Phases.{Everywhere, HasExternals, HasOwn, HasSymbols, HasUses}
+use Rattle.snapshot_text.specs.Phases.{InEachPackage, HasExternals, HasOwn, HasSymbols, HasUses}
 use Rattle.snapshot_text.proofs.AllPackages.{same_packages}
 use Rattle.snapshot_text.proofs.Begins.{externals_grown, own_grown, symbols_grown, uses_grown}
 use Rattle.snapshot_text.proofs.KeysSoFar.{keys_apart}
@@ -61,7 +61,7 @@ module _ (functions : Functions) (first : WorldState) (whole : List ℕ) (base :
   -- ---- IMPORT and EXPORT
 
   abbrev HasOwnNames : Table → Type 0
-  HasOwnNames t = Everywhere s (HasOwn t s)
+  HasOwnNames t = InEachPackage s (HasOwn t s)
 
   own_last : (t u : Table) → Grows t u → HasOwnNames t → HasOwnNames u
   own_last t u grows all = λ p there. own_grown t u s p (all p there) grows

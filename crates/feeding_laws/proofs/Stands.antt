@@ -12,7 +12,7 @@ use Rattle.client_table.specs.Named.{each_asked}
 use Rattle.client_table.specs.declared.asked.AnyRequest.{AnyRequest}
 use Rattle.client_table.specs.declared.asked.AnyRequest.TheVariants as asked
 use Rattle.client_table.proofs.AskedTogether.{asked_stands}
-use Rattle.feeding_laws.specs.Feeding.{FeedsAgain, HaveNoNames, IsFirst, over, request_of, told_position}
+use Rattle.feeding_laws.specs.Feeding.{FeedsAgain, HaveNoNames, IsFirstMessageAccount, over, request_of, told_position}
 use Rattle.feeding_laws.proofs.Over.{AreUpTo, Fed, are_up, bound_round, each_fed, each_least, none_over, none_told, over_append, up_both, up_to_round}
 use Rattle.message_frames.specs.Frames.{IsFrame, Sent}
 use Rattle.message_frames.specs.declared.frame.Kind.{Kind}
@@ -251,7 +251,7 @@ module _ (functions : Functions) (first_last : ℕ) (first : WorldState) where
       }
 
 -- before the first frame
-pub first_stands : (functions : Functions) {D : Type 0} (account : MessageAccount D) → IsFirst account → Stands functions account.last account.now [] account.last account.now
+pub first_stands : (functions : Functions) {D : Type 0} (account : MessageAccount D) → IsFirstMessageAccount account → Stands functions account.last account.now [] account.last account.now
 first_stands functions account first =
     let tidy : IsTidy account.now.properties = sound_tidy account.now first.sound in
     record {

@@ -6,7 +6,7 @@ use Rattle.message_frames.specs.Frames.{Sent, answer_bytes, position_bytes}
 use Rattle.message_frames.specs.declared.frame.Kind.{Kind}
 use Rattle.message_frames.specs.declared.frame.Kind.TheVariants.{Do, By, Ask}
 use Rattle.message_laws.specs.NearRounds.{Near}
-use Rattle.message_session.specs.Account.{MessageAccount, AnswersAreStored, IsToldIn, with_frames}
+use Rattle.message_session.specs.Account.{MessageAccount, AnswersAreStored, IsPositionToldIn, with_frames}
 use Rattle.message_session.specs.FrameAnswers.{answers_of, each_frame}
 use Rattle.plist_state.specs.Sound.{IsSoundWorldState}
 use Rattle.plist_state.specs.State.{WorldState}
@@ -51,9 +51,9 @@ FramesAreHanded functions state account (one ∷ more) =
     AnswersAreStored functions state account one.store one.frames one.bytes × HaveNoNames one.frames × FramesAreHanded functions state (with_frames functions one.frames one.store account) more
 
 -- an account as it begins with the position
-pub record IsFirst {D : Type 0} (account : MessageAccount D) : Type 0 where
+pub record IsFirstMessageAccount {D : Type 0} (account : MessageAccount D) : Type 0 where
   pub none : account.answered ≡ []
-  pub told : IsToldIn account.last account.now
+  pub told : IsPositionToldIn account.last account.now
   pub sound : IsSoundWorldState account.now
 
 -- ---- as rounds of requests
@@ -80,15 +80,15 @@ pub record AccountTellsPlace {D : Type 0} (place : Place) (account : MessageAcco
 -- ---- fed again
 
 -- whether a frame, or an answer, is that of a message over this number
-abbrev pub is_over : ℕ → Kind → Bool
-is_over n (Do number) = nat_lt n number
-is_over n (By number) = false
-is_over n Ask = false
+abbrev pub is_message_over : ℕ → Kind → Bool
+is_message_over n (Do number) = nat_lt n number
+is_message_over n (By number) = false
+is_message_over n Ask = false
 
 -- of these frames those of messages over this number, in order
 abbrev pub over : ℕ → List Sent → List Sent
 over n [] = []
-over n (one ∷ more) = if is_over n one.0 then one ∷ over n more else over n more
+over n (one ∷ more) = if is_message_over n one.0 then one ∷ over n more else over n more
 
 -- the position that an opening tells of this world, 0 if it has none
 abbrev pub told_position : WorldState → ℕ

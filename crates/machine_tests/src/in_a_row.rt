@@ -3,7 +3,7 @@ ghost use Rattle.std.specs.Prelude.{◌≡◌, ◌<◌, ◌-◌, ◌^◌, List, 
 ghost use Rattle.disk_trait.specs.Disk.{IsHonest};
 ghost use Rattle.plist_state.specs.State.{WorldState};
 ghost use Rattle.sessions.specs.Account.{first_account};
-ghost use Rattle.session_ledger.specs.OutgoingLines.{Went, handings_of};
+ghost use Rattle.session_ledger.specs.OutgoingLines.{WentOut, handings_of};
 ghost use Rattle.store_commands.specs.Accounts.{AccountGoesOn};
 ghost use Rattle.store_laws.specs.SessionLines.{account_after};
 
@@ -32,7 +32,7 @@ fn serve_before_another<D: Disk, M: MacroFunctions, I: Read, O: Write>(
 ) -> Ended
     requires is_open { IsSome store.old.world }
     ensures { (world : WorldState) → store.old.world ≡ Some world → IsHonest (D.state store.old.disk)
-        → (went : Went M.Meaning.functions D.state
+        → (went : WentOut M.Meaning.functions D.state
         (first_account world wanted.mode (I.remaining reader.old) store.old.disk) store.new
         (O.contents output.old) (O.contents output.new))
         × ((now : WorldState) (mode : Mode) (had : Option (List ℕ)) → store.new.world ≡ Some now

@@ -25,8 +25,8 @@ pub record MessageAccount (D : Type 0) : Type 0 where
   pub disk : D
 
 -- This number is told as the position of a world. The position may be greater, but then no message up to it is carried out either.
-abbrev pub IsToldIn : ℕ → WorldState → Type 0
-IsToldIn number world = number ≤ unwrap_or (position world) 0
+abbrev pub IsPositionToldIn : ℕ → WorldState → Type 0
+IsPositionToldIn number world = number ≤ unwrap_or (position world) 0
 
 -- the account as a session begins: this position was told in this world, and no frame was answered
 abbrev pub first_message_account : {D : Type 0} → Option (List ℕ) → ℕ → WorldState → D → MessageAccount D
@@ -47,7 +47,7 @@ with_frames functions frames store account = record {
 }
 
 -- These frames are the next ones of the input, after those that were answered: of some input, if it is not told.
-pub record AreNext {D : Type 0} (account : MessageAccount D) (frames : List Sent) : Type 0 where
+pub record AreNextFrames {D : Type 0} (account : MessageAccount D) (frames : List Sent) : Type 0 where
   pub all : List ℕ
   pub of_input : (told : List ℕ) → account.input ≡ Some told → all ≡ told
   pub rest : List ℕ
@@ -73,7 +73,7 @@ module _ (functions : Functions) {D R : Type 0} (state : D → State) (account :
   -- These bytes answer these frames, the next ones after those that were answered. All that their messages wrote is stored, with the
   -- position.
   pub record AnswersAreStored (frames : List Sent) (bytes : List ℕ) : Type 0 where
-    pub next : AreNext account frames
+    pub next : AreNextFrames account frames
     pub bytes_are : bytes ≡ answered_bytes functions account.last account.now frames
     pub known : store.world ≡ Some (world_left_by_frames frames)
     pub stored : FramesAreLogged (records_of_frames frames) (length (records_of_frames frames))
@@ -81,7 +81,7 @@ module _ (functions : Functions) {D R : Type 0} (state : D → State) (account :
   -- The next frames were under way at most, together: nothing but what they leave was logged, and no answer to them was handed on.
   pub record FramesAreUnderWay : Type 0 where
     pub frames : List Sent
-    pub next : AreNext account frames
+    pub next : AreNextFrames account frames
     pub logged : FramesAreLogged (records_of_frames frames) 0
     -- the world after all of it is the one after these frames
     pub made : IsHonest (state account.disk) → after functions account.now (records_of_frames frames) ≡ Some (world_left_by_frames frames)

@@ -3,7 +3,7 @@ use Rattle.std.specs.Prelude.{ℕ, ◌≡◌, List, [], ◌++◌, Option, Some, 
 use Rattle.std.specs.Io.KnownBytes.{Consumes}
 use Rattle.disk_trait.specs.Disk.{State, IsHonest}
 use Rattle.message_frames.specs.Frames.{AreFrames, Sent}
-use Rattle.message_session.specs.Account.{MessageAccount, AreNext, FramesAreUnderWay}
+use Rattle.message_session.specs.Account.{MessageAccount, AreNextFrames, FramesAreUnderWay}
 use Rattle.message_session.specs.MessageSessions.{text_limit}
 use Rattle.message_session.specs.declared.answer.Stop.{Stop}
 use Rattle.message_session.specs.declared.answer.Stop.TheVariants as stop
@@ -24,12 +24,12 @@ pub record IsNextInInput {D : Type 0} (account : MessageAccount D) (bytes : List
 
 module _ {D : Type 0} where
   -- for a recipient that keeps account these frames come next
-  abbrev pub ComeNext : Option (MessageAccount D) → List Sent → Type 0
-  ComeNext told frames = (account : MessageAccount D) → told ≡ Some account → AreNext account frames
+  abbrev pub FramesComeNext : Option (MessageAccount D) → List Sent → Type 0
+  FramesComeNext told frames = (account : MessageAccount D) → told ≡ Some account → AreNextFrames account frames
 
   -- for a recipient that keeps account these bytes come next
-  abbrev pub ComesNext : Option (MessageAccount D) → List ℕ → Type 0
-  ComesNext told bytes = (account : MessageAccount D) → told ≡ Some account → IsNextInInput account bytes
+  abbrev pub BytesComeNext : Option (MessageAccount D) → List ℕ → Type 0
+  BytesComeNext told bytes = (account : MessageAccount D) → told ≡ Some account → IsNextInInput account bytes
 
   -- for a recipient that keeps account, what was read so far are the frames that were answered and these bytes
   abbrev pub IsReadIn : Option (MessageAccount D) → (left : Option (List ℕ)) → List ℕ → Type 0
@@ -48,7 +48,7 @@ module _ {D : Type 0} where
 module _ (functions : Functions) {D R : Type 0} (state : D → State) where
   -- Since answers were last handed on nothing was logged: the store still has this world, and this is the number of the last message.
   pub record HasLoggedNothing (account : MessageAccount D) (store : StoreView D R) (last : ℕ) (world : WorldState) : Type 0 where
-    pub of_input : AreNext account []
+    pub of_input : AreNextFrames account []
     pub last_is : account.last ≡ last
     pub now : account.now ≡ world
     pub since : IsHonest (state account.disk) → Survives functions (state account.disk) (state store.disk) world [] 0 (Some world)

@@ -44,10 +44,10 @@ abbrev pub Agrees : {D : Type 0} → (theirs ours : Option (Account D)) → Type
 Agrees {D} theirs ours = (kept : Account D) → theirs ≡ Some kept → ours ≡ Some kept
 
 -- the account comes of lines that were handed on, each as a recipient asks, and they are what the output got
-pub record IsOf (functions : Functions) {D R : Type 0} (state : D → State) (first : Account D) (held written : Option (List ℕ)) (past : List (StoreView D R × ℕ)) : Type 0 where
+pub record IsAccountOfLines (functions : Functions) {D R : Type 0} (state : D → State) (first : Account D) (held written : Option (List ℕ)) (past : List (StoreView D R × ℕ)) : Type 0 where
   pub out : GoesOut functions R state first held written
   pub account_is : account_after first (handings_of out.sent) ≡ account_past first past
 
 -- the account of a session stands at each of these steps
 abbrev pub IsAccountOf : (functions : Functions) {D R : Type 0} (state : D → State) → Option (Account D) → (held written : Option (List ℕ)) → List (StoreView D R × ℕ) → Type 0
-IsAccountOf functions {D} state first held written past = (begun : Account D) → first ≡ Some begun → IsOf functions state begun held written past
+IsAccountOf functions {D} state first held written past = (begun : Account D) → first ≡ Some begun → IsAccountOfLines functions state begun held written past

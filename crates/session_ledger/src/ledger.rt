@@ -4,7 +4,7 @@ ghost use Rattle.plist_state.specs.State.{WorldState};
 ghost use Rattle.sessions.specs.Account.{Account, AreUnderWay, first_account};
 ghost use Rattle.sessions.specs.Serve.{ServesWanted};
 ghost use Rattle.session_ledger.specs.Ledger.{Agrees, account_from, named_first};
-ghost use Rattle.session_ledger.specs.OutgoingLines.{Went};
+ghost use Rattle.session_ledger.specs.OutgoingLines.{WentOut};
 
 use crate::proof_log::ProofLog;
 use disk_trait::Disk;
@@ -122,7 +122,7 @@ where
         → ServesWanted M.Meaning.functions D.state wanted store.old store.new world
         (I.remaining input.old) (I.remaining input.new) (O.contents output.old) (O.contents output.new) result }
     ensures went { (world : WorldState) → store.old.world ≡ Some world
-        → Went M.Meaning.functions D.state
+        → WentOut M.Meaning.functions D.state
         (first_account world wanted.mode (I.remaining input.old) store.old.disk) store.new
         (O.contents output.old) (O.contents output.new) }
 
@@ -172,7 +172,7 @@ where
         → ServesWanted M.Meaning.functions D.state wanted store.old store.new world
         (I.remaining input.old) (I.remaining input.new) (O.contents output.old) (O.contents output.new) result }
     ensures went { (world : WorldState) → store.old.world ≡ Some world
-        → Went M.Meaning.functions D.state
+        → WentOut M.Meaning.functions D.state
         (first_account world wanted.mode (I.remaining input.old) store.old.disk) store.new
         (O.contents output.old) (O.contents output.new) }
     ensures under_way { (kept : Account D) → O.account output.new ≡ Some kept

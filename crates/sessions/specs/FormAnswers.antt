@@ -35,8 +35,8 @@ abbrev pub first_progress : WorldState → List ℕ → Progress
 first_progress world text = record { world = world; rest = text; taken = []; lines = []; refused = [] }
 
 -- how far a session has come, and then with what came of the rest of its text
-abbrev pub onward : Progress → Progress → Progress
-onward p q = record { world = q.world; rest = q.rest; taken = p.taken ++ q.taken; lines = p.lines ++ q.lines; refused = p.refused ++ q.refused }
+abbrev pub progress_onward : Progress → Progress → Progress
+progress_onward p q = record { world = q.world; rest = q.rest; taken = p.taken ++ q.taken; lines = p.lines ++ q.lines; refused = p.refused ++ q.refused }
 
 -- What comes of a form with this text of its own, after which this is left, by what its evaluation gave. A form that is refused
 -- leaves no record, nor does one that writes nothing.
@@ -59,7 +59,7 @@ one_form functions world mode text (refused number at) = None
 
 -- how far a session has come with one form more; None, if the rest of its text begins with none
 abbrev pub one_form_more : Functions → Mode → Progress → Option Progress
-one_form_more functions mode p = option_map (onward p) (one_form functions p.world mode p.rest (read_in functions p.world mode p.rest))
+one_form_more functions mode p = option_map (progress_onward p) (one_form functions p.world mode p.rest (read_in functions p.world mode p.rest))
 
 -- After so many forms of a text, each read in the world that the ones before it left. None if it has not so many.
 abbrev pub after_forms : Functions → ℕ → WorldState → Mode → List ℕ → Option Progress

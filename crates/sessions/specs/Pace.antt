@@ -98,18 +98,18 @@ module _ (functions : Functions) (limit : ℕ) where
     pub followed : IsFillAfterForm limit pace given logged now
 
   -- Forms with these records, from this world on, each with what follows it. A form that leaves no record changes nothing of it.
-  abbrev pub Paces : WorldState → List LogRecord → (pace later : Pace) (fill now : Fill) → Type 0
-  Paces world [] pace later fill now = (later ≡ pace) × (now ≡ fill)
-  Paces world (entry ∷ entries) pace later fill now =
+  abbrev pub PacesForms : WorldState → List LogRecord → (pace later : Pace) (fill now : Fill) → Type 0
+  PacesForms world [] pace later fill now = (later ≡ pace) × (now ≡ fill)
+  PacesForms world (entry ∷ entries) pace later fill now =
       (given : WorldState) × (counted : Pace) × (next : Fill)
-      × PacesOne world given entry pace counted fill next × Paces given entries counted later next now
+      × PacesOne world given entry pace counted fill next × PacesForms given entries counted later next now
 
   -- ---- how far the snapshots have come as a session ends, which began in this world
 
   module _ (world : WorldState) (pace : Pace) (fill : Fill) where
     -- all of these forms were logged, each with what follows it
     abbrev pub IsFillAfterForms : List LogRecord → Fill → Type 0
-    IsFillAfterForms taken now = (later : Pace) × Paces world taken pace later fill now
+    IsFillAfterForms taken now = (later : Pace) × PacesForms world taken pace later fill now
 
     -- the last of them was logged, and what follows it is not there
     pub record IsFillAfterRecord (taken : List LogRecord) (now : Fill) : Type 0 where
@@ -120,14 +120,14 @@ module _ (functions : Functions) (limit : ℕ) where
       pub first_is : after functions world earlier ≡ Some first
       pub later : Pace
       pub before : Fill
-      pub paced : Paces world earlier pace later fill before
+      pub paced : PacesForms world earlier pace later fill before
       pub logs : LogsWithRoom limit first last before now
 
     -- after them the half had no room for the next form, and a snapshot was taken
     pub record HasMadeRoom (mode : Mode) (far : Progress) (now : Fill) : Type 0 where
       pub later : Pace
       pub before : Fill
-      pub paced : Paces world far.taken pace later fill before
+      pub paced : PacesForms world far.taken pace later fill before
       pub next : IsOverIn functions limit before.size far.world mode far.rest
       pub begun : now ≡ fill_of_new_half far.world before
 

@@ -8,7 +8,7 @@ ghost use Rattle.form_reader.specs.Reader.{fed};
 ghost use Rattle.sessions.specs.Account.{Account, AreUnderWay, first_account};
 ghost use Rattle.sessions.specs.Pace.{first_pace};
 ghost use Rattle.sessions.specs.Serve.{ServesInput, ServesWanted};
-ghost use Rattle.sessions.specs.steps.Input.{AreAllThere, AwaitsMore, IsPending, IsSoundFed, PlacesAreWithin, Feeds, FeedsPart, FinishesInput};
+ghost use Rattle.sessions.specs.steps.Input.{AreAllThere, AwaitsMore, IsPending, IsSoundFed, PlacesAreWithin, FeedsInput, FeedsPart, FinishesInput};
 ghost use Rattle.sessions.specs.steps.Course.{course_of};
 ghost use Rattle.sessions.specs.steps.Serve.{AnswersPiece, PieceComesTo, EndsAt, PassesBytes};
 ghost use Rattle.sessions.specs.steps.Standing.{AcknowledgesNone, HandsOn, StandsAtEnd, StandsInPiece};
@@ -267,7 +267,7 @@ fn feed<D: Disk, R: MacroFunctions>(
     requires count { fed pending.old.reader + length piece.now ≤ 2 ^ 63 }
     ensures feeds { (w : WorldState) → store.now.world ≡ Some w → (bytes : List ℕ)
         → IsPending R.Meaning.functions w mode pending.old bytes
-        → IfOk result (λ part. Feeds R.Meaning.functions w mode pending.new
+        → IfOk result (λ part. FeedsInput R.Meaning.functions w mode pending.new
         (bytes ++ take part.count piece.now) part.fed) }
     ensures part { IfOk result
         (FeedsPart piece.now (fed pending.old.reader) (fed pending.new.reader)) }

@@ -12,5 +12,5 @@ abbrev pub IsOfMade : {A : Type 0} → Result A BuildError → (A → Type 0) �
 IsOfMade result P = MatchResult result P (λ e. e ≡ OutOfMemory)
 
 -- the call gave something, of which this holds: it has no error
-abbrev pub Succeeds : {A E : Type 0} → Result A E → (A → Type 0) → Type 0
-Succeeds result P = MatchResult result P (λ _. ⊥)
+abbrev pub SucceedsWith : {A E : Type 0} → Result A E → (A → Type 0) → Type 0
+SucceedsWith result P = MatchResult result P (λ _. ⊥)

@@ -60,6 +60,6 @@ IsNextItem (x ∷ xs) after (Item bytes) = bytes.now ≡ x ++ (items_rest xs ++ 
 IsNextItem (x ∷ xs) after (End bytes) = ⊥
 
 -- what comes, an item or the end of the list, leaves fewer bytes than these
-abbrev pub LeavesLess : List ℕ → Coming → Type 0
-LeavesLess bytes (Item item) = length item.now < length bytes
-LeavesLess bytes (End after) = length after.now < length bytes
+abbrev pub LeavesFewerBytes : List ℕ → Coming → Type 0
+LeavesFewerBytes bytes (Item item) = length item.now < length bytes
+LeavesFewerBytes bytes (End after) = length after.now < length bytes

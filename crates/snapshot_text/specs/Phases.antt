@@ -61,5 +61,5 @@ abbrev pub AreRowsOf : Table → List PackageParts → Type 0
 AreRowsOf s rows = AreFirstRows s (length (other_packages s)) rows
 
 -- this is so of each package of s
-abbrev pub Everywhere : Table → (Name → Type 0) → Type 0
-Everywhere s P = (p : Name) → IsPackage s p → P p
+abbrev pub InEachPackage : Table → (Name → Type 0) → Type 0
+InEachPackage s P = (p : Name) → IsPackage s p → P p

@@ -26,7 +26,7 @@ abbrev pub text_after : WorldState → ℕ → List ℕ
 text_after s n = written_rest (printed_prefix s.packages common_lisp_user) (list_of (map (row_of s) (drop n (symbols_with_properties s))))
 
 -- The world has the packages of s and, of its property lists, those in the rows before an index.
-pub record IsUpTo (s : WorldState) (n : ℕ) (now : WorldState) : Type 0 where
+pub record HasRowsUpTo (s : WorldState) (n : ℕ) (now : WorldState) : Type 0 where
   pub rest : now ≡ with_properties (with_packages_of s) now.properties
   pub lists : (q : Symbol) → finite.get now.properties q
       ≡ cond (list_any (eq_by_cmp symbol_cmp q) (take n (symbols_with_properties s))) (finite.get s.properties q) None

@@ -6,7 +6,7 @@ ghost use Rattle.user_macros.specs.Functions.{are_registered};
 ghost use Rattle.store_commands.specs.Accounts.{BeginsAccount, EndsAccount, IsAccountOfSessions};
 ghost use Rattle.store_commands.specs.Commands.{AreStreamsUntouched};
 ghost use Rattle.store_commands.specs.Session.{half_limit};
-ghost use Rattle.store_commands.specs.SessionsInRow.{AreSessions, InTurn};
+ghost use Rattle.store_commands.specs.SessionsInRow.{AreSessions, AreSessionsInTurn};
 
 use crate::opening::Opening;
 use crate::recipient::SessionRecipient;
@@ -71,7 +71,7 @@ where
     requires is_open { IsSome store.old.world }
     requires begins { BeginsAccount wanted.mode (I.remaining input.old) store.old (O.account output.old) }
     ensures serves { (world : WorldState) → store.old.world ≡ Some world
-        → InTurn M.Meaning.functions wanted D.state store.old store.new world
+        → AreSessionsInTurn M.Meaning.functions wanted D.state store.old store.new world
         (I.remaining input.old) (I.remaining input.new)
         (O.contents output.old) (O.contents output.new) result }
     ensures ends { EndsAccount M.Meaning.functions D.state store.new (O.account output.new) }

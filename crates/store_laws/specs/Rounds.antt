@@ -98,19 +98,19 @@ store_after old (step ∷ steps) = store_after (store_by step) steps
 
 module _ (functions : Functions) {D R : Type 0} (state : D → State) where
   -- what a step does to a store that has come so far: it answers requests; or it takes no form, and survives
-  abbrev pub IsStep : StoreView D R → Place → Step D R → Type 0
-  IsStep old place (requested requests result new) = AnswersRequests functions state old new place.world place.last requests result
-  IsStep old place (quiet new) = SurvivesAs functions state old new place.world [] 0
+  abbrev pub IsRoundStep : StoreView D R → Place → Step D R → Type 0
+  IsRoundStep old place (requested requests result new) = AnswersRequests functions state old new place.world place.last requests result
+  IsRoundStep old place (quiet new) = SurvivesAs functions state old new place.world [] 0
 
   -- Steps one after the other, each from the world and the last number that the one before it left; and the store was still
   -- open after each.
-  abbrev pub AreSteps : StoreView D R → Place → List (Step D R) → Type 0
-  AreSteps old place [] = Unit {0}
-  AreSteps old place (step ∷ steps) =
-      IsStep old place step × IsSome (store_by step).world × AreSteps (store_by step) (after_rounds functions place (answered_in step)) steps
+  abbrev pub AreRoundSteps : StoreView D R → Place → List (Step D R) → Type 0
+  AreRoundSteps old place [] = Unit {0}
+  AreRoundSteps old place (step ∷ steps) =
+      IsRoundStep old place step × IsSome (store_by step).world × AreRoundSteps (store_by step) (after_rounds functions place (answered_in step)) steps
 
   -- The store has come so far, and whatever a crash now leaves means its world.
-  pub record HasCome (store : StoreView D R) (place : Place) : Type 0 where
+  pub record HasComeToPlace (store : StoreView D R) (place : Place) : Type 0 where
     pub world : store.world ≡ Some place.world
     pub position : position_property place.world ≡ place.position
     pub honest : IsHonest (state store.disk)

@@ -5,7 +5,7 @@ use Rattle.prevalence_store.specs.Theorem.{Call, Headline, Run}
 use Rattle.sessions.specs.Account.{Account, AreStored, AreUnderWay, call_of, with_forms}
 use Rattle.prevalence_store.specs.calls.Store.{StoreView}
 use Rattle.store_laws.specs.Batches.{AreTogether, InWholeCalls}
-use Rattle.store_laws.specs.Histories.{Happened, called}
+use Rattle.store_laws.specs.Histories.{EventsHappened, called}
 use Rattle.user_macros.specs.Functions.{Functions}
 
 -- lines of so many forms, and the store as they were handed on
@@ -43,4 +43,4 @@ pub record AreCalls (functions : Functions) {D : Type 0} (state : D → State) (
   pub headline : (earlier later : List (Call D)) → calls ≡ earlier ++ later → Headline functions state account.disk account.now earlier later
   pub whole : (earlier later : List (Call D)) → calls ≡ earlier ++ later → InWholeCalls functions state account.disk account.now earlier later
   -- as events of a history
-  pub happened : Happened functions state account.disk (Some account.now) (map called calls)
+  pub happened : EventsHappened functions state account.disk (Some account.now) (map called calls)

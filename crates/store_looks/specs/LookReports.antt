@@ -52,8 +52,8 @@ use Rattle.user_macros.specs.Functions.{Functions}
 -- ---- the folder
 
 -- The files of a folder are opened so, of which one is a half in use; no folder has an empty name.
-unfoldable pub Sees : (Sight → Option HostError → Type 0) → (Text → IfMissing → Result Sight HostError → Type 0) → Text → Result Sight HostError → Type 0
-Sees tells opens folder result = ((folder ≡ []) × (result ≡ Err NoName)) ⊎ ((folder ≢ []) × OpensStore state_of_sight tells opens folder true result)
+unfoldable pub SeesFolder : (Sight → Option HostError → Type 0) → (Text → IfMissing → Result Sight HostError → Type 0) → Text → Result Sight HostError → Type 0
+SeesFolder tells opens folder result = ((folder ≡ []) × (result ≡ Err NoName)) ⊎ ((folder ≢ []) × OpensStore state_of_sight tells opens folder true result)
 
 -- ---- the system
 
@@ -203,13 +203,13 @@ module _ (functions : Functions) {R : Type 0} (macros : R) where
     TellsLook system folder Verify sight status = TellsVerified sight status
 
 -- the files that were seen opened as no store, whether all macro functions are registered or not
-unfoldable pub Unopens : Functions → Bool → Sight → Unlooked → Type 0
-Unopens functions whole sight why =
+unfoldable pub OpensAsNoStore : Functions → Bool → Sight → Unlooked → Type 0
+OpensAsNoStore functions whole sight why =
     (number : ℕ) × (back : Sight) × IsUnopened functions state_of_sight sight whole half_limit number back × (why ≡ unlooked.Fault number)
 
 -- why `verify` tells nothing: the files opened as no store, or memory ran out
 unfoldable pub WithholdsVerified : Functions → Bool → Sight → Unlooked → Type 0
-WithholdsVerified functions whole sight why = Unopens functions whole sight why ⊎ (why ≡ unlooked.Fault NO_MEMORY)
+WithholdsVerified functions whole sight why = OpensAsNoStore functions whole sight why ⊎ (why ≡ unlooked.Fault NO_MEMORY)
 
 -- why nothing is told
 module _ (functions : Functions) {R : Type 0} (macros : R) (whole : Bool) where
@@ -218,7 +218,7 @@ module _ (functions : Functions) {R : Type 0} (macros : R) (whole : Bool) where
   WithholdsFigures measured sight why =
       ((error : HostError) × measured (Err error) × (why ≡ unlooked.Host error))
       ⊎ (((error : LogError) × IsNoLog error (state_of_sight sight).reads × (why ≡ of_log error))
-      ⊎ ((same : Sight) × ((state_of_sight same).reads ≡ (state_of_sight sight).reads) × (Unopens functions whole same why ⊎ (why ≡ unlooked.Fault NO_MEMORY))))
+      ⊎ ((same : Sight) × ((state_of_sight same).reads ≡ (state_of_sight sight).reads) × (OpensAsNoStore functions whole same why ⊎ (why ≡ unlooked.Fault NO_MEMORY))))
 
   -- why `info` tells nothing
   unfoldable pub WithholdsInfo : InfoPart → (Result Figures HostError → Type 0) → Sight → Unlooked → Type 0
@@ -228,7 +228,7 @@ module _ (functions : Functions) {R : Type 0} (macros : R) (whole : Bool) where
   -- why `show` tells nothing
   unfoldable pub WithholdsShown : Shown → Sight → Unlooked → Type 0
   WithholdsShown shown sight why =
-      Unopens functions whole sight why
+      OpensAsNoStore functions whole sight why
       ⊎ ((selection : Selection) × IsSelection shown selection
       × ((error : ShowError) × HasWorldThat functions macros (λ world. WithholdsProperties shown.count selection world error) sight × (why ≡ of_show error)))
 
@@ -236,12 +236,12 @@ module _ (functions : Functions) {R : Type 0} (macros : R) (whole : Bool) where
   unfoldable pub WithholdsDump : RecordPlace → Sight → Unlooked → Type 0
   WithholdsDump place sight why =
       ((error : LogError) × IsNoPlace place.number place.generation error (state_of_sight sight).reads × (why ≡ of_log error))
-      ⊎ ((cut : Sight) × IsCut place.number place.generation (state_of_sight sight).reads (state_of_sight cut).reads × Unopens functions whole cut why)
+      ⊎ ((cut : Sight) × IsCut place.number place.generation (state_of_sight sight).reads (state_of_sight cut).reads × OpensAsNoStore functions whole cut why)
 
   -- the store was not opened, or a backup of its world was not made
   unfoldable pub WithholdsBackup : (WorldState → BackupError → Type 0) → Sight → Unlooked → Type 0
   WithholdsBackup unmade sight why =
-      Unopens functions whole sight why
+      OpensAsNoStore functions whole sight why
       ⊎ ((error : BackupError) × HasWorldThat functions macros (λ world. unmade world error) sight × IsOfBackup error why)
 
   -- why a look of each kind tells nothing

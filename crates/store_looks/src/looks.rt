@@ -12,7 +12,7 @@ ghost use Rattle.command_words.specs.LookLine.{AsksToLook};
 ghost use Rattle.store_reports.specs.Backup.{IsBackupMade, HasNoBackup};
 ghost use Rattle.store_commands.specs.StatusAfterText.{TellsText};
 ghost use Rattle.store_looks.specs.Looks.{EndsUnlooked, Prints};
-ghost use Rattle.store_looks.specs.LookReports.{BacksUp, LooksAsAsked, LooksAt, Sees, TellsDump, TellsLog, TellsLook, Unopens, WithholdsBackup, WithholdsDump, WithholdsLog, WithholdsLook, notation_of, system_of};
+ghost use Rattle.store_looks.specs.LookReports.{BacksUp, LooksAsAsked, LooksAt, SeesFolder, TellsDump, TellsLog, TellsLook, OpensAsNoStore, WithholdsBackup, WithholdsDump, WithholdsLog, WithholdsLook, notation_of, system_of};
 ghost use Rattle.store_looks.specs.FailedLooks.{status_of};
 ghost use Rattle.user_macros.specs.Functions.{are_registered};
 
@@ -70,7 +70,7 @@ where
     ensures looks { LooksAsAsked M.Meaning.functions macros
         (are_registered M.Meaning.functions (M.functions macros))
         (system_of (R.measures rt.now) R.Disk.state (R.does rt.now)) (R.lacks rt.now)
-        (Sees ⟦<Sight as TellsCause>⟧.tells (L.opens folders.now))
+        (SeesFolder ⟦<Sight as TellsCause>⟧.tells (L.opens folders.now))
         (map S.text words.now) (O.contents output.old) (O.contents output.new) result }
     ensures told { (told : Remark) × TellsFault result told (F.contents faults.old) (F.contents faults.new) }
     ensures quiet { IsQuiet result → faults.new ≡ faults.old }
@@ -153,13 +153,13 @@ fn tell_error<F: Write, E: Display>(faults: &mut F, error: &E) {
 }
 
 // What the files of a folder hold at one moment, of which one is a half in use.
-#[tactic(auto, unfolding(crate::specs::LookReports::Sees))]
+#[tactic(auto, unfolding(crate::specs::LookReports::SeesFolder))]
 pub(crate) fn sight_of<L: Folders<Disk = Sight>>(
     folders: &L,
     folder: &str,
 ) -> Result<Sight, HostError>
     ensures room { IfOk result (λ sight. (⟦<Sight as Disk>⟧.state sight).failures ≡ 0) }
-    ensures sees { Sees ⟦<Sight as TellsCause>⟧.tells (L.opens folders.now) folder.now result }
+    ensures sees { SeesFolder ⟦<Sight as TellsCause>⟧.tells (L.opens folders.now) folder.now result }
 {
     open_folder(folders, folder, true)
 }
@@ -183,7 +183,7 @@ where
     ensures looks { LooksAt M.Meaning.functions macros
         (are_registered M.Meaning.functions (M.functions macros))
         (system_of (R.measures rt.now) R.Disk.state (R.does rt.now)) (R.lacks rt.now)
-        (Sees ⟦<Sight as TellsCause>⟧.tells (L.opens folders.now))
+        (SeesFolder ⟦<Sight as TellsCause>⟧.tells (L.opens folders.now))
         looked.entry.folder.now looked.entry.look (O.contents output.old) (O.contents output.new) result }
 {
     let seed = match rt.seed() {
@@ -321,7 +321,7 @@ pub(crate) fn opened<M: MacroFunctions + Drop>(
     requires room { (⟦<Sight as Disk>⟧.state sight).failures < 2 ^ 64 - 1 }
     ensures opened { IfOk result
         (λ store. IsOpened M.Meaning.functions ⟦<Sight as Disk>⟧.state sight macros half_limit store) }
-    ensures refused { IfErr result (Unopens M.Meaning.functions
+    ensures refused { IfErr result (OpensAsNoStore M.Meaning.functions
         (are_registered M.Meaning.functions (M.functions macros)) sight) }
 {
     match Store::open_with_seed(alloc, sight, macros, HALF_LIMIT, seed) {

@@ -21,7 +21,7 @@ use Rattle.lisp_operators.specs.Readtables.{a_function, after_first, changeable,
 use Rattle.evaluator.specs.Operators.{Operator, operator_named, operator_of, pazturrok, pazturrok_operator}
 use Rattle.evaluator.specs.Value.{value_by, symbol_value_by}
 use Rattle.evaluator.proofs.Widening.{Widens, OperatorWidens, widens_same, widens_also, widens_if, widens_value, widens_same_operator, called_widens}
-use Rattle.form_eval.specs.Acceptance.{accept_by, accepted_by, with_symbols}
+use Rattle.form_eval.specs.Acceptance.{accept_by, accepted_by, with_symbols_interned}
 use Rattle.prevalence_store.specs.meaning.Acceptance.{transaction_value}
 use Rattle.prevalence_store.specs.meaning.Forgetting.{forgetting, is_forgetting}
 
@@ -132,7 +132,7 @@ module _ (fewer more : List Name) (among : (name : Name) → IsTrue (is_among fe
 
   accepting_widens : (s : WorldState) (x : Object) (d : Done Object) → accept_by true fewer s x ≡ Ok d → accept_by true more s x ≡ Ok d
   accepting_widens s x d is =
-      (subst (λ o. Widens o (accept_by true more s x)) is (widens_accepted s (with_symbols s.packages (symbols x)) x)).same
+      (subst (λ o. Widens o (accept_by true more s x)) is (widens_accepted s (with_symbols_interned s.packages (symbols x)) x)).same
 
   pub transacting_widens : (s : WorldState) (x : Object) (d : Done Object) → transaction_value fewer s x ≡ Ok d → transaction_value more s x ≡ Ok d
   transacting_widens s x d = by_test (is_forgetting x)

@@ -27,6 +27,6 @@ abbrev pub pass_all : ℕ → ℕ → Course → Course
 pass_all forms bytes course = record { pace = course.pace; forms = course.forms + forms; bytes = course.bytes + bytes }
 
 -- from one to the other so many forms of this text were answered, and this is left of it
-pub record Comes (from to : Course) (forms : ℕ) (text left : List ℕ) : Type 0 where
+pub record CourseComesOn (from to : Course) (forms : ℕ) (text left : List ℕ) : Type 0 where
   pub forms_are : to.forms ≡ forms + from.forms
   pub bytes_are : to.bytes + length left ≡ from.bytes + length text

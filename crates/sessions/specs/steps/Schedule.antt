@@ -32,9 +32,9 @@ CountsAll (suc count) pace later = (counted : Pace) × CountsLoggedForm pace cou
 module _ (functions : Functions) {D R : Type 0} (state : D → State) (old new : StoreView D R) (world : WorldState) where
   -- a snapshot was taken; or it was refused with this number, as there is no half for it, the device failed or memory ran
   -- out
-  abbrev pub Renewing : Result Unit ℕ → Type 0
-  Renewing (Ok done) = IsSnapshotted functions state old new world
-  Renewing (Err number) =
+  abbrev pub RenewsOrIsRefused : Result Unit ℕ → Type 0
+  RenewsOrIsRefused (Ok done) = IsSnapshotted functions state old new world
+  RenewsOrIsRefused (Err number) =
       HasNoHalf functions state old new world number
       ⊎ (IsSnapshotFault functions state old new world number ⊎ HasNoSnapshotMemory functions state old new world number)
 

@@ -10,7 +10,7 @@ use Rattle.session_words.specs.declared.mode.Mode.{Mode}
 use Rattle.sessions.specs.declared.input.Pending.{Pending}
 use Rattle.sessions.specs.FormAnswers.{Progress, after_forms}
 use Rattle.prevalence_store.specs.meaning.Acceptance.{read_in}
-use Rattle.sessions.specs.steps.Answer.{BeginsWith}
+use Rattle.sessions.specs.steps.Answer.{BeginsWithForm}
 use Rattle.sessions.specs.steps.Gather.{BeginsWhole}
 use Rattle.sessions.specs.steps.Input.{IsPending}
 use Rattle.lisp_reading.specs.Reading.{refused}
@@ -65,7 +65,7 @@ module _ (functions : Functions) {D R : Type 0} (state : D → State) where
   -- the recipient stands before all that is left of the input, which begins with this form and its own text
   abbrev pub StandsAtForm : Option (Account D) → StoreView D R → Mode → Object → List ℕ → Type 0
   StandsAtForm told store mode object own = (world : WorldState) → store.world ≡ Some world
-      → (text : List ℕ) × (next : ℕ) × BeginsWith functions world mode text object own next × StandsBeforeAll told store world mode text
+      → (text : List ℕ) × (next : ℕ) × BeginsWithForm functions world mode text object own next × StandsBeforeAll told store world mode text
 
   -- the recipient stands before a form that is whole in what was read, and what follows it
   abbrev pub StandsAtWhole : Option (Account D) → StoreView D R → Mode → Object → List ℕ → (next : ℕ) → (rest : List ℕ) → Type 0

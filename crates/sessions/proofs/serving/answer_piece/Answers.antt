@@ -1,5 +1,5 @@
 use Rattle.std.proofs.Common.{Ok, Err, [], ◌++◌, ◌-◌, ◌≡◌, take, drop, length, is_some, refl, sym, ap, subst, ◌∙◌, arith, length-drop}
-use Rattle.sessions.specs.steps.Serve.{GoesOn}
+use Rattle.sessions.specs.steps.Serve.{SessionGoesOn}
 use Rattle.sessions.specs.steps.Course.{course_of}
 use Rattle.sessions.specs.steps.Input.{IsPending}
 use Rattle.sessions.specs.steps.Standing.{StandsBefore}
@@ -76,7 +76,7 @@ forms-preserved g c =
           let held = g.W.Recipient.contents c.args.writer.now in
           let written = g.W.Recipient.contents c.answer_next.new.writer in
           let text = bytes ++ c.args.piece.now in
-          subst (λ t. GoesOn functions g.D.Disk.state c.args.wanted.strict (course_of c.args.course.now) (course_of c.answer_next.new.course) c.args.store.now c.answer_next.new.store w c.args.wanted.mode text held written c.answer_next.new.pending t) (sym behind)
+          subst (λ t. SessionGoesOn functions g.D.Disk.state c.args.wanted.strict (course_of c.args.course.now) (course_of c.answer_next.new.course) c.args.store.now c.answer_next.new.store w c.args.wanted.mode text held written c.answer_next.new.pending t) (sym behind)
           (next_both functions g.D.Disk.state g.met.D.Disk.sound c.args.wanted (course_of c.args.course.now) (course_of c.forms.course) (course_of c.answer_next.new.course) c.args.store.now c.forms.store c.answer_next.new.store w c.args.wanted.mode
           held (g.W.Recipient.contents c.forms.writer) written c.forms.pending c.forms.invariant.honest text rest first c.answer_next.new.pending (Ok n)
           (c.in-Ok.ensures.answers first.far.world first.advances.after.left first.bytes first.is_pending));
