@@ -10,7 +10,7 @@ ghost use Rattle.store_laws.specs.SessionLines.{account_after};
 use disk_trait::{Disk, MemoryDisk};
 use prevalence_store::{Mode, Store};
 use session_ledger::serve_recorded;
-use sessions::{Ended, Wanted};
+use sessions::{Ended, SessionOptions};
 use std::alloc::Global;
 use std::io::{Read, Write};
 use std::test::Fail;
@@ -28,7 +28,7 @@ fn serve_before_another<D: Disk, M: MacroFunctions, I: Read, O: Write>(
     store: &mut Store<D, M>,
     reader: &mut I,
     output: &mut O,
-    wanted: Wanted,
+    wanted: SessionOptions,
 ) -> Ended
     requires is_open { IsSome store.old.world }
     ensures { (world : WorldState) → store.old.world ≡ Some world → IsHonest (D.state store.old.disk)
@@ -51,7 +51,7 @@ fn written_twice<D: Disk, M: MacroFunctions>(
     input: &[u8],
     more: &[u8],
 ) -> Option<Vec<u8>> {
-    let wanted = Wanted {
+    let wanted = SessionOptions {
         mode: Mode::Current,
         snapshot_every: 0,
         snapshot_ratio: 0,

@@ -101,7 +101,7 @@ enum Stop {
     // There was no room or no memory for them, or no snapshot for room, with this number. Fewer of them may be tried.
     Untaken(u16),
     // The session has ended.
-    MessagesEnd(MessagesEnd),
+    Ended(MessagesEnd),
 }
 
 impl Stop {

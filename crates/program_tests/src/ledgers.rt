@@ -10,7 +10,7 @@ use crate::again::AMPLE;
 use disk_trait::{Disk, MemoryDisk};
 use prevalence_store::{Mode, Store};
 use session_ledger::{serve_recorded, what_went_out_is_there};
-use sessions::{Ended, Wanted};
+use sessions::{Ended, SessionOptions};
 use std::alloc::Global;
 use std::io::{Read, Write};
 use std::test::Fail;
@@ -36,7 +36,7 @@ fn there_by_then<D: Disk, M: MacroFunctions, I: Read, O: Write>(
         → MeansCalls M.Meaning.functions world (calls_in M.Meaning.functions D.state
         (first_account world Mode.Current (I.remaining reader.old) store.old.disk) store.new went) k image) }
 {
-    let wanted = Wanted {
+    let wanted = SessionOptions {
         mode: Mode::Current,
         snapshot_every: 0,
         snapshot_ratio: 0,

@@ -10,7 +10,7 @@ use crate::proof_log::ProofLog;
 use disk_trait::Disk;
 use plist_state::World;
 use prevalence_store::{Store, WholeMacros};
-use sessions::{Ended, OutputFault, Recipient, SessionForm, Wanted, serve_wanted};
+use sessions::{Ended, OutputFault, Recipient, SessionForm, SessionOptions, serve_wanted};
 use std::io::Read;
 use std::marker::{Brand, Model, PhantomData};
 use store_laws::sessions;
@@ -101,7 +101,7 @@ fn serve_from<D, M, I, O, B>(
     store: &mut Store<D, M>,
     input: &mut I,
     output: &mut O,
-    wanted: Wanted,
+    wanted: SessionOptions,
 ) -> Ended
 where
     D: Disk,
@@ -157,7 +157,7 @@ pub fn serve_recorded<D, M, I, O>(
     store: &mut Store<D, M>,
     input: &mut I,
     output: &mut O,
-    wanted: Wanted,
+    wanted: SessionOptions,
 ) -> Ended
 where
     D: Disk,
