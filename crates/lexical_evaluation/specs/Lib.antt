@@ -1,0 +1,4 @@
+pub mod Values
+pub mod Calls
+pub mod InForce
+pub mod Laws
