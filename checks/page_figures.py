@@ -65,6 +65,7 @@ def sizes():
     tried = len(names_of("crates/*/must-fail/*.edit"))
     counted = {
         r"([\d,]+) lines of code": lines_of("crates/*/src/**/*.rt"),
+        r"([\d,]+) of them tests and examples": lines_of("crates/*_tests/src/**/*.rt", "crates/examples/src/**/*.rt"),
         r"([\d,]+) lines of definitions": lines_of("crates/*/specs/**/*.antt"),
         r"([\d,]+) lines of proofs": lines_of("crates/*/proofs/**/*.antt"),
         r"([\d,]+) wrong bodies": tried + len(names_of("crates/*/wrong-bodies/*.edit")),
