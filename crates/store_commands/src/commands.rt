@@ -27,7 +27,7 @@ use disk_trait::HostError;
 use lisp_object::refusal::{INPUT, NO_MEMORY, OUTPUT};
 use plist_state::Seed;
 use program_streams::ShownText;
-use sessions::Wanted;
+use sessions::SessionOptions;
 use std::convert::AsStr;
 use std::fmt::Write as WriteText;
 use std::io::Write;
@@ -186,7 +186,7 @@ fn sit<R, M, I, O>(
     rt: &R,
     macros: M,
     asked: Asked<'_>,
-    wanted: Wanted,
+    wanted: SessionOptions,
     input: &mut I,
     output: &mut O,
 ) -> (Status, Remark)
