@@ -87,7 +87,7 @@ fn push_cause(text: &mut ArrayString<4600>, cause: &HostError, folder: &str) -> 
                 failed.call, failed.error
             )
         }
-        cause => write!(text, "{cause}: {folder}"),
+        cause => write!(text, "{folder}: {cause}"),
     }
 }
 
