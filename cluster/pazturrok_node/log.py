@@ -61,6 +61,28 @@ class Entry(NamedTuple):
     name: bytes
     text: bytes
 
+    @property
+    def client(self) -> tuple[bytes, int]:
+        """Of a message of a client with a name: that name, and its number."""
+        client, _, number = self.name.partition(b":")
+        return client, int(number)
+
+
+def name_of_message(client: bytes, number: int) -> bytes:
+    """The name of an entry that is a message of a client with a name."""
+    return b"%s:%d" % (client, number)
+
+
+def is_named(name: bytes) -> bool:
+    """Whether an entry of this name is such a message: the table of clients in the store has its answer, and it may be fed again."""
+    return b":" in name
+
+
+def may_be_followed(name: bytes, text: bytes) -> bool:
+    """Whether such a message may come after an entry without a mark between them: after a mark, or after another one. One by which a client
+    goes, which has no text, would take later ones of the client away where it is fed again."""
+    return text in MARKS or (is_named(name) and text != b"")
+
 
 class Reached(NamedTuple):
     """All entries up to this place of the log were given."""
@@ -84,6 +106,10 @@ class Log(abc.ABC):
 
     lanes = 1
     """So often `append` may be under way at once."""
+
+    takes_named = False
+    """Whether it takes messages of clients with a name. They leave the position of a store as it is: where such a message comes after others, a mark
+    has to stand between them, or an opening would feed the store these others again, in another world."""
 
     @property
     def silent_seconds(self) -> float:
