@@ -42,7 +42,7 @@ def answer_to(form: str, count: int) -> tuple[str, int]:
     place = FORMS.index(form)
     if place < 2:
         count += 1
-    return (str(count), f'({count} "a \\"text\\" \\\\\n" B)', str(count), "! 33 WRONG-TYPE", "! 4 STRAY-CLOSE")[place], count
+    return (str(count), f'({count} "a \\"text\\" \\\\\n" B)', str(count), "! 33 ARGUMENT-KIND", "! 4 STRAY-CLOSE")[place], count
 
 
 def die() -> NoReturn:

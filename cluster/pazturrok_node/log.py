@@ -3,6 +3,7 @@
 from __future__ import annotations
 
 import abc
+import enum
 from collections.abc import AsyncIterator, Callable, Sequence
 from typing import NamedTuple, Union
 
@@ -78,10 +79,31 @@ def is_named(name: bytes) -> bool:
     return b":" in name
 
 
-def may_be_followed(name: bytes, text: bytes) -> bool:
-    """Whether such a message may come after an entry without a mark between them: after a mark, or after another one. One by which a client
-    goes, which has no text, would take later ones of the client away where it is fed again."""
-    return text in MARKS or (is_named(name) and text != b"")
+class Ground(enum.IntEnum):
+    """What an entry has before it, as an opening of the store would feed it what came since the last mark."""
+
+    NONE = 0
+    """An entry that the store does not know when it is fed it again: it would be carried out in another world."""
+
+    MESSAGES = 1
+    """Messages of clients since a mark: the table of clients has their answers."""
+
+    MARK = 2
+    """A mark: the store is fed nothing again that stands before it."""
+
+
+def ground_after(name: bytes, text: bytes) -> Ground:
+    """What the entry after this one has. A message by which a client goes has no text: fed again it would take later ones away."""
+    if text in MARKS:
+        return Ground.MARK
+    return Ground.MESSAGES if is_named(name) and text else Ground.NONE
+
+
+def ground_for(name: bytes, text: bytes) -> Ground:
+    """What an entry has to have before it. Where a client goes there is room in the table, and one that was refused would be taken now."""
+    if not is_named(name):
+        return Ground.NONE
+    return Ground.MESSAGES if text else Ground.MARK
 
 
 class Reached(NamedTuple):
@@ -110,6 +132,9 @@ class Log(abc.ABC):
     takes_named = False
     """Whether it takes messages of clients with a name. They leave the position of a store as it is: where such a message comes after others, a mark
     has to stand between them, or an opening would feed the store these others again, in another world."""
+
+    def want_mark(self) -> None:
+        """Has a mark stand before the next message of a client with a name."""
 
     @property
     def silent_seconds(self) -> float:

@@ -19,6 +19,9 @@ from .tasks import Waits, end_all
 
 logger = logging.getLogger(__name__)
 
+UNKEPT = (b"! 46 ", b"! 48 ", b"! 54 ")
+"""A message of a client that is refused so may have no entry in the table of clients: fed again, it could be carried out."""
+
 NOTHING = b"NIL"
 """What a store is fed in place of an entry that is skipped."""
 
@@ -355,6 +358,8 @@ class Node:
         wanted = self._last.client[1] if is_of_client and is_named(self._last.name) else number
         if told != wanted:
             raise NoFrameError(f"an answer to {told}, and not to {wanted}")
+        if is_of_client and text.startswith(UNKEPT):
+            self.log.want_mark()
         if self._last.text in MARKS:
             self._take_mark(self._last, text)
         self._move(number)
