@@ -139,18 +139,20 @@ class JournalTest(unittest.IsolatedAsyncioTestCase):
         self.assertEqual(await self.given(three, 1), [(2, b"b", b"x" * 100), (3, b"c", b"3")])
 
     async def test_messages_of_clients(self):
-        """A mark stands before the first of them after another entry, before one by which a client goes, and after that. They are no names, so each
-        is an entry of its own."""
+        """A mark stands before one by which a client goes, and after that, and after one that was refused, unless another entry does. They are no
+        names, so each is an entry of its own."""
         one, x = self.begun(), b" (X)"
-        self.assertEqual(await one.append([(b"t:1", x), (b"u:1", x)], 0), [2, 3])
-        self.assertEqual(await one.append([(b"t:1", x)], 0), [4])
-        self.assertEqual(await one.append([(b"t:1", b""), (b"u:2", x), (b"a", b"1"), (b"b", MARK), (b"u:3", b""), (b"u:4", x)], 0), [6, 8, 9, 10, 11, 13])
+        self.assertEqual(await one.append([(b"t:1", x), (b"u:1", x)], 0), [1, 2])
+        self.assertEqual(await one.append([(b"t:1", x)], 0), [3])
+        self.assertEqual(await one.append([(b"t:1", b""), (b"u:2", x), (b"a", b"1"), (b"u:3", b""), (b"b", b"2"), (b"u:4", x)], 0), [5, 7, 8, 9, 10, 11])
         one.want_mark()
-        self.assertEqual(await one.append([(b"u:5", x)], 0), [15])
-        self.assertEqual(await one.append([(b"a", b"1"), (b"u:6", x)], 0), [9, 16])
+        self.assertEqual(await one.append([(b"u:5", x)], 0), [13])
+        self.assertEqual(await one.append([(b"a", b"1"), (b"t:2", b"")], 0), [8, 15])
         one.close()
-        texts = dict((number, text) for number, _, text in await self.given(self.begun(), 0))
-        self.assertEqual([number for number, text in texts.items() if text == MARK], [1, 5, 7, 10, 12, 14])
+        two = self.begun()
+        self.assertEqual(await two.append([(b"t:1", x)], 0), [17])
+        texts = dict((number, text) for number, _, text in await self.given(two, 0))
+        self.assertEqual([number for number, text in texts.items() if text == MARK], [4, 6, 12, 14, 16])
 
     async def test_a_journal_with_messages_of_clients(self):
         """An older node refuses it by its first line; one without any is as it was, also where the line did not come as far as the record."""
@@ -164,9 +166,9 @@ class JournalTest(unittest.IsolatedAsyncioTestCase):
         path.write_bytes(path.read_bytes().replace(b"journal 2", b"journal 1", 1))
         two = self.begun()
         self.assertTrue(path.read_bytes().startswith(b"pazturrok journal 2\n"))
-        self.assertEqual(await self.given(two, 2), [(3, b"t:1", b" (X)")])
+        self.assertEqual(await self.given(two, 1), [(2, b"t:1", b" (X)")])
         with mock.patch.object(journals, "SEGMENT", 0):
-            self.assertEqual(await two.append([(b"b", b"2")], 0), [4])
+            self.assertEqual(await two.append([(b"b", b"2")], 0), [3])
         self.assertTrue(pathlib.Path(self.segments()[1]).read_bytes().startswith(b"pazturrok journal 1\n"))
 
     async def test_no_room_for_zeros(self):

@@ -18,7 +18,6 @@ from .frames import (
     LIMIT,
     LOST,
     NO_FRAME,
-    NO_POSITION,
     NO_ROOM,
     NO_SUCH_ENTRY,
     OTHER_VERSION,
@@ -277,9 +276,6 @@ class Client(asyncio.Protocol):
         number = request.number or 0
         if request.name is None:
             self._answer(slot, named_answer(number, NO_FRAME))
-        elif self._node.unread_mark > self._node.lasting:
-            # no mark can stand before it
-            self._answer(slot, named_answer(number, NO_POSITION))
         else:
             self._unplaced += len(request.text)
             name = name_of_message(request.name, number)

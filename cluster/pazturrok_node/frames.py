@@ -35,9 +35,6 @@ LOST = b"! 50 OLD-NUMBER"
 """The answer to an entry that was carried out, once, and whose own answer nobody has any more. It is this object where the node says so, and other
 bytes where the store does."""
 
-NO_POSITION = b"! 52 NO-POSITION"
-"""The answer to a message of a client with a name where the store cannot read marks, and writes no position: nothing of it was carried out."""
-
 SKIPPED = b"! 53 SKIPPED"
 """The answer to an entry that all stores skip."""
 

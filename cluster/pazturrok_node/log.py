@@ -80,30 +80,31 @@ def is_named(name: bytes) -> bool:
 
 
 class Ground(enum.IntEnum):
-    """What an entry has before it, as an opening of the store would feed it what came since the last mark."""
+    """What an entry has before it, where the store is opened anew: messages of clients leave its position as it is, so it is fed again those that
+    stand after the last other entry."""
 
-    NONE = 0
-    """An entry that the store does not know when it is fed it again: it would be carried out in another world."""
+    UNSURE = 0
+    """A message by which a client went, and which would take later ones of it away; or one that was refused and has no entry in the table of clients."""
 
-    MESSAGES = 1
-    """Messages of clients since a mark: the table of clients has their answers."""
+    KEPT = 1
+    """A message that has an entry: it is answered again, and not carried out."""
 
-    MARK = 2
-    """A mark: the store is fed nothing again that stands before it."""
+    POSITION = 2
+    """Another entry. Where anything after it is written, its number is the position, and nothing up to it is fed again."""
 
 
 def ground_after(name: bytes, text: bytes) -> Ground:
-    """What the entry after this one has. A message by which a client goes has no text: fed again it would take later ones away."""
-    if text in MARKS:
-        return Ground.MARK
-    return Ground.MESSAGES if is_named(name) and text else Ground.NONE
+    """What the entry after this one has. A message by which a client goes has no text."""
+    if not is_named(name):
+        return Ground.POSITION
+    return Ground.KEPT if text else Ground.UNSURE
 
 
 def ground_for(name: bytes, text: bytes) -> Ground:
-    """What an entry has to have before it. Where a client goes there is room in the table, and one that was refused would be taken now."""
+    """What an entry has to have before it, or a mark is put there. A client that goes makes room, in which one that was refused would be carried out."""
     if not is_named(name):
-        return Ground.NONE
-    return Ground.MESSAGES if text else Ground.MARK
+        return Ground.UNSURE
+    return Ground.KEPT if text else Ground.POSITION
 
 
 class Reached(NamedTuple):
@@ -130,8 +131,7 @@ class Log(abc.ABC):
     """So often `append` may be under way at once."""
 
     takes_named = False
-    """Whether it takes messages of clients with a name. They leave the position of a store as it is: where such a message comes after others, a mark
-    has to stand between them, or an opening would feed the store these others again, in another world."""
+    """Whether it takes messages of clients with a name."""
 
     def want_mark(self) -> None:
         """Has a mark stand before the next message of a client with a name."""
