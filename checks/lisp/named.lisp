@@ -88,3 +88,32 @@
                          (incf kills))
                     nconc (loop repeat 10 collect (feed-form feed *plus*))))
       (expect "no more" 200 (ask feed "(GET 'NT 'KY)")))))
+
+(defun call-with-node (function)
+  "Calls FUNCTION with the place of a node of one machine."
+  (let* ((place (concatenate 'string "unix:" (subfolder "named.socket")))
+         (node (uiop:native-namestring (asdf:system-relative-pathname "pazturrok-client" "../../cluster/pazturrok-node")))
+         (process (uiop:launch-program (list "python3" "-B" node (subfolder "of a node") "--alone" "--listen" place "--program" *program*))))
+    (unwind-protect (funcall function place)
+      (uiop:terminate-process process)
+      (uiop:wait-process process))))
+
+(define-check clients-with-a-name-at-a-node ()
+  (call-with-node
+   (lambda (place)
+     (with-nodes (other (list place))
+       (with-nodes (feed (list place) :client-name "till-3")
+         (feed-form other "(SETF (GET 'NT 'KY) 0)")
+         (expect "an answer comes again" '(1 1) (list (feed-form feed *plus*) (feed-form feed *plus* :number 1)))
+         (expect "many" '(2 3) (feed-all feed (list *plus* *plus*)))
+         (expect "refusals" '(55 50 31 31)
+                 (loop for (form number) in (list '("(LIST 1)" 3) (list *plus* 2) '("(FROB)" 9) '("(FROB)" 9))
+                       collect (number-of-refusal (feed-form feed form :number number)))))
+       (with-nodes (feed (list place) :client-name "till-3")
+         (expect "another process" '(4 10) (list (feed-form feed *plus*) (feed-last feed)))
+         (unregister feed)
+         (expect "no entry" nil (ask-fresh other "(GET '%CLIENTS::|till-3| '%CLIENTS::%MESSAGE)")))
+       (expect "names that are none" 'unsendable (signalled (open-nodes (list place) :client-name "a b")))
+       (expect "no number without a name" :error
+               (handler-case (feed-form other *plus* :number 5) (error () :error)))
+       (expect "carried out once" 4 (ask-fresh other "(GET 'NT 'KY)"))))))

@@ -7,14 +7,20 @@ import os
 import random
 import signal
 import subprocess
+import sys
 import threading
 import unittest
 from collections.abc import Iterator
 from typing import Any
 
-from pazturrok import LostAnswerError, MessageStore, RefusedError, StoppedError, UnsendableError
+from lib.places import CHECKS
+from pazturrok import BrokenStoreError, LostAnswerError, MessageStore, NodeStore, RefusedError, StoppedError, UnsendableError
 from pazturrok.named import GREATEST_NUMBER, question_of_entry
 from support import LONG, PROGRAM, StoreTest
+
+sys.path.insert(0, os.path.join(CHECKS, "cluster"))
+
+from fake_nodes import FakeNodes  # noqa: E402
 
 MOST_CLIENTS = 16_384
 ADD = "(LIST (INCF (GET 'NT 'KY)) \"a \\\"text\\\" \\\\\n\" 'B)"
@@ -201,6 +207,61 @@ class Named(StoreTest):
     def test_a_fault_of_the_program_is_told(self) -> None:
         with self.assertRaises(StoppedError):
             MessageStore(os.path.join(self.folder, "none"), "/bin/false", client_name="till-3")
+
+
+class NamedAtNode(StoreTest):
+    """The same through the node of one machine."""
+
+    def test_answers_and_refusals(self) -> None:
+        with self.node() as place, NodeStore([place], client_name="till-3") as store, NodeStore([place]) as other:
+            other.do("(SETF (GET 'NT 'KY) 0)")
+            self.assertEqual((0, 1, 1), (store.position, store.do(PLUS), store.do(PLUS, number=1)))
+            self.assertEqual([2, 3], store.do_all([PLUS, PLUS]))
+            numbers = [getattr(self.outcome(store, *pair), "number", None) for pair in (("(LIST 1)", 3), (PLUS, 2), ("(FROB)", 9), ("(FROB)", 9))]
+            self.assertEqual([55, 50, 31, 31], numbers)
+            with NodeStore([place], client_name="till-3") as again:
+                self.assertEqual((9, 4, 10), (again.position, again.do(PLUS), again.position))
+                self.assertEqual(5, again.put("NT", "KY", 5))
+            # a process that does not know what another one of its name has sent
+            self.assertEqual(55, getattr(self.outcome(store, "(LIST 2)", 11), "number", None))
+            with NodeStore([place], client_name="till-3") as last:
+                self.assertEqual(11, last.position)
+                last.unregister()
+            self.assertEqual([], other.read(question_of_entry("till-3")))
+            for wrong in (lambda: store.do(PLUS, name="a"), lambda: other.do(PLUS, number=5), other.unregister, lambda: other.position):
+                with self.assertRaises(ValueError):
+                    wrong()
+            for name in ("", "a b"):
+                with self.assertRaises(UnsendableError):
+                    NodeStore([place], client_name=name)
+            self.assertEqual(5, other.read("(GET 'NT 'KY)"))
+
+    def outcome(self, store: NodeStore, form: str, number: int) -> object:
+        try:
+            return store.do(form, number=number)
+        except RefusedError as error:
+            return error
+
+    def test_a_child_of_a_fork_leaves_the_name_to_its_parent(self) -> None:
+        with self.node() as place, NodeStore([place], client_name="till-3") as store:
+            store.do("(SETF (GET 'NT 'KY) 0)")
+            child = os.fork()
+            if not child:
+                try:
+                    store.do(PLUS)
+                except BrokenStoreError:
+                    os._exit(7 if store.read("(GET 'NT 'KY)") == 0 else 8)
+                os._exit(9)
+            self.assertEqual(7, os.waitstatus_to_exitcode(os.waitpid(child, 0)[1]))
+            self.assertEqual(1, store.do(PLUS))
+
+    def test_a_node_that_knows_no_names(self) -> None:
+        nodes = FakeNodes()
+        self.addCleanup(nodes.close)
+        nodes.greetings[0] = ("0", "! 58 OTHER-VERSION")
+        with NodeStore(nodes.names[:1], client_name="till-3") as store, self.assertRaises(RefusedError) as raised:
+            store.do(PLUS)
+        self.assertEqual(58, raised.exception.number)
 
 
 if __name__ == "__main__":
