@@ -52,7 +52,7 @@ def figures():
 STATUS = "docs/trust/status.md"
 
 # A size that a page gives may be off by so much: it is round, and each change moves it.
-OFF = 0.03
+OFF = 0.05
 
 
 def lines_of(*patterns):
@@ -70,6 +70,9 @@ def sizes():
         r"([\d,]+) lines of proofs": lines_of("crates/*/proofs/**/*.antt"),
         r"([\d,]+) wrong bodies": tried + len(names_of("crates/*/wrong-bodies/*.edit")),
         r"of which the gate tries ([\d,]+)": tried,
+        r"([\d,]+) lines of C": lines_of("clients/c/*.c"),
+        r"([\d,]+) of headers": lines_of("clients/c/*.h"),
+        r"([\d,]+) lines of Python": lines_of("cluster/**/*.py"),
     }
     text = read(STATUS)
     for pattern, size in counted.items():

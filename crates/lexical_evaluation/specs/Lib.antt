@@ -2,3 +2,4 @@ pub mod Values
 pub mod Calls
 pub mod InForce
 pub mod Laws
+pub mod Machine

@@ -68,7 +68,13 @@ where
     match checked_in(rt.alloc(), words) {
         Ok(asked) => match check_asked(rt, macros, asked, input, output) {
             Ok(status) => end_with(faults, status),
-            Err(unlooked) => end_unlooked(faults, unlooked, None),
+            Err(unlooked) => {
+                let folder = match asked.store {
+                    Some(folder) => folder,
+                    None => "",
+                };
+                end_unlooked(faults, unlooked, None, folder)
+            }
         },
         Err(error) => {
             let status = answer_words(&error, output, faults);
