@@ -69,7 +69,8 @@ class FramesTest(unittest.TestCase):
 
     def test_messages_of_clients(self):
         sent = b"by 18446744073709551615 5\na (X)\nby 0 3\nb.c\nby 7 4\n (Y)\nby 8 2\nb \nby 9 1\n(\n"
-        self.assertEqual([one[1:] for one in self.requests([sent])], [(b"a", (1 << 64) - 1, b" (X)"), (b"b.c", 0, b""), (None, 7, b" (Y)"), (b"b", 8, b" "), (None, 9, b"(")])
+        wanted = [(b"a", (1 << 64) - 1, b" (X)"), (b"b.c", 0, b""), (None, 7, b" (Y)"), (b"b", 8, b" "), (None, 9, b"(")]
+        self.assertEqual([one[1:] for one in self.requests([sent])], wanted)
         for text in (b"by 18446744073709551616 3\na b\n", b"by 01 3\na b\n", b"by 3\na b\n", b"by -1 3\na b\n"):
             with self.assertRaises(NoFrameError, msg=text):
                 self.requests([text])
@@ -79,7 +80,8 @@ class FramesTest(unittest.TestCase):
         text = b"x" * LIMIT
         sent = b"do %d\n%s\n" % (LIMIT, text)
         self.assertEqual(self.requests([sent[place : place + 60_000] for place in range(0, len(sent), 60_000)])[0].text, text)
-        self.assertEqual([head.groups()[:2] for head, _ in Frames(ANSWER).split(b"7 1\nA\nask 1\nB\nby 8 1\nC\n")], [(None, b"7"), (None, None), (b"by ", b"8")])
+        heads = [head.groups()[:2] for head, _ in Frames(ANSWER).split(b"7 1\nA\nask 1\nB\nby 8 1\nC\n")]
+        self.assertEqual(heads, [(None, b"7"), (None, None), (b"by ", b"8")])
 
 
 class NamedTest(unittest.IsolatedAsyncioTestCase):
