@@ -239,7 +239,8 @@ class AppenderTest(unittest.IsolatedAsyncioTestCase):
             await asyncio.wait_for(self.task, LONG)
 
 
-CAUSES = (b"Input/output error (os error 5)", b"No space left on device (os error 28)", b"locked by another process", b"there is no store in this folder")
+CAUSES = (b"cannot sync /s/half-a: Input/output error (os error 5)", b"cannot write /s/half-b: No space left on device (os error 28)",
+          b"/s: locked by another process", b"/s: there is no store in this folder")
 SPEAKS = "import os, sys; os.write(1, {!r}); os.write(2, {!r}); sys.stdin.read()"
 
 
@@ -272,7 +273,7 @@ class ChildTest(unittest.IsolatedAsyncioTestCase):
 
     async def test_why_it_ended(self):
         broken, room, locked, missing = [await self.started(b"none\n", b"! 60 DEVICE\n%s\n" % cause) for cause in CAUSES]
-        self.assertEqual(str(broken), "60 DEVICE: Input/output error (os error 5)")
+        self.assertEqual(str(broken), "60 DEVICE: cannot sync /s/half-a: Input/output error (os error 5)")
         for was_open in (False, True):
             with self.assertRaises(DeviceError):
                 broken.look(was_open)
@@ -280,7 +281,7 @@ class ChildTest(unittest.IsolatedAsyncioTestCase):
             locked.look(was_open)
             with self.assertRaises(FileNotFoundError):
                 missing.look(was_open)
-        denied = Fault().heard(b"! 60 DEVICE\n").heard(b"Permission denied (os error 13)\n").heard(b"more\n")
+        denied = Fault().heard(b"! 60 DEVICE\n").heard(b"cannot open /s/half-a: Permission denied (os error 13)\n").heard(b"more\n")
         denied.look(was_open=False)
         with self.assertRaises(DeviceError):
             denied.look(was_open=True)

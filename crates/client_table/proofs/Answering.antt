@@ -13,7 +13,7 @@
 use Rattle.std.proofs.Common.{◌≡◌, ◌⊎◌, ℕ, ◌<◌, ◌≤◌, ◌^◌, ◌==◌, nat_le, nat_lt, Bool, true, false, ◌||◌, if◌then◌else◌, List, [], ◌∷◌, ◌++◌, length, codes, Option, None, Some, IsSome, is_some, Result, Ok, Err, IfErr, refl, sym, ap, subst, ◌∙◌, append-nil, inl, inr}
 use Rattle.std.specs.Prelude.{option_map}
 use Rattle.std.proofs.lemmas.Bool.{false≢true, le-leb, lt-leb}
-use Rattle.client_table.specs.Calls.{HasAnswer, IsAmissAt, KeepsAnswer, KeepsAnswerAt, RefusesNamed}
+use Rattle.client_table.specs.CallsByName.{HasAnswer, IsAmissAt, KeepsAnswer, KeepsAnswerAt, RefusesNamed}
 use Rattle.client_table.specs.Entries.{HasEntrySymbols, KeptMessage, MayStand, admission_text, client_count, entry, entry_in, entry_list, entry_property, entry_text, is_of, kept_message, leaving_text, message_symbol, table_package}
 use Rattle.client_table.specs.Named.{answer_to_form, at_last, by_admission, by_client, by_later, by_name, by_no_entry, by_standing, by_table, client_standing, last_told, standing_by, standing_to, told_again, with_entry_kept, with_first_message, with_kept, without_client}
 use Rattle.client_table.specs.Names.{form_in, is_client_name, client_name_in}
@@ -29,8 +29,8 @@ use Rattle.client_table.proofs.ClientNames.{name_ascii, name_short}
 use Rattle.client_table.proofs.EntryMade.{entry_made, entry_short}
 use Rattle.client_table.proofs.Kept.{entry_there, kept_is_short, kept_stands}
 use Rattle.lisp_object.specs.Object.{Object}
-use Rattle.messages.specs.Answers.{Round, without_its_position, given_in, refusal_answer, refusal_text, with_answer, with_form_given, with_set, wrote_by}
-use Rattle.messages.specs.Calls.{IsNotCleared}
+use Rattle.messages.specs.MessageAnswers.{Round, without_its_position, given_in, refusal_answer, refusal_text, with_answer, with_form_given, with_set, wrote_by}
+use Rattle.messages.specs.MessageCalls.{IsNotCleared}
 use Rattle.messages.specs.Rounds.{IfRefused, MayBeLogged}
 use Rattle.messages.proofs.Making.{form_made}
 use Rattle.package_table.specs.Table as packages

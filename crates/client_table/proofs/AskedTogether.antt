@@ -17,7 +17,7 @@ use Rattle.client_table.proofs.NamedNear.{named_near}
 use Rattle.message_laws.specs.Batches.{BatchProgress, with_batch}
 use Rattle.message_laws.specs.NearRounds.{IsTidy, Near}
 use Rattle.message_laws.proofs.Together.{IsSilent, More, StandsAt, cleared_last, cleared_silent, closed_stands, near_itself, neither, nothing_done, one_least, one_near, one_silent}
-use Rattle.messages.specs.Answers.{Round, first_round, without_its_position, refusal_text, with_answer, wrote_by}
+use Rattle.messages.specs.MessageAnswers.{Round, first_round, without_its_position, refusal_text, with_answer, wrote_by}
 use Rattle.messages.specs.Position.{without_position}
 use Rattle.plist_state.specs.State.{WorldState}
 use Rattle.prevalence_store.specs.meaning.Acceptance.{Acceptance, accepts}

@@ -22,10 +22,10 @@ use Rattle.messages.specs.declared.request.TheConstants.{ANSWER_BYTES}
 use Rattle.prevalence_store.specs.calls.ExecuteAll.{world_left_after, told_of}
 use Rattle.prevalence_store.specs.calls.Store.{StoreView}
 use Rattle.prevalence_store.specs.meaning.Acceptance.{Acceptance, accepts}
-use Rattle.messages.specs.Answers.{Round, answer_in, answer_to_question, first_round, without_its_position, with_its_position, refusal_answer, refusal_text, with_answer, with_form_given, with_own, wrote_by}
-use Rattle.client_table.specs.Calls.{AnswersAllAsked, AnswersFirstAsked, KeepsAnswers, KeepsOne, RefusesAsked, RefusesAnyOwn}
+use Rattle.messages.specs.MessageAnswers.{Round, answer_in, answer_to_question, first_round, without_its_position, with_its_position, refusal_answer, refusal_text, with_answer, with_form_given, with_own, wrote_by}
+use Rattle.client_table.specs.CallsByName.{AnswersAllAsked, AnswersFirstAsked, KeepsAnswers, KeepsRequest, RefusesAsked, RefusesAnyOwn}
 use Rattle.client_table.specs.Turn.{first_asked}
-use Rattle.messages.specs.Calls.{IsNotClosed}
+use Rattle.messages.specs.MessageCalls.{IsNotClosed}
 use Rattle.messages.specs.Fronts.{answer_length, is_full, is_none_left, room_left}
 use Rattle.messages.specs.Position.{position_property}
 use Rattle.messages.specs.Rounds.{IfRefused, told_in}
@@ -133,7 +133,7 @@ module _ (functions : Functions) (clients : ℕ) where
   keeps_none round = tt
 
   keeps_push : (round : Round) (front : List AnyRequest) (one : AnyRequest) → KeepsAnswers functions clients round front
-      → KeepsOne (each_asked functions clients round front) one (one_asked functions clients (each_asked functions clients round front) one) → KeepsAnswers functions clients round (front ++ one ∷ [])
+      → KeepsRequest (each_asked functions clients round front) one (one_asked functions clients (each_asked functions clients round front) one) → KeepsAnswers functions clients round (front ++ one ∷ [])
   unfolding KeepsAnswers
   keeps_push round [] one all keeps = (keeps, tt)
   keeps_push round (other ∷ front) one all keeps = (all.0, keeps_push (one_asked functions clients round other) front one all.1 keeps)
@@ -204,11 +204,11 @@ module _ (functions : Functions) (clients : ℕ) where
             ∙ sym (fold-append (λ r one. one_asked functions clients r one) first (take count requests) (next_of ∷ []))
             ∙ ap (each_asked functions clients first) (sym (take_more requests count one within))
 
-        kept_more : KeepsOne far next_of next → KeepsAnswers functions clients first (take (count + 1) requests)
+        kept_more : KeepsRequest far next_of next → KeepsAnswers functions clients first (take (count + 1) requests)
         kept_more keeps =
             subst (KeepsAnswers functions clients first) (sym (take_more requests count one within))
             (keeps_push first (take count requests) next_of is.kept
-            (subst (λ (r : Round). KeepsOne r next_of (one_asked functions clients r next_of)) is.answered (subst (KeepsOne far next_of) next_is keeps)))
+            (subst (λ (r : Round). KeepsRequest r next_of (one_asked functions clients r next_of)) is.answered (subst (KeepsRequest far next_of) next_is keeps)))
 
         is_last : is_full most next ≡ true → first_asked functions clients most first requests ≡ take (count + 1) requests
         is_last full =
@@ -234,10 +234,10 @@ module _ (functions : Functions) (clients : ℕ) where
           full_is : is_none_left left ≡ is_full most next
           full_is = ap is_none_left room_next ∙ none_left_is most next
 
-          pub at_next : KeepsOne far next_of next → is_none_left left ≡ false → IsAt most first requests (count + 1) next left
+          pub at_next : KeepsRequest far next_of next → is_none_left left ≡ false → IsAt most first requests (count + 1) next left
           at_next keeps more = record { answered = one_more; goes_on = goes_further (sym full_is ∙ more); room_is = room_next; kept = kept_more keeps }
 
-          pub kept_last : KeepsOne far next_of next → is_none_left left ≡ true → KeepsAnswers functions clients first (first_asked functions clients most first requests)
+          pub kept_last : KeepsRequest far next_of next → is_none_left left ≡ true → KeepsAnswers functions clients first (first_asked functions clients most first requests)
           kept_last keeps none = subst (KeepsAnswers functions clients first) (sym (is_last (sym full_is ∙ none))) (kept_more keeps)
 
           pub at_last : is_none_left left ≡ true → next ≡ each_asked functions clients first (first_asked functions clients most first requests)

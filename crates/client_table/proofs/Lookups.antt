@@ -10,7 +10,7 @@ use Rattle.client_table.specs.declared.entry.Standing.{Standing}
 use Rattle.client_table.specs.declared.entry.Standing.TheVariants.{Last, Later, Old, Other}
 use Rattle.lisp_object.specs.Object.{Object}
 use Rattle.client_table.specs.declared.asked.TheConstants.{NO_FRAME, OTHER_TEXT}
-use Rattle.messages.specs.Answers.{Round, without_its_position, refusal_text, with_answer}
+use Rattle.messages.specs.MessageAnswers.{Round, without_its_position, refusal_text, with_answer}
 use Rattle.user_macros.specs.Functions.{Functions}
 
 -- by an entry that is there

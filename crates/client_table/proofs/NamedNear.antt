@@ -4,7 +4,7 @@ use Rattle.std.proofs.Common.{◌≡◌, ℕ, Bool, true, false, List, [], ◌�
 use Rattle.std.specs.Prelude.{if◌then◌else◌}
 use Rattle.client_table.specs.Entries.{KeptMessage, admission_text, message_symbol, client_count, entry, entry_list, entry_property, kept_message, leaving_text, table_package}
 use Rattle.client_table.specs.Laws.{AreAnsweredAlike}
-use Rattle.client_table.specs.Named.{answer_to_form, by_admission, by_client, by_later, by_name, by_no_entry, by_standing, last_told, client_standing, with_entry_kept, with_first_message, with_form, with_kept, without_client}
+use Rattle.client_table.specs.Named.{answer_to_form, by_admission, by_client, by_later, by_name, by_no_entry, by_standing, last_told, client_standing, with_entry_kept, with_first_message, with_own_form, with_kept, without_client}
 use Rattle.client_table.specs.Names.{form_in, is_client_name, client_name_in}
 use Rattle.client_table.specs.declared.asked.TheConstants.{NO_ENTRY, NO_FRAME, NO_ROOM, OTHER_TEXT}
 use Rattle.client_table.specs.declared.entry.Standing.{Standing}
@@ -13,7 +13,7 @@ use Rattle.message_laws.specs.NearRounds.{IsTidy, Near}
 use Rattle.message_laws.proofs.Together.{cleared_last, cleared_left, cleared_tidy}
 use Rattle.message_laws.proofs.Tidy.{tidy_put}
 use Rattle.message_laws.proofs.TidyForms.{given_tidy}
-use Rattle.messages.specs.Answers.{Round, answer_in, without_its_position, given_in, refusal_answer, refusal_text, with_answer, with_form_given, with_old, with_own, wrote_by}
+use Rattle.messages.specs.MessageAnswers.{Round, answer_in, without_its_position, given_in, refusal_answer, refusal_text, with_answer, with_form_given, with_old, with_own, wrote_by}
 use Rattle.messages.specs.Position.{position_property, without_position}
 use Rattle.messages.specs.declared.request.TheConstants.{OLD_NUMBER}
 use Rattle.plist_state.specs.Changes.{with_property}
@@ -54,7 +54,7 @@ module _ (functions : Functions) where
     same = record { last = same.last; left = same.left; tidy = same.tidy };
   }
 
-  form_same : (a b : Round) → Same a b → (text other : List ℕ) → text ≡ other → Same (with_form functions text a) (with_form functions other b)
+  form_same : (a b : Round) → Same a b → (text other : List ℕ) → text ≡ other → Same (with_own_form functions text a) (with_own_form functions other b)
   form_same a b same text other is = record {
     last = same.last;
     left = λ i. world_left_after (same.left i) (accepts functions (same.left i) Rescue (is i));

@@ -6,7 +6,7 @@ use Rattle.std.specs.Prelude.{option_and_then}
 use Rattle.std.specs.FinMap as finite
 use Rattle.std.proofs.lemmas.Bool.{cases_lt, eq-eqb, le-ltb, lt-ltb, ne_eqb}
 use Rattle.client_table.specs.Entries.{KeptMessage, message_symbol, entry, entry_in, entry_property, is_of, kept_message, table_package}
-use Rattle.client_table.specs.Laws.{IsHandable, LeaveAlone, LeavesEntry}
+use Rattle.client_table.specs.Laws.{IsHandable, LeaveEntryAlone, LeavesEntry}
 use Rattle.client_table.specs.Named.{answer_to_form, at_last, by_client, by_name, by_standing, client_standing, each_asked, one_asked, standing_by, standing_to, with_kept}
 use Rattle.client_table.specs.Names.{form_in, is_client_name, client_name_in}
 use Rattle.client_table.specs.declared.asked.AnyRequest.{AnyRequest}
@@ -17,7 +17,7 @@ use Rattle.client_table.specs.declared.entry.Standing.{Standing}
 use Rattle.client_table.specs.declared.entry.Standing.TheVariants.{Last, Later, Old, Other}
 use Rattle.client_table.proofs.Kept.{entry_there, kept_stands}
 use Rattle.client_table.proofs.Lookups.{standing_is}
-use Rattle.messages.specs.Answers.{Round, without_its_position, given_in, refusal_text, with_answer, with_own}
+use Rattle.messages.specs.MessageAnswers.{Round, without_its_position, given_in, refusal_text, with_answer, with_own}
 use Rattle.messages.specs.Position.{position_property, position_symbol, without_position}
 use Rattle.plist_state.specs.Properties.{list_at, value_at, without_value}
 use Rattle.plist_state.specs.State.{WorldState}
@@ -112,7 +112,7 @@ module _ (functions : Functions) (most : ℕ) (name : List ℕ) (named : is_clie
       (subst (λ (f : Option (List ℕ)). Reaches (by_client functions most message.number name f (without_its_position round))) (sym form.1)
       (by_its_name (without_its_position round) here message.number own.2.0 form.0 (omega (arith, shorter, own.2.1))))
 
-  pub all_reach : (round : Round) (all : List AnyRequest) → LeaveAlone functions most name round all → Reaches round → Reaches (each_asked functions most round all)
-  unfolding LeaveAlone
+  pub all_reach : (round : Round) (all : List AnyRequest) → LeaveEntryAlone functions most name round all → Reaches round → Reaches (each_asked functions most round all)
+  unfolding LeaveEntryAlone
   all_reach round [] leave is = is
   all_reach round (one ∷ later) leave is = all_reach (one_asked functions most round one) later leave.1 (one_reaches round one leave.0 is)

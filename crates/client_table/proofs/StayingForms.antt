@@ -17,7 +17,7 @@ use Rattle.forgotten_names.specs.NeededSymbols.{plist_symbols, stands_among}
 use Rattle.forgotten_names.proofs.ForgottenSound.{symbol_stays}
 use Rattle.forgotten_names.proofs.Members.{among_itself, among_later, among_left, among_right}
 use Rattle.forgotten_names.proofs.NeededSymbols.{in_list}
-use Rattle.form_eval.specs.Acceptance.{accept, accepted_by as accepted_with, after_symbol, is_new, table_of, with_symbols}
+use Rattle.form_eval.specs.Acceptance.{accept, accepted_by as accepted_with, after_symbol_interned, is_new_symbol, packages_of_interning, with_symbols_interned}
 use Rattle.lisp_object.specs.Object.{Object}
 use Rattle.lisp_operators.specs.Evaluation.{Evaluation}
 use Rattle.lisp_operators.proofs.Keeping.{keeps_also, keeps_then}
@@ -45,12 +45,12 @@ both s t u first second = λ m there. second m (first m there)
 same : (s : WorldState) → Kept s s
 same s = λ m there. there
 
-table_stays : (t : Table) (r : Result (Name × Table) PackageError) → StayInterned t r → StayAfter t (table_of r)
+table_stays : (t : Table) (r : Result (Name × Table) PackageError) → StayInterned t r → StayAfter t (packages_of_interning r)
 table_stays t (Ok p) stays = stays
 table_stays t (Err e) stays = tt
 
-symbols_stay : (t : Table) (ys : List Symbol) → StayMany t (with_symbols t ys)
-symbols_stay t ys = each_stays after_symbol is_new (λ u y. table_stays u (after_intern u y.0 y.1) (intern_stays u y.0 y.1)) t false ys
+symbols_stay : (t : Table) (ys : List Symbol) → StayMany t (with_symbols_interned t ys)
+symbols_stay t ys = each_stays after_symbol_interned is_new_symbol (λ u y. table_stays u (after_intern u y.0 y.1) (intern_stays u y.0 y.1)) t false ys
 
 module _ (names : List Name) where
   abbrev Asks : WorldState → Object → Type 0
@@ -116,7 +116,7 @@ module _ (names : List Name) where
   after_symbols s (Err e) x stays = record { kept = tt }
 
   accepted_stays : (s : WorldState) (x : Object) → Keeps s (accept names s x)
-  accepted_stays s x = after_symbols s (with_symbols s.packages (symbols x)) x (symbols_stay s.packages (symbols x))
+  accepted_stays s x = after_symbols s (with_symbols_interned s.packages (symbols x)) x (symbols_stay s.packages (symbols x))
 
 -- ---- an entry has its symbols
 

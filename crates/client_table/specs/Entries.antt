@@ -16,6 +16,7 @@ use Rattle.plist_state.specs.State.{WorldState}
 
 -- ---- what is kept
 
+-- the package of the table: a client is a symbol of it
 abbrev pub table_package : Name
 table_package = codes "%CLIENTS"
 
@@ -23,6 +24,7 @@ table_package = codes "%CLIENTS"
 abbrev pub message_symbol : Symbol
 message_symbol = (table_package, codes "%MESSAGE")
 
+-- the indicator under which `message_symbol` has the number of clients
 abbrev pub clients_symbol : Symbol
 clients_symbol = (table_package, codes "%CLIENTS")
 
@@ -30,14 +32,15 @@ clients_symbol = (table_package, codes "%CLIENTS")
 abbrev pub KeptMessage : Type 0
 KeptMessage = Result (List ℕ × List ℕ) ℕ
 
--- it is short, and each byte is a character of a text
+-- whether a form or an answer may be kept: it is short, and each byte is a character of a text
 abbrev pub may_be_kept : List ℕ → Bool
 may_be_kept bytes = nat_le (length bytes) KEPT_BYTES && list_all is_ascii bytes
 
+-- what is kept of a form and its answer
 abbrev pub kept_message : List ℕ → List ℕ → KeptMessage
 kept_message form answer = if may_be_kept form && may_be_kept answer then Ok (form, answer) else Err (length form)
 
--- it may stand in a form: its bytes are characters, and its number is one of a machine
+-- what is kept may stand in a form: its bytes are characters, and its number is one of a machine
 abbrev pub MayStand : KeptMessage → Type 0
 MayStand (Ok kept) = All (λ b. b < 128) kept.0 × All (λ b. b < 128) kept.1
 MayStand (Err count) = count < 2 ^ 64
@@ -47,43 +50,49 @@ abbrev pub is_of : KeptMessage → List ℕ → Bool
 is_of (Ok kept) form = bytes_eq kept.0 form
 is_of (Err count) form = count == length form
 
--- the entry as an object: the list of the number, the form and the answer; or of the number, the length and an empty text
+-- what is kept, as objects: the form and the answer; or the length and an empty text
 abbrev pub kept_objects : KeptMessage → List Object
 kept_objects (Ok kept) = text kept.0 ∷ text kept.1 ∷ []
 kept_objects (Err count) = integer (pos count) ∷ text [] ∷ []
 
+-- the entry as an object: the list of the number and of what is kept
 abbrev pub entry_list : ℕ → KeptMessage → Object
 entry_list number kept = list_of (integer (pos number) ∷ kept_objects kept)
 
--- what an object is as an entry
+-- what a form and an object say of an answer that is kept; None, where the object is no text
 abbrev pub whole_with : List ℕ → Object → Option KeptMessage
 whole_with form (text answer) = Some (Ok (form, answer))
 whole_with form _ = None
 
+-- what is kept by two objects, a form and its answer or a length; None, where they are neither
 abbrev pub kept_in : Object → Object → Option KeptMessage
 kept_in (text form) answer = whole_with form answer
 kept_in count _ = option_map (λ n. Err n) (number_of_object count)
 
+-- the entry of these three objects, if their list ends after them; None, where the first is no number or the others keep
+-- nothing
 abbrev pub entry_of_three : Bool → Object → Object → Object → Option (ℕ × KeptMessage)
 entry_of_three true number form answer = option_and_then (λ n. option_map (λ kept. (n, kept)) (kept_in form answer)) (number_of_object number)
 entry_of_three false number form answer = None
 
+-- the entry that an object is; None, where it is no list of three such objects
 abbrev pub entry_in : Object → Option (ℕ × KeptMessage)
 entry_in (pair number (pair form (pair answer (symbol home name)))) = entry_of_three (is_nil home name) number form answer
 entry_in _ = None
 
--- what stands where the entry of a client does, and the entry that it is
+-- what is there for the entry of a client, whatever it is; None, where nothing is
 abbrev pub entry_property : WorldState → List ℕ → Option Object
 entry_property world name = property world (table_package, name) message_symbol
 
+-- the entry of a client; None, where nothing is there for it, or no entry
 abbrev pub entry : WorldState → List ℕ → Option (ℕ × KeptMessage)
 entry world name = option_and_then entry_in (entry_property world name)
 
--- the symbols of an entry are there
+-- the two symbols of a client's entry are there
 abbrev pub HasEntrySymbols : WorldState → List ℕ → Type 0
 HasEntrySymbols world name = IsSymbol world.packages (table_package, name) × IsSymbol world.packages message_symbol
 
--- how many clients the table has
+-- how many clients the table has, by the number that it keeps; 0, where it keeps none
 abbrev pub client_count : WorldState → ℕ
 client_count world = unwrap_or (option_and_then number_of_object (property world message_symbol clients_symbol)) 0
 
@@ -93,11 +102,12 @@ client_count world = unwrap_or (option_and_then number_of_object (property world
 abbrev pub client_text : List ℕ → List ℕ
 client_text name = codes "(INTERN " ++ printed_text name ++ codes " " ++ printed_text table_package ++ codes ")"
 
+-- what is kept, as the form has it that puts an entry in
 abbrev pub kept_text : KeptMessage → List ℕ
 kept_text (Ok kept) = codes " " ++ printed_text kept.0 ++ codes " " ++ printed_text kept.1
 kept_text (Err count) = codes " " ++ decimal count ++ codes " " ++ printed_text []
 
--- it puts an entry in
+-- the form that puts an entry in
 abbrev pub entry_text : List ℕ → ℕ → KeptMessage → List ℕ
 entry_text name number kept =
     codes "(SETF (GET " ++ client_text name ++ codes " " ++ client_text (codes "%MESSAGE") ++ codes ") '(" ++ decimal number ++ kept_text kept ++ codes "))"
@@ -106,16 +116,17 @@ entry_text name number kept =
 abbrev pub client_count_text : List ℕ → List ℕ
 client_count_text digits = codes "(GET " ++ client_text (codes "%MESSAGE") ++ codes " " ++ client_text (codes "%CLIENTS") ++ codes ") " ++ digits ++ codes ")"
 
--- it takes an entry out
+-- the form that takes the entry of a client out, and counts one client fewer
 abbrev pub leaving_text : WorldState → List ℕ → List ℕ
 leaving_text world name =
     codes "(PROGN (REMPROP " ++ client_text name ++ codes " " ++ client_text (codes "%MESSAGE") ++ codes ") (SETF " ++ client_count_text (decimal (client_count world - 1)) ++ codes ")"
 
--- It makes the symbol of a client that has no entry, and before the first one the package. The client has an entry from then on, so that
--- its symbol is not forgotten.
+-- what makes the package of the table, where it is not there yet
 abbrev pub package_text : Bool → List ℕ
 package_text is_there = if is_there then [] else codes "(MAKE-PACKAGE \"%CLIENTS\") "
 
+-- The form that makes the symbol of a client that has no entry, and counts one client more; before the first client it makes
+-- the package. The client has an entry from then on, so that its symbol is not forgotten.
 abbrev pub admission_text : WorldState → List ℕ → List ℕ
 admission_text world name =
     codes "(PROGN " ++ package_text (finite.contains_key world.packages table_package) ++ codes "(SETF " ++ client_count_text (decimal (client_count world + 1))

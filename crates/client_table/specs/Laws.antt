@@ -7,7 +7,7 @@ use Rattle.client_table.specs.declared.asked.AnyRequest.{AnyRequest}
 use Rattle.client_table.specs.declared.asked.AnyRequest.TheVariants as asked
 use Rattle.client_table.specs.declared.asked.Named.{Named}
 use Rattle.message_laws.specs.NearRounds.{Near}
-use Rattle.messages.specs.Answers.{Round, without_its_position}
+use Rattle.messages.specs.MessageAnswers.{Round, without_its_position}
 use Rattle.user_macros.specs.Functions.{Functions}
 
 -- the same answer more in both, and then their worlds are the same but for the position, and their last numbers
@@ -36,6 +36,7 @@ module _ (functions : Functions) (most : ℕ) (name : List ℕ) where
       ((client_name_in message.text.now ≡ name) × IsSome (form_in message.text.now) × IsHandable message)
       ⊎ (entry (one_asked functions most round (asked.Named message)).left name ≡ entry round.left name)
 
-  unfoldable pub LeaveAlone : Round → List AnyRequest → Type 0
-  LeaveAlone round [] = Unit {0}
-  LeaveAlone round (one ∷ later) = LeavesEntry round one × LeaveAlone (one_asked functions most round one) later
+  -- each of these, one after the other, leaves the entry of this client alone
+  unfoldable pub LeaveEntryAlone : Round → List AnyRequest → Type 0
+  LeaveEntryAlone round [] = Unit {0}
+  LeaveEntryAlone round (one ∷ later) = LeavesEntry round one × LeaveEntryAlone (one_asked functions most round one) later

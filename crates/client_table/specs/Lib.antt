@@ -7,7 +7,7 @@ pub mod Told
 -- what is answered to messages with a name, among others
 pub mod Named
 -- what the call answers
-pub mod Calls
+pub mod CallsByName
 -- a message that was taken apart
 pub mod Steps
 -- what is asked, as a turn

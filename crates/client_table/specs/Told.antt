@@ -6,10 +6,12 @@ use Rattle.client_table.specs.declared.entry.KeptAnswer.{KeptAnswer}
 use Rattle.client_table.specs.declared.entry.KeptAnswer.TheVariants.{Whole, Count}
 use Rattle.client_table.specs.declared.table.ClientMessage.{ClientMessage}
 
+-- what is kept of a message, as the definitions have what memory holds
 abbrev pub kept_told : KeptAnswer → KeptMessage
 kept_told (Whole form answer) = Ok (form.now, answer.now)
 kept_told (Count form) = Err form
 
+-- an entry, as the definitions have what memory holds
 abbrev pub entry_told : Entry → ℕ × KeptMessage
 entry_told held = (held.number, kept_told held.kept)
 

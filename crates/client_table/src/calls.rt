@@ -1,6 +1,6 @@
 // The call of a store with a table of clients.
 ghost use Rattle.std.specs.Prelude.{◌≡◌, ◌≢◌, ◌<◌, ◌≤◌, [], length, None, Some, IfOk, IfErr, Err};
-ghost use Rattle.client_table.specs.Calls.{AnswersFirstAsked};
+ghost use Rattle.client_table.specs.CallsByName.{AnswersFirstAsked};
 ghost use Rattle.lisp_object.specs.declared.refusal.TheConstants.{DEVICE as DEVICE_FAULT, REOPEN as NOT_OPEN};
 ghost use Rattle.plist_state.specs.State.{WorldState};
 

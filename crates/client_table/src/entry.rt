@@ -94,7 +94,7 @@ pub(crate) fn client_count(world: &World) -> u64
     }
 }
 
-/// The entry that a datum is.
+/// The entry that a datum is; None where it is no list of three data that `entry_by` takes.
 #[tactic(auto, using(crate::proofs::Shapes::no_entry, crate::proofs::Shapes::other_count, crate::proofs::Shapes::other_end))]
 pub(crate) fn entry_in(datum: &Datum) -> Option<Entry<'_>>
     requires { is_proper datum.now ≡ true }
@@ -112,7 +112,7 @@ pub(crate) fn entry_in(datum: &Datum) -> Option<Entry<'_>>
     entry_by(number, form, answer)
 }
 
-// The entry that these three data are.
+// The entry that these three data are; None where the first is no number of 64 bits, or the others keep nothing.
 fn entry_by<'a>(number: &'a Datum, form: &'a Datum, answer: &'a Datum) -> Option<Entry<'a>>
     requires number { is_proper number.now ≡ true }
     requires form { is_proper form.now ≡ true }
@@ -125,7 +125,7 @@ fn entry_by<'a>(number: &'a Datum, form: &'a Datum, answer: &'a Datum) -> Option
     Some(Entry { number, kept })
 }
 
-// What is kept by two data.
+// What is kept by two data: a form and its answer, or the length of a form. None where they are neither.
 #[tactic(auto, using(crate::proofs::Shapes::by_number))]
 fn kept_in<'a>(form: &'a Datum, answer: &'a Datum) -> Option<KeptAnswer<'a>>
     requires form { is_proper form.now ≡ true }
@@ -139,7 +139,7 @@ fn kept_in<'a>(form: &'a Datum, answer: &'a Datum) -> Option<KeptAnswer<'a>>
     Some(KeptAnswer::Count(count))
 }
 
-// What is kept by a form and a datum.
+// What is kept by a form and a datum; None where the datum is no text.
 #[tactic(auto, using(crate::proofs::Shapes::no_text))]
 fn whole_with<'a>(form: &'a [u8], answer: &'a Datum) -> Option<KeptAnswer<'a>>
     requires { is_proper answer.now ≡ true }
@@ -274,7 +274,7 @@ fn is_of(kept: KeptAnswer<'_>, form: &[u8]) -> bool
     }
 }
 
-/// The entry of a client.
+/// The entry of a client; None where nothing stands there, or no entry.
 pub(crate) fn find_entry<'a>(world: &'a World, name: &[u8]) -> Option<Entry<'a>>
     ensures { option_map entry_told result ≡ entry world.now.0 name.now }
 {

@@ -2,7 +2,7 @@
 //! sent again is answered again, by the world alone.
 //!
 //! - `answer_first_asked` answers messages with a name, messages with a number and questions, one after the other, and logs what they need
-//!   together (`AnswersFirstAsked` of specs/Calls.antt). What is answered is specs/Named.antt, what the table is specs/Entries.antt, and what
+//!   together (`AnswersFirstAsked` of specs/CallsByName.antt). What is answered is specs/Named.antt, what the table is specs/Entries.antt, and what
 //!   the text of a message with a name is specs/Names.antt.
 //! - The answer to a message with a name stands beside its number in the table when the call ends (`KeepsAnswers`), in the append of what the
 //!   message wrote.

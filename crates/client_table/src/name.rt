@@ -4,7 +4,7 @@ ghost use Rattle.std.specs.List.{list_all};
 ghost use Rattle.std.specs.Option.{option_map};
 ghost use Rattle.client_table.specs.Names.{form_in, is_client_name, is_name_byte, client_name_in};
 
-/// What stands before the first space of a text, and what comes after it.
+/// What stands before the first space of a text, and what comes after it; the whole text and None where it has no space.
 #[tactic(auto, using(crate::proofs::Spaces::at_first, crate::proofs::Spaces::at_next, crate::proofs::Spaces::at_space, crate::proofs::Spaces::no_space, crate::proofs::Spaces::rest_at_space))]
 pub(crate) fn split(text: &[u8]) -> (&[u8], Option<&[u8]>)
     ensures name { result.0.now ≡ client_name_in text.now }

@@ -1,12 +1,13 @@
 // A message with a name, in a round: by the table.
+// After an error the world and the round may have changed: the marks of the world lead back.
 ghost use Rattle.std.specs.Prelude.{◌≡◌, ◌∷◌, ◌++◌, [], ℕ, Bool, List, true, false, None, Some, IfErr, IfOk, IsSome, OnOk};
-ghost use Rattle.client_table.specs.Calls.{HasAnswer, KeepsAnswer, KeepsAnswerAt, RefusesNamed};
+ghost use Rattle.client_table.specs.CallsByName.{HasAnswer, KeepsAnswer, KeepsAnswerAt, RefusesNamed};
 ghost use Rattle.client_table.specs.Entries.{HasEntrySymbols, entry, entry_property, kept_message};
 ghost use Rattle.client_table.specs.Names.{is_client_name as is_a_name};
 ghost use Rattle.client_table.specs.Named.{by_later, by_name, by_table, by_no_entry, last_told, with_entry_kept, with_kept, without_client};
 ghost use Rattle.client_table.specs.Steps.{IsAdmitted, RefusesMessageAt, refusal_of};
 ghost use Rattle.client_table.specs.Told.{form_told};
-ghost use Rattle.messages.specs.Answers.{refusal_answer, refusal_text, with_answer};
+ghost use Rattle.messages.specs.MessageAnswers.{refusal_answer, refusal_text, with_answer};
 ghost use Rattle.messages.specs.Rounds.{IfRefused, StaysMade, round_in};
 ghost use Rattle.plist_state.specs.State.{WorldState, Worlds};
 ghost use Rattle.prevalence_store.specs.calls.ExecuteAll.{told_by};

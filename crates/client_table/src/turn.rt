@@ -1,7 +1,7 @@
 // The first of what is asked, as a turn that makes the answers.
 ghost use Rattle.std.specs.Prelude.{◌≡◌, [], Some, IfErr, IfOk, OnOk};
 ghost use Rattle.messages.specs.declared.request.TheConstants.{ANSWER_BYTES};
-ghost use Rattle.client_table.specs.Calls.{KeepsAnswers, KeepsOne, RefusesAsked, RefusesAnyOwn};
+ghost use Rattle.client_table.specs.CallsByName.{KeepsAnswers, KeepsRequest, RefusesAsked, RefusesAnyOwn};
 ghost use Rattle.client_table.specs.Named.{all_answered, each_asked, one_asked};
 ghost use Rattle.client_table.specs.Turn.{MakesAnswers, first_asked};
 ghost use Rattle.messages.specs.Rounds.{IfRefused, StaysMade, round_in};
@@ -136,7 +136,7 @@ fn answer_one<R: MacroFunctions>(
 ) -> Result<(), Unadded>
     ensures answered { OnOk result (round_in round.new world.new.0
         ≡ one_asked R.Meaning.functions most (round_in round.old world.old.0) one.now) }
-    ensures kept { OnOk result (KeepsOne (round_in round.old world.old.0) one.now
+    ensures kept { OnOk result (KeepsRequest (round_in round.old world.old.0) one.now
         (round_in round.new world.new.0)) }
     ensures made { OnOk result (StaysMade R.Meaning.functions
         (round_in round.old world.old.0) (round_in round.new world.new.0)) }

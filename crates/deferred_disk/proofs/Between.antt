@@ -2,7 +2,7 @@
 use Rattle.std.proofs.Common.{inl, ◌≡◌, ℕ, List, [], ◌∷◌, ◌++◌, length, sym, subst, arith, length-append}
 use Rattle.disk_trait.specs.Disk.{Image, Performed}
 use Rattle.disk_trait.specs.Orders.{OrderValue}
-use Rattle.deferred_disk.specs.Calls.{CallsValue, all_of}
+use Rattle.deferred_disk.specs.DiskRequests.{CallsValue, all_of}
 use Rattle.deferred_disk.specs.Sound.{left_now}
 use Rattle.deferred_disk.specs.State.{OrdersLeftSince, OrdersMayLeave, state_after_orders}
 

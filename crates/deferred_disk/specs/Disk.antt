@@ -2,7 +2,7 @@
 use Rattle.std.specs.Prelude.{◌≡◌, ℕ, List, length, Result, OnOk, OnErr}
 use Rattle.disk_trait.specs.Disk.{State}
 use Rattle.deferred_disk.specs.Bytes.{orders_bytes}
-use Rattle.deferred_disk.specs.Calls.{CallsValue, with_order, after_report}
+use Rattle.deferred_disk.specs.DiskRequests.{CallsValue, with_order, after_report}
 use Rattle.deferred_disk.specs.KeptFiles.{IsKeptWhole}
 use Rattle.disk_trait.specs.Orders.{OrderValue}
 use Rattle.deferred_disk.specs.State.{state_after_orders}

@@ -1,5 +1,5 @@
 pub mod Bytes
-pub mod Calls
+pub mod DiskRequests
 pub mod Disk
 pub mod KeptFiles
 pub mod NotedOrders

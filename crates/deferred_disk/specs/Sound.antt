@@ -4,7 +4,7 @@ use Rattle.disk_trait.specs.Disk.{Image, AreBytes, HoldsBytes, Torn, Cut, OnHalf
 use Rattle.disk_trait.specs.declared.half.Half.{Half}
 use Rattle.disk_trait.specs.declared.half.Half.TheVariants.{A, B}
 use Rattle.disk_trait.specs.Orders.{OrderValue, writes, cuts, syncs}
-use Rattle.deferred_disk.specs.Calls.{CallsValue, all_of}
+use Rattle.deferred_disk.specs.DiskRequests.{CallsValue, all_of}
 use Rattle.deferred_disk.specs.State.{AllWriteBytes, OrderBinds, OrdersLeftSince, OrdersMayLeave, PartOfOrder, OrderWritesBytes, state_after_orders, image_after, reads_by, with_file}
 
 -- ---- bytes in lists

@@ -5,7 +5,7 @@ use Rattle.disk_trait.specs.Disk.{Image, State, AreBytes, HoldsBytes, Cut, OnHal
 use Rattle.disk_trait.specs.declared.half.Half.{Half}
 use Rattle.disk_trait.specs.declared.half.Half.TheVariants.{A, B}
 use Rattle.disk_trait.specs.Orders.{OrderValue, writes, cuts, syncs}
-use Rattle.deferred_disk.specs.Calls.{CallsValue, all_of}
+use Rattle.deferred_disk.specs.DiskRequests.{CallsValue, all_of}
 
 -- ---- one order
 

@@ -3,7 +3,7 @@ ghost use Rattle.std.specs.Prelude.{◌≡◌, ◌↔◌, ◌+◌, ◌-◌, ◌<
 ghost use Rattle.std.proofs.Props.{props};
 ghost use Rattle.disk_trait.specs.Disk.{HoldsBytes};
 ghost use Rattle.deferred_disk.specs.Bytes.{orders_bytes};
-ghost use Rattle.deferred_disk.specs.Calls.{all_of};
+ghost use Rattle.deferred_disk.specs.DiskRequests.{all_of};
 ghost use Rattle.deferred_disk.specs.KeptFiles.{IsKeptOf, IsKeptWhole};
 ghost use Rattle.deferred_disk.specs.State.{AllWriteBytes, all_write-prop, holds-prop, state_after_orders, reads_by};
 ghost use Rattle.deferred_disk.specs.Sound.{sound_ordered};
@@ -39,7 +39,7 @@ pub struct DeferredDisk {
 
 impl DeferredDisk {
     ghost use Rattle.disk_trait.specs.Disk.{file_of};
-    ghost use Rattle.deferred_disk.specs.Calls.{with_order, first_calls, after_report};
+    ghost use Rattle.deferred_disk.specs.DiskRequests.{with_order, first_calls, after_report};
     ghost use Rattle.deferred_disk.specs.Disk.{Asks, KeepsAll, calls_of, pending_of, state_by_calls};
     ghost use Rattle.disk_trait.specs.Orders.{writes, cuts, syncs};
 

@@ -1,7 +1,7 @@
 // What was asked of a disk since it was made. It exists only in proofs.
 ghost use Rattle.std.specs.Prelude.{◌≡◌};
 ghost use base.Fml.{ftrue};
-ghost use Rattle.deferred_disk.specs.Calls.{CallsValue, with_order, first_calls, calls_code, after_report};
+ghost use Rattle.deferred_disk.specs.DiskRequests.{CallsValue, with_order, first_calls, calls_code, after_report};
 
 use crate::order::Order;
 use std::marker::Model;

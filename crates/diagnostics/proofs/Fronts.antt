@@ -3,7 +3,7 @@ use Rattle.std.proofs.Common.{◌≡◌, ◌⊎◌, inl, inr, ℕ, List, [], ◌
 use Rattle.std.specs.Result.{is_err}
 use Rattle.std.specs.Io.KnownBytes.{Keeps}
 use Rattle.sessions.specs.Streams.{Writes, WritesPart}
-use Rattle.diagnostics.specs.Texts.{WritesFront, WritesText}
+use Rattle.diagnostics.specs.StreamTexts.{WritesFront, WritesText}
 use Rattle.diagnostics.specs.declared.fault.Unwritten.{Unwritten}
 
 pub of_part : (old new : Option (List ℕ)) (text : List ℕ) → WritesPart old new text → WritesFront old new text

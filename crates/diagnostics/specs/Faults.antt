@@ -1,7 +1,7 @@
 -- What is told of a fault.
 use Rattle.std.specs.Prelude.{◌≡◌, ◌≢◌, ◌⊎◌, ℕ, List, [], ◌∷◌, ◌++◌, All}
 use Rattle.lisp_object.specs.declared.refusal.TheConstants.{DEVICE}
-use Rattle.sessions.specs.Answers.{refusal_line}
+use Rattle.sessions.specs.FormAnswers.{refusal_line}
 
 -- What is told of a fault: its line, and after that of the device perhaps one more, with the cause.
 abbrev pub IsFaultText : ℕ → List ℕ → Type 0

@@ -1,4 +1,4 @@
 pub mod Faults
 pub mod Places
 pub mod Refusals
-pub mod Texts
+pub mod StreamTexts

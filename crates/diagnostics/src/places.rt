@@ -75,7 +75,7 @@ impl Spot {
         }
     }
 
-    // After one byte more.
+    // The place after one byte more; None where a count would pass 64 bits.
     fn after(self, byte: u8) -> Option<Spot>
         ensures { IfSome result (IsSpotBehind self (byte ∷ [])) }
     {
@@ -181,7 +181,7 @@ impl GivenBytes {
     }
 }
 
-// How many bytes lie between these two places.
+// How many bytes lie between these two places; None where the second lies before the first.
 fn bytes_between(from: u64, to: u64) -> Option<usize>
     ensures { IfSome result (λ count. to ≡ from + count) }
 {

@@ -1,7 +1,7 @@
 // The refusal that ended a session, and the line on it.
 ghost use Rattle.std.specs.Prelude.{◌≡◌, ◌++◌, IfOk, OnOk};
 ghost use Rattle.diagnostics.specs.Refusals.{IsRefusalOf, after_text, before_text, byte_line, byte_text, form_line, form_of, line_of, number_text, place_line, refused_text, spot_text, start_byte_text, start_text};
-ghost use Rattle.diagnostics.specs.Texts.{WritesText};
+ghost use Rattle.diagnostics.specs.StreamTexts.{WritesText};
 
 use crate::fault::{Unwritten, write_text};
 use crate::places::{Places, Spot};

@@ -12,8 +12,9 @@
 //!   so that it can crash: `Crash` (module `crash`) says what is then left.
 //! - `FuseDisk` and `OnceDisk` (module `faulty`) let calls of another disk fail, for tests: those that a `Faults` (module
 //!   `faults`) names.
-//! - `HostDisk` (module `host`) is two files of the operating system. It claims no honesty, and keeps the system's error of the
-//!   last call that failed; `HostError` says why they are not opened. A missing folder is made in `host/folder.rt`.
+//! - `HostDisk` (module `host`) is two files of the operating system. It claims no honesty, and keeps the last call of the system that
+//!   failed, a `FailedCall` (module `failed_call`); `HostError` says why they are not opened. They are opened in `host/opening.rt`, and a
+//!   missing folder is made in `host/folder.rt`.
 //! - `torn_images` (module `laws`): a write or a cut that a crash cuts short may leave each mix of bytes. `mixed_is_torn`: what a write
 //!   may leave where writes mix is among them.
 #![tactic(auto)]
@@ -21,6 +22,7 @@
 mod call;
 mod crash;
 mod disk;
+mod failed_call;
 mod faults;
 mod faulty;
 mod half;
@@ -30,6 +32,7 @@ mod memory;
 
 pub use crash::Crash;
 pub use disk::{DeviceFault, Disk};
+pub use failed_call::{FailedCall, HostCall, HostFile};
 pub use faults::{Faults, Fuse, Once};
 pub use faulty::{FaultyDisk, FuseDisk, OnceDisk};
 pub use half::Half;

@@ -10,7 +10,7 @@ use Rattle.plist_state.specs.State.{WorldState}
 use Rattle.lisp_operators.specs.declared.error.EvaluationError.{EvaluationError}
 use Rattle.lisp_operators.specs.declared.error.EvaluationError.TheVariants.{Refused, OutOfMemory}
 use Rattle.lisp_operators.specs.declared.evaluated.Evaluated.{Evaluated}
-use Rattle.lisp_operators.specs.Kinds.{is_true}
+use Rattle.lisp_operators.specs.ArgumentKinds.{is_true}
 use Rattle.lisp_operators.specs.Evaluation.{gives, also, and_then}
 use Rattle.evaluator.specs.Value.{value, choice, other_value, value_over}
 use Rattle.lisp_operators.specs.EvaluationAnswers.{Answers, done}

@@ -22,7 +22,7 @@ use Rattle.lisp_operators.specs.declared.error.EvaluationError.TheVariants.{Refu
 use Rattle.lisp_operators.specs.declared.evaluated.Evaluated.{Evaluated}
 use Rattle.lisp_operators.specs.EvaluationAnswers.{Answers, done, IsArgument, KeepsArguments, IsProperValue}
 use Rattle.lisp_operators.specs.Evaluation.{Done, Evaluation, gives, also, and_then}
-use Rattle.lisp_operators.specs.Kinds.{is_true, is_pair}
+use Rattle.lisp_operators.specs.ArgumentKinds.{is_true, is_pair}
 use Rattle.lisp_operators.specs.Properties.{t as truth_symbol}
 use Rattle.evaluator.specs.Operators.{first}
 use Rattle.evaluator.specs.Value.{value, values, other_value, sought, selected, guarded, has_truth, is_clause, are_clauses, last, value_over}

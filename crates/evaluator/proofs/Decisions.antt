@@ -10,7 +10,7 @@ use Rattle.lisp_object.specs.declared.refusal.TheConstants.{ARGUMENT_KIND, ARGUM
 use Rattle.lisp_object.proofs.ProperLists.{nil_symbol}
 use Rattle.package_table.specs.Table.{Name, common_lisp}
 use Rattle.plist_state.specs.State.{WorldState}
-use Rattle.lisp_operators.specs.Kinds.{is_true}
+use Rattle.lisp_operators.specs.ArgumentKinds.{is_true}
 use Rattle.lisp_operators.specs.Evaluation.{Done, Evaluation, gives, also, and_then}
 use Rattle.lisp_operators.specs.Properties.{t}
 use Rattle.lisp_operators.proofs.Silence.{Keeps}

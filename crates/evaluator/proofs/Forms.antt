@@ -22,12 +22,12 @@ use Rattle.lisp_operators.specs.declared.evaluated.Evaluated.{Evaluated}
 use Rattle.evaluator.specs.declared.values.Values.{Values}
 use Rattle.evaluator.specs.declared.operation.Operation.{Operation}
 use Rattle.evaluator.specs.declared.operation.Operation.TheVariants.{Quote, Progn, If, MakeList, Get, Setf, Remprop, SymbolPlist, Incf, Push, MakePackage, InPackage, Export, Import, UsePackage, Intern, CopyReadtable, InReadtable, SetSyntaxFromChar, SetMacroCharacter, GetMacroCharacter, MakeDispatchMacroCharacter, SetDispatchMacroCharacter, GetDispatchMacroCharacter, ReadtableCase, Computes, Decides, LooksUp, Changes}
-use Rattle.lisp_operators.specs.Kinds.{a_symbol, is_pair}
+use Rattle.lisp_operators.specs.ArgumentKinds.{a_symbol, is_pair}
 use Rattle.lisp_operators.specs.Properties.{set}
 use Rattle.lisp_operators.specs.Readtables.{set_case}
 use Rattle.lisp_operators.specs.ReadBase.{set_base}
 use Rattle.lisp_operators.specs.declared.places.PlaceChange.{PlaceChange}
-use Rattle.lisp_operators.specs.Places.{place_changed}
+use Rattle.lisp_operators.specs.PropertyPlaces.{place_changed}
 use Rattle.lisp_operators.specs.Evaluation.{Evaluation, gives, also, and_then}
 use Rattle.evaluator.specs.Operators.{count, first, value_here, computed_value}
 use Rattle.value_functions.specs.declared.functions.ValueFunction.{ValueFunction}

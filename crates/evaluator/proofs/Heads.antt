@@ -13,7 +13,7 @@ use Rattle.evaluator.specs.declared.operation.Operation.TheVariants.{Quote, Prog
 use Rattle.evaluator.specs.declared.decision.Decision.TheVariants.{And, Or, Cond, When, Unless, Prog1, Assert}
 use Rattle.lisp_object.specs.declared.refusal.TheConstants.{NOT_A_FORM, UNKNOWN_OPERATOR, ARGUMENT_COUNT}
 use Rattle.package_table.proofs.Names.{same_some, none_some}
-use Rattle.lisp_operators.specs.Kinds.{a_symbol}
+use Rattle.lisp_operators.specs.ArgumentKinds.{a_symbol}
 use Rattle.value_functions.specs.declared.functions.ValueFunction.{ValueFunction}
 use Rattle.value_functions.specs.Functions.{function_named}
 use Rattle.evaluator.specs.Operators.{Operator, operator_named, operator_of, function_operator, pazturrok, pazturrok_operator, is_interned, count, counts, look_up_operator, change_operator, world_operator}
@@ -21,7 +21,7 @@ use Rattle.evaluator.specs.Operations.{operator, action_of, among, operators_on_
 use Rattle.lisp_operators.specs.declared.look_ups.LookUp.{LookUp}
 use Rattle.lisp_operators.specs.declared.places.PlaceChange.{PlaceChange}
 use Rattle.lisp_operators.specs.LookUps.{look_up_named}
-use Rattle.lisp_operators.specs.Places.{change_named}
+use Rattle.lisp_operators.specs.PropertyPlaces.{change_named}
 use Rattle.evaluator.specs.Value.{value, form_value_by, action_value, value_over}
 use Rattle.evaluator.specs.ArgumentValues.{parts}
 

@@ -9,14 +9,14 @@ use Rattle.std.proofs.lemmas.Bool.{and_parts}
 use Rattle.lisp_object.specs.Object.{Object, integer, rational, character, text, symbol, uninterned, pair, vector, nil, list_of, is_proper_list}
 use Rattle.package_table.specs.Table.{Name, common_lisp, keyword}
 use Rattle.plist_state.specs.State.{WorldState}
-use Rattle.lisp_operators.specs.Kinds.{is_true, is_pair}
+use Rattle.lisp_operators.specs.ArgumentKinds.{is_true, is_pair}
 use Rattle.lisp_operators.specs.Evaluation.{Evaluation, gives, and_then}
 use Rattle.lisp_operators.specs.Properties.{t, list, get, set, remove, symbol_plist, increment, push}
 use Rattle.lisp_operators.specs.Packages.{make, enter, intern, export, import, use_package}
 use Rattle.lisp_operators.specs.declared.look_ups.LookUp.{LookUp}
 use Rattle.lisp_operators.specs.declared.places.PlaceChange.{PlaceChange}
 use Rattle.lisp_operators.specs.LookUps.{look_up_named, looked_up}
-use Rattle.lisp_operators.specs.Places.{change_named, place_changed}
+use Rattle.lisp_operators.specs.PropertyPlaces.{change_named, place_changed}
 use Rattle.lisp_operators.specs.ReadBase.{set_base}
 use Rattle.lisp_operators.specs.Readtables.{a_keyword_of, readtable_case, set_case, copy_readtable, enter_readtable, set_syntax, set_macro, get_macro, make_dispatch, set_dispatch, get_dispatch}
 use Rattle.lisp_operators.proofs.Numbered.{IsNumber}

@@ -19,7 +19,7 @@ use Rattle.lisp_operators.specs.declared.error.EvaluationError.TheVariants.{Refu
 use Rattle.lisp_operators.specs.declared.evaluated.Evaluated.{Evaluated}
 use Rattle.lisp_operators.specs.EvaluationAnswers.{Answers, done}
 use Rattle.lisp_operators.specs.Evaluation.{Done, Evaluation, gives, also, and_then}
-use Rattle.lisp_operators.specs.Kinds.{is_pair}
+use Rattle.lisp_operators.specs.ArgumentKinds.{is_pair}
 use Rattle.lisp_operators.specs.Properties.{list}
 use Rattle.value_functions.specs.declared.functions.ValueFunction.{ValueFunction}
 use Rattle.value_functions.specs.FunctionAnswers.{AnswersValue}

@@ -18,7 +18,7 @@ use Rattle.lisp_object.specs.declared.refusal.TheConstants.{ARGUMENT_KIND}
 use Rattle.evaluator.specs.Value.{get_place_refusal, default_place_refusal, case_place_refusal, list_place_refusal}
 use Rattle.lisp_object.proofs.ProperLists.{items_of_proper, proper_pairs}
 use Rattle.package_table.specs.Table.{common_lisp}
-use Rattle.lisp_operators.specs.Kinds.{a_symbol}
+use Rattle.lisp_operators.specs.ArgumentKinds.{a_symbol}
 use Rattle.evaluator.specs.Operators.{is_standard, count}
 use Rattle.lisp_operators.proofs.Shapes.{dotted_pair}
 

@@ -17,7 +17,7 @@ use Rattle.lisp_operators.specs.EvaluationAnswers.{Answers, done}
 use Rattle.lisp_operators.specs.Readtables.{AreFunctionNames}
 use Rattle.lisp_operators.specs.Evaluation.{Done, Evaluation, also}
 use Rattle.lisp_operators.specs.Effects.{IsTruth, Leaves, effect}
-use Rattle.lisp_operators.specs.Kinds.{is_true}
+use Rattle.lisp_operators.specs.ArgumentKinds.{is_true}
 use Rattle.lisp_operators.proofs.SoundBase.{base_value}
 use Rattle.package_table.specs.Growth.{Grows}
 use Rattle.package_table.specs.Table.{Name, Table}

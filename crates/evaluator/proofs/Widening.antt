@@ -10,7 +10,7 @@ use Rattle.lisp_object.specs.declared.refusal.TheConstants.{ASSERTION_FAILED}
 use Rattle.package_table.specs.Table.{Name, common_lisp}
 use Rattle.package_table.proofs.Names.{none_some}
 use Rattle.plist_state.specs.State.{WorldState}
-use Rattle.lisp_operators.specs.Kinds.{is_true, is_pair}
+use Rattle.lisp_operators.specs.ArgumentKinds.{is_true, is_pair}
 use Rattle.lisp_operators.specs.Evaluation.{Done, Evaluation, gives, also, and_then}
 use Rattle.lisp_operators.specs.Properties.{increment, push}
 use Rattle.lisp_operators.specs.Packages.{enter}

@@ -19,7 +19,7 @@ use Rattle.evaluator.specs.declared.operation.Operation.TheVariants.{Setf, Incf,
 use Rattle.evaluator.specs.declared.place.PlaceForm.{PlaceForm}
 use Rattle.evaluator.specs.declared.place.PlaceForm.TheVariants.{Property, PropertyOr, Case, ReadBase}
 use Rattle.lisp_operators.specs.Evaluation.{Evaluation, gives, also, and_then}
-use Rattle.lisp_operators.specs.Kinds.{is_true}
+use Rattle.lisp_operators.specs.ArgumentKinds.{is_true}
 use Rattle.lisp_operators.specs.Properties.{list}
 use Rattle.evaluator.specs.declared.wanted.ValueUse.{ValueUse}
 use Rattle.evaluator.specs.declared.wanted.EvaluationTask.{EvaluationTask}

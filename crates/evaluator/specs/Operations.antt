@@ -16,7 +16,7 @@ use Rattle.lisp_operators.specs.Readtables.{readtable_case, set_case, copy_readt
 use Rattle.lisp_operators.specs.ReadBase.{set_base}
 use Rattle.evaluator.specs.Operators.{Operator, Action, quotes, sequence, chooses, assigns, increments, pushes, enters_package, calls, seeks, selects, guards, keeps_first, asserts, computed, computed_value, changes}
 use Rattle.lisp_operators.specs.LookUps.{least_of_look_up, most_of_look_up, looked_up}
-use Rattle.lisp_operators.specs.Places.{most_of_change, place_changed}
+use Rattle.lisp_operators.specs.PropertyPlaces.{most_of_change, place_changed}
 use Rattle.value_functions.specs.Functions as functions
 
 -- how many arguments it takes at least

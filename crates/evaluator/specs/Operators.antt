@@ -12,7 +12,7 @@ use Rattle.lisp_operators.specs.Packages.{make, intern, export, import, use_pack
 use Rattle.lisp_operators.specs.declared.look_ups.LookUp.{LookUp}
 use Rattle.lisp_operators.specs.declared.places.PlaceChange.{PlaceChange}
 use Rattle.lisp_operators.specs.LookUps.{look_up_named, least_of_look_up, most_of_look_up, looked_up}
-use Rattle.lisp_operators.specs.Places.{change_named, most_of_change, place_changed}
+use Rattle.lisp_operators.specs.PropertyPlaces.{change_named, most_of_change, place_changed}
 use Rattle.lisp_operators.specs.Readtables.{readtable_case, copy_readtable, enter_readtable, set_syntax, set_macro, get_macro, make_dispatch, set_dispatch, get_dispatch}
 use Rattle.value_functions.specs.declared.functions.ValueFunction.{ValueFunction}
 use Rattle.value_functions.specs.Functions as functions

@@ -1,7 +1,7 @@
 -- What is seen of an evaluation of whose value less is asked.
 use Rattle.std.specs.Prelude.{pos, if◌then◌else◌, nat_lt, Ok, Err}
 use Rattle.lisp_object.specs.Object.{Object, integer, object_depth}
-use Rattle.lisp_operators.specs.Kinds.{is_true}
+use Rattle.lisp_operators.specs.ArgumentKinds.{is_true}
 use Rattle.lisp_operators.specs.Evaluation.{Evaluation}
 use Rattle.lisp_operators.specs.declared.list_builder.ListBuilder.{ListBuilder}
 use Rattle.lisp_operators.specs.declared.list_builder.ListBuilder.TheVariants.{Within, TooDeep, TooLarge}

@@ -9,7 +9,7 @@ use Rattle.lisp_object.specs.declared.refusal.TheConstants.{NOT_A_FORM, UNKNOWN_
 use Rattle.package_table.specs.Table.{Name, keyword}
 use Rattle.plist_state.specs.State.{WorldState}
 use Rattle.lisp_operators.specs.Evaluation.{Evaluation, gives, and_then}
-use Rattle.lisp_operators.specs.Kinds.{is_true, is_pair}
+use Rattle.lisp_operators.specs.ArgumentKinds.{is_true, is_pair}
 use Rattle.lisp_operators.specs.Properties.{t, set, increment, push}
 use Rattle.lisp_operators.specs.Packages.{enter}
 use Rattle.lisp_operators.specs.Readtables.{a_keyword_of, set_case}

@@ -4,7 +4,7 @@ ghost use Rattle.lisp_object.specs.Object.{Object, nil};
 ghost use Rattle.lisp_object.specs.Datum.{object_of};
 ghost use Rattle.package_table.specs.Table.{Name, common_lisp};
 ghost use Rattle.plist_state.specs.State.{WorldState};
-ghost use Rattle.lisp_operators.specs.Kinds.{a_symbol};
+ghost use Rattle.lisp_operators.specs.ArgumentKinds.{a_symbol};
 ghost use Rattle.lisp_operators.specs.Evaluation.{Evaluation, gives, also};
 ghost use Rattle.evaluator.specs.Operators.{first};
 ghost use Rattle.evaluator.specs.Value.{symbol_value};

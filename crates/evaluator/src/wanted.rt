@@ -5,7 +5,7 @@ ghost use Rattle.plist_state.specs.State.{WorldState};
 ghost use Rattle.lisp_operators.specs.Evaluation.{Evaluation};
 ghost use Rattle.lisp_object.specs.Datum.{object_of};
 ghost use Rattle.lisp_operators.specs.EvaluationAnswers.{Answers, done, IsProper, IsProperValue};
-ghost use Rattle.lisp_operators.specs.Kinds.{is_true};
+ghost use Rattle.lisp_operators.specs.ArgumentKinds.{is_true};
 ghost use Rattle.evaluator.specs.Value.{has_truth};
 ghost use Rattle.evaluator.specs.StandIns.{stand_in, seen, wanted_for};
 

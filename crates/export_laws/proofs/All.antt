@@ -21,7 +21,7 @@ use Rattle.plist_state.specs.Sound.{IsSoundWorldState, IsSymbol, IsPlist, IsValu
 use Rattle.plist_state.specs.State.{WorldState}
 use Rattle.plist_state.proofs.Orders.{symbol_total}
 use Rattle.snapshot_text.specs.BuiltWorlds.{with_each, with_packages_of, with_properties, with_properties_of}
-use Rattle.snapshot_text.specs.Rows.{row_symbol_at, IsUpTo}
+use Rattle.snapshot_text.specs.Rows.{row_symbol_at, HasRowsUpTo}
 use Rattle.snapshot_text.proofs.PropertyParts.{at_first, at_last, each_is_list, next_up_to, row_at}
 use Rattle.text_laws.specs.Objects.{property_object}
 use Rattle.export_laws.specs.Objects.{after_each, property_objects}
@@ -84,7 +84,7 @@ module _ (s : WorldState) where
 
   module _ (sound : IsSoundWorldState s) where
     from : (n : ℕ) (xs : List Symbol) (now : WorldState) → drop n (symbols_with_properties s) ≡ xs → n + length xs ≡ length (symbols_with_properties s)
-        → IsUpTo s n now → listed now xs ≡ with_properties_of s
+        → HasRowsUpTo s n now → listed now xs ≡ with_properties_of s
     from n [] now rest all so_far = at_last s n now so_far (omega (arith, all))
     from n (x ∷ xs) now rest all so_far =
         let few : n < length (symbols_with_properties s) = omega (arith, all) in
@@ -94,7 +94,7 @@ module _ (s : WorldState) where
         ap (λ y. with_each now y (plist s y)) (sym at.0) ∙ each_is_list now (row_symbol_at s n) (plist s (row_symbol_at s n)) row.may_be.some row.may_be.apart row.absent in
         let one : n + 1 ≡ suc n = omega arith in
         from (suc n) xs (with_each now x (plist s x)) at.1 (omega (arith, all))
-        (subst (λ k. IsUpTo s k (with_each now x (plist s x))) one (next_up_to s sound n now (with_each now x (plist s x)) so_far few is))
+        (subst (λ k. HasRowsUpTo s k (with_each now x (plist s x))) one (next_up_to s sound n now (with_each now x (plist s x)) so_far few is))
 
     all_listed : put_all finite.empty (symbols_with_properties s) ≡ s.properties
     all_listed =

@@ -15,7 +15,7 @@ use Rattle.session_words.specs.declared.content.Content.TheVariants.{Data}
 use Rattle.world_forms.specs.Forms.{current_form, forms, last_newline}
 use Rattle.world_forms.specs.Packages.{package_lines}
 use Rattle.world_forms.specs.Properties.{left_out_lines, property_lines}
-use Rattle.export_laws.specs.Texts.{Makes, ReadsAsExported, with_data_of}
+use Rattle.export_laws.specs.ExportedTexts.{Makes, ReadsAsExported, with_data_of}
 use Rattle.export_laws.proofs.Current.{current_is_form, current_leaves, current_object}
 use Rattle.export_laws.proofs.Front.{without_newline}
 use Rattle.export_laws.proofs.Lines.{lines_made}

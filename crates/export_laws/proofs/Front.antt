@@ -15,9 +15,9 @@ use Rattle.lisp_reading.specs.Reading.{ReadingResult, attempt, empty, form, outc
 use Rattle.lisp_reading.proofs.Forms.{reads_is}
 use Rattle.session_words.specs.declared.mode.Mode.TheVariants.{Current}
 use Rattle.prevalence_store.specs.meaning.Acceptance.{form_limits, read_in, transaction_value}
-use Rattle.sessions.specs.Answers.{Progress, after_forms, first_progress as before_forms, form_progress, one_form, one_form_more, onward}
+use Rattle.sessions.specs.FormAnswers.{Progress, after_forms, first_progress as before_forms, form_progress, one_form, one_form_more, progress_onward}
 use Rattle.world_text.proofs.Begun.{newline_begun}
-use Rattle.export_laws.specs.Texts.{Makes, ReadsAsExported}
+use Rattle.export_laws.specs.ExportedTexts.{Makes, ReadsAsExported}
 
 -- the same, a byte later
 abbrev later : ReadingResult → ReadingResult
@@ -78,7 +78,7 @@ module _ (functions : Functions) (s : WorldState) (as_exported : ReadsAsExported
       ∙ ap (one_form functions s Current text) (sym (exported_so text))
 
   forms_later : (n : ℕ) → after_forms functions (suc n) s Current (10 ∷ text) ≡ after_forms functions (suc n) s Current text
-  forms_later zero = ap (option_map (onward (before_forms s text))) one_later
+  forms_later zero = ap (option_map (progress_onward (before_forms s text))) one_later
   forms_later (suc n) = ap (option_and_then (one_form_more functions Current)) (forms_later n)
 
   pub without_newline : (after : WorldState) (rest : List ℕ) → length rest < length (10 ∷ text) → Makes functions s (10 ∷ text) after rest → Makes functions s text after rest

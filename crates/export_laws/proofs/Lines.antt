@@ -16,9 +16,9 @@ use Rattle.plist_state.specs.State.{WorldState}
 use Rattle.user_macros.specs.Functions.{Functions}
 use Rattle.snapshot_text.specs.BuiltWorlds.{with_each}
 use Rattle.world_forms.specs.Properties.{is_form, left_out_line, left_out_lines, plist_left_out, plist_lines, property_form, property_line, property_lines}
-use Rattle.world_forms.specs.Tokens.{line_of_form, symbol_text, told_text}
+use Rattle.world_forms.specs.NameTokens.{line_of_form, symbol_text, told_text}
 use Rattle.text_laws.specs.Objects.{property_object}
-use Rattle.export_laws.specs.Texts.{Makes, ReadsAsExported}
+use Rattle.export_laws.specs.ExportedTexts.{Makes, ReadsAsExported}
 use Rattle.export_laws.proofs.All.{MayBe, all_listed_in, all_may_be, each_put, listed}
 use Rattle.text_laws.proofs.One.{property_set}
 use Rattle.export_laws.proofs.OneForm.{one_more_made}

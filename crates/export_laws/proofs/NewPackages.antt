@@ -22,16 +22,16 @@ use Rattle.package_table.proofs.KeptChanges.{kept_intern, kept_make}
 use Rattle.package_table.proofs.KeptSound.{used_is_package}
 use Rattle.plist_state.specs.State.{WorldState}
 use Rattle.user_macros.specs.Functions.{Functions}
-use Rattle.snapshot_text.specs.Phases.{Everywhere, HasOwn}
+use Rattle.snapshot_text.specs.Phases.{InEachPackage, HasOwn}
 use Rattle.snapshot_text.proofs.KeysSoFar.{AreApart}
 use Rattle.snapshot_text.proofs.OwnNames.{own_among, own_are}
 use Rattle.snapshot_text.proofs.PartFinds.{present_entry, present_more, present_package}
 use Rattle.snapshot_text.proofs.PartMakes.{intern_goes, make_goes, make_part}
 use Rattle.snapshot_text.proofs.PartSame.{first_part, where_first}
 use Rattle.world_forms.specs.Packages.{is_first, own_line, own_lines, package_line}
-use Rattle.world_forms.specs.Tokens.{call_text, line_of_form}
+use Rattle.world_forms.specs.NameTokens.{call_text, line_of_form}
 use Rattle.text_laws.specs.Objects.{call}
-use Rattle.export_laws.specs.Texts.{ReadsAsExported}
+use Rattle.export_laws.specs.ExportedTexts.{ReadsAsExported}
 use Rattle.export_laws.proofs.OnTheWay.{Goes, IsOnTheWay, Made, at, every_line, nothing_more, one_line}
 use Rattle.export_laws.proofs.PackageForms.{intern_leaves, make_leaves}
 use Rattle.export_laws.proofs.PackageText.{IsOperator, call_is_form}
@@ -168,7 +168,7 @@ module _ (functions : Functions) (first : WorldState) (whole : List ℕ) (base :
   -- ---- INTERN
 
   abbrev pub HasPackages : Table → Type 0
-  HasPackages t = Everywhere s (λ p. IsPackage t p)
+  HasPackages t = InEachPackage s (λ p. IsPackage t p)
 
   pub packages_last : (t u : Table) → Grows t u → HasPackages t → HasPackages u
   packages_last t u grows all = λ p there. grows.packages p (all p there)

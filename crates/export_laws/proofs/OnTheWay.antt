@@ -15,8 +15,8 @@ use Rattle.plist_state.specs.Changes.{with_packages}
 use Rattle.plist_state.specs.State.{WorldState}
 use Rattle.user_macros.specs.Functions.{Functions}
 use Rattle.snapshot_text.specs.Part.{IsPartOf}
-use Rattle.world_forms.specs.Tokens.{line_of_form}
-use Rattle.export_laws.specs.Texts.{Makes, ReadsAsExported}
+use Rattle.world_forms.specs.NameTokens.{line_of_form}
+use Rattle.export_laws.specs.ExportedTexts.{Makes, ReadsAsExported}
 use Rattle.export_laws.proofs.OneForm.{IsForm, one_more_made}
 use Rattle.prevalence_store.specs.meaning.Acceptance.{transaction_value}
 

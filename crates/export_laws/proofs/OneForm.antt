@@ -16,12 +16,12 @@ use Rattle.lisp_reading.specs.Reading.{form, outcome, reads, reads_at}
 use Rattle.lisp_reading.proofs.Forms.{drop_front, reads_is}
 use Rattle.session_words.specs.declared.mode.Mode.TheVariants.{Current}
 use Rattle.prevalence_store.specs.meaning.Acceptance.{between, form_limits, read_in, transaction_value}
-use Rattle.sessions.specs.Answers.{first_progress as before_forms, form_progress, one_form, one_form_more, onward}
+use Rattle.sessions.specs.FormAnswers.{first_progress as before_forms, form_progress, one_form, one_form_more, progress_onward}
 use Rattle.world_text.proofs.Begun.{begun, newline_begun}
 use Rattle.world_forms.specs.Properties.{form_setting}
 use Rattle.wider_functions.proofs.Keeping.{none_are_among}
 use Rattle.wider_functions.proofs.Reading.{reading_widens}
-use Rattle.export_laws.specs.Texts.{Makes, ReadsAsExported}
+use Rattle.export_laws.specs.ExportedTexts.{Makes, ReadsAsExported}
 
 -- the text is read as this form, before a newline and whatever follows
 abbrev pub IsForm : Packages → List ℕ → Object → Type 0
@@ -75,11 +75,11 @@ module _ (functions : Functions) where
       let one_is : one_form functions now Current input (read_in functions now Current input) ≡ Some q
       = ap (one_form functions now Current input) (read_here now.packages text x rest is functions now as_exported refl)
       ∙ ap (λ e. Some (form_progress now Current (between 1 (1 + length text) input) (drop (1 + length text) input) e)) accepted in
-      let more : one_form_more functions Current p ≡ Some (onward p q)
-      = ap (option_map (onward p)) ((λ i. one_form functions (made.world i) Current (made.left i) (read_in functions (made.world i) Current (made.left i))) ∙ one_is) in
+      let more : one_form_more functions Current p ≡ Some (progress_onward p q)
+      = ap (option_map (progress_onward p)) ((λ i. one_form functions (made.world i) Current (made.left i) (read_in functions (made.world i) Current (made.left i))) ∙ one_is) in
       record {
         count = suc made.count;
-        progress = onward p q;
+        progress = progress_onward p q;
         given = ap (option_and_then (one_form_more functions Current)) made.given ∙ more;
         world = refl;
         left = dropped now.packages text x rest is;

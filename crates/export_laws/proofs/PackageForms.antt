@@ -20,13 +20,13 @@ use Rattle.package_table.specs.Table.{Name, Table, IsPackage, IsPresent, common_
 use Rattle.plist_state.specs.Changes.{with_packages}
 use Rattle.plist_state.specs.State.{WorldState}
 use Rattle.lisp_operators.specs.Evaluation.{Done, also, and_then, gives, of_kind, writes}
-use Rattle.lisp_operators.specs.Kinds.{a_symbol, one_or_each}
+use Rattle.lisp_operators.specs.ArgumentKinds.{a_symbol, one_or_each}
 use Rattle.lisp_operators.specs.Packages.{after_exports, after_imports, changed, export, finds_symbol, import, interned_symbol, made_package, packages_named, then_others, use_all}
 use Rattle.lisp_operators.specs.Properties.{t as t_object}
 use Rattle.evaluator.specs.Value.{value_by, values_by, value_over}
 use Rattle.form_eval.specs.Acceptance.{accepted_by}
 use Rattle.form_eval.proofs.KnownSymbols.{known_symbols}
-use Rattle.world_forms.specs.Tokens.{is_too_long, prefix_length}
+use Rattle.world_forms.specs.NameTokens.{is_too_long, prefix_length}
 use Rattle.text_laws.specs.Objects.{call}
 use Rattle.text_laws.proofs.One.{two_values}
 use Rattle.export_laws.proofs.PackageText.{change_argument}

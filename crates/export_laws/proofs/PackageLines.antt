@@ -20,7 +20,7 @@ use Rattle.package_table.proofs.Growing.{grows_both}
 use Rattle.package_table.proofs.KeptChanges.{kept_export, kept_import, kept_use}
 use Rattle.plist_state.specs.State.{WorldState}
 use Rattle.user_macros.specs.Functions.{Functions}
-use Rattle.snapshot_text.specs.Phases.{Everywhere, HasExternals, HasOwn, HasSymbols, HasUses}
+use Rattle.snapshot_text.specs.Phases.{InEachPackage, HasExternals, HasOwn, HasSymbols, HasUses}
 use Rattle.snapshot_text.proofs.AllPackages.{same_packages}
 use Rattle.snapshot_text.proofs.Begins.{externals_grown, own_grown, symbols_grown, uses_grown}
 use Rattle.snapshot_text.proofs.KeysSoFar.{keys_apart}
@@ -29,9 +29,9 @@ use Rattle.snapshot_text.proofs.PartFinds.{external_entry, present_package}
 use Rattle.snapshot_text.proofs.PartSame.{first_part}
 use Rattle.snapshot_text.proofs.PartSteps.{after_used, export_goes, export_part, export_there, import_goes, import_part, import_there, not_locked, use_goes, use_part, use_there}
 use Rattle.world_forms.specs.Packages.{change_line, export_form_line, import_line, own_lines, package_line, package_lines, shown_lines, use_line, use_lines}
-use Rattle.world_forms.specs.Tokens.{call_text, line_of_form}
+use Rattle.world_forms.specs.NameTokens.{call_text, line_of_form}
 use Rattle.text_laws.specs.Objects.{call}
-use Rattle.export_laws.specs.Texts.{ReadsAsExported}
+use Rattle.export_laws.specs.ExportedTexts.{ReadsAsExported}
 use Rattle.export_laws.proofs.OnTheWay.{Goes, IsOnTheWay, Made, at, every_line, nothing_more, one_line}
 use Rattle.export_laws.proofs.PackageForms.{argument, export_leaves, import_leaves, use_leaves}
 use Rattle.export_laws.proofs.PackageText.{call_is_form, change_argument, change_is_form, change_text}
@@ -61,7 +61,7 @@ module _ (functions : Functions) (first : WorldState) (whole : List ℕ) (base :
   -- ---- IMPORT and EXPORT
 
   abbrev HasOwnNames : Table → Type 0
-  HasOwnNames t = Everywhere s (HasOwn t s)
+  HasOwnNames t = InEachPackage s (HasOwn t s)
 
   own_last : (t u : Table) → Grows t u → HasOwnNames t → HasOwnNames u
   own_last t u grows all = λ p there. own_grown t u s p (all p there) grows

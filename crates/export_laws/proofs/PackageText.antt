@@ -17,7 +17,7 @@ use Rattle.canon_printer.specs.Written.{is_escaped_in_text, printed_text}
 use Rattle.lisp_reading.specs.declared.found.Found.TheVariants.{One as one}
 use Rattle.prevalence_store.specs.meaning.Acceptance.{form_limits}
 use Rattle.world_text.proofs.Spelling.{IsAscii}
-use Rattle.world_forms.specs.Tokens.{call_text, is_portable_name, is_too_long, name_text, prefix_length, symbol_text, text_argument, value_text}
+use Rattle.world_forms.specs.NameTokens.{call_text, is_portable_name, is_too_long, name_text, prefix_length, symbol_text, text_argument, value_text}
 use Rattle.text_laws.specs.Objects.{call}
 use Rattle.export_laws.proofs.OneForm.{IsForm}
 use Rattle.text_laws.proofs.PartsRead.{AreRead, IsRead, deeper, list_read, listed_is_read, no_more, one_more, quoted_is_read}

@@ -23,7 +23,7 @@ use Rattle.world_text.proofs.Begun.{begun}
 use Rattle.world_text.proofs.OneLine.{IsGood, good_symbols}
 use Rattle.world_text.proofs.WithinLimits.{tokens_short}
 use Rattle.world_forms.specs.Properties.{ends_at, form_setting, is_form, property_form}
-use Rattle.world_forms.specs.Tokens.{line_of_form, quoted_text}
+use Rattle.world_forms.specs.NameTokens.{line_of_form, quoted_text}
 use Rattle.text_laws.specs.Objects.{call, property_object, symbol_form}
 use Rattle.text_laws.proofs.PartsRead.{AreRead, IsRead, deeper, list_read, listed_is_read, no_more, object_is_read, one_more, quoted_is_read}
 use Rattle.text_laws.proofs.Symbols.{lisp_is_read, quoted_symbol_is_read}

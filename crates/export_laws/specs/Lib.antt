@@ -1,4 +1,4 @@
 -- the forms of a world as objects
 pub mod Objects
 -- as texts
-pub mod Texts
+pub mod ExportedTexts

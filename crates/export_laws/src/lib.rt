@@ -6,7 +6,7 @@
 //! - `properties_are_made`: the forms of the properties, as objects, make the property lists in their order (`specs/Objects.antt`)
 //! - `properties_of_a_world`: so do those of each world that a program has, from the first world with its packages on
 //!
-//! What a text makes is `Makes` of `specs/Texts.antt`: each form is read in the world that the ones before it left, and accepted.
+//! What a text makes is `Makes` of `specs/ExportedTexts.antt`: each form is read in the world that the ones before it left, and accepted.
 //!
 //! The readtables, and so the law of a whole export, are in whole_export.
 //!
@@ -36,7 +36,7 @@ ghost use Rattle.world_forms.specs.Forms.{forms};
 ghost use Rattle.world_forms.specs.Properties.{left_out_lines, property_lines};
 ghost use Rattle.text_laws.specs.Objects.{property_object};
 ghost use Rattle.export_laws.specs.Objects.{after_each, property_objects};
-ghost use Rattle.export_laws.specs.Texts.{Makes, ReadsAsExported, with_data_of};
+ghost use Rattle.export_laws.specs.ExportedTexts.{Makes, ReadsAsExported, with_data_of};
 
 use plist_state::World;
 

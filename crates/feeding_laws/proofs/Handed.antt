@@ -3,13 +3,13 @@ use Rattle.std.proofs.Common.{◌≡◌, ◌⊎◌, inl, inr, ℕ, List, [], ◌
 use Rattle.std.specs.List.{AllByRecursion}
 use Rattle.disk_trait.specs.Disk.{Image, State, IsHonest}
 use Rattle.gate_log.specs.Layout.{LogRecord}
-use Rattle.feeding_laws.specs.Feeding.{FramesAreHanded, AccountTellsPlace, FeedsAgain, FrameHanding, HaveNoNames, IsFirst, account_after_frames, request_of, rounds_of_frames}
+use Rattle.feeding_laws.specs.Feeding.{FramesAreHanded, AccountTellsPlace, FeedsAgain, FrameHanding, HaveNoNames, IsFirstMessageAccount, account_after_frames, request_of, rounds_of_frames}
 use Rattle.feeding_laws.proofs.Over.{names_both}
 use Rattle.feeding_laws.proofs.Stands.{Stands, fed_later, first_stands, requests_alike, stands_after}
 use Rattle.message_frames.specs.Frames.{IsFrame, Sent}
-use Rattle.message_session.specs.Account.{MessageAccount, FramesAreLogged, AreNext, AnswersAreStored, FramesAreUnderWay, round_after, with_frames}
-use Rattle.message_session.specs.Answers.{each_frame}
-use Rattle.message_session.specs.Sessions.{text_limit}
+use Rattle.message_session.specs.Account.{MessageAccount, FramesAreLogged, AreNextFrames, AnswersAreStored, FramesAreUnderWay, round_after, with_frames}
+use Rattle.message_session.specs.FrameAnswers.{each_frame}
+use Rattle.message_session.specs.MessageSessions.{text_limit}
 use Rattle.plist_state.specs.State.{WorldState}
 use Rattle.prevalence_store.specs.Theorem.{Keeps}
 use Rattle.prevalence_store.specs.calls.ExecuteAll.{MeansAllOrNone}
@@ -17,8 +17,8 @@ use Rattle.prevalence_store.specs.calls.Store.{StoreView}
 use Rattle.messages.specs.declared.request.Request.{Request}
 use Rattle.prevalence_store.specs.meaning.Acceptance.{after}
 use Rattle.prevalence_store.specs.meaning.Files.{MeansWorld}
-use Rattle.messages.specs.Answers.{Round, round_after_requests, first_round, with_its_position}
-use Rattle.messages.specs.Calls.{entries_by, left_after}
+use Rattle.messages.specs.MessageAnswers.{Round, round_after_requests, first_round, with_its_position}
+use Rattle.messages.specs.MessageCalls.{entries_by, left_after}
 use Rattle.prevalence_store.proofs.Surviving.{one_world}
 use Rattle.store_laws.specs.Rounds.{Place, after_rounds, begun_from, with_round}
 use Rattle.user_macros.specs.Functions.{Functions}
@@ -28,7 +28,7 @@ all_last : (P : Sent → Type 0) (xs ys : List Sent) → AllByRecursion P (xs ++
 all_last P [] ys all = all
 all_last P (x ∷ xs) ys all = all_last P xs ys all.1
 
-each_next : {D : Type 0} (account : MessageAccount D) (frames : List Sent) → AreNext account frames → AllByRecursion (IsFrame text_limit) frames
+each_next : {D : Type 0} (account : MessageAccount D) (frames : List Sent) → AreNextFrames account frames → AllByRecursion (IsFrame text_limit) frames
 each_next account frames next = all_last (IsFrame text_limit) account.answered frames next.parts.each
 
 -- the world after frames that come next, and their records
@@ -52,7 +52,7 @@ pub record IsAt (functions : Functions) {D : Type 0} (state : D → State) (firs
 module _ (functions : Functions) {D : Type 0} (state : D → State) where
   module _ (first_last : ℕ) (first : WorldState) where
     -- what an image means while these frames are under way
-    module _ (account : MessageAccount D) (at : IsAt functions state first_last first account) (frames : List Sent) (next : AreNext account frames) (made : after functions account.now (records_at functions account frames) ≡ Some (left_at functions account frames))
+    module _ (account : MessageAccount D) (at : IsAt functions state first_last first account) (frames : List Sent) (next : AreNextFrames account frames) (made : after functions account.now (records_at functions account frames) ≡ Some (left_at functions account frames))
         (more : List Sent) (unnamed : HaveNoNames frames) (later_unnamed : HaveNoNames more) (image : Image) (now : WorldState) (means : MeansWorld functions image now) where
       three : (account.answered ++ frames) ++ more ≡ account.answered ++ (frames ++ more)
       three = append_assoc account.answered frames more
@@ -75,7 +75,7 @@ module _ (functions : Functions) {D : Type 0} (state : D → State) where
           let both : Some (left_at functions account frames) ≡ Some all.0 = sym made ∙ all.1 in
           afterwards (one_world functions image now all.0 means all.2 ∙ (let same : left_at functions account frames ≡ all.0 = cc in sym same))
 
-  at_first : (account : MessageAccount D) → IsFirst account → IsHonest (state account.disk) → Keeps functions (state account.disk) account.now → IsAt functions state account.last account.now account
+  at_first : (account : MessageAccount D) → IsFirstMessageAccount account → IsHonest (state account.disk) → Keeps functions (state account.disk) account.now → IsAt functions state account.last account.now account
   at_first account first honest keeps = record {
     stands = subst (λ fs. Stands functions account.last account.now fs account.last account.now) (sym first.none) (first_stands functions account first);
     honest = honest;
@@ -137,7 +137,7 @@ module _ (functions : Functions) {D R : Type 0} (state : D → State) where
     at_after [] account at handed = at
     at_after (one ∷ more) account at handed = at_after more (with_frames functions one.frames one.store account) (at_next account at one handed.1 handed.0) handed.2
 
-  module _ (account : MessageAccount D) (handings : List (FrameHanding D R)) (more : List Sent) (later_unnamed : HaveNoNames more) (image : Image) (now : WorldState) (first : IsFirst account)
+  module _ (account : MessageAccount D) (handings : List (FrameHanding D R)) (more : List Sent) (later_unnamed : HaveNoNames more) (image : Image) (now : WorldState) (first : IsFirstMessageAccount account)
       (honest : IsHonest (state account.disk)) (keeps : Keeps functions (state account.disk) account.now) (handed : FramesAreHanded functions state account handings) where
     here : IsAt functions state account.last account.now (account_after_frames functions account handings)
     here = at_after account.last account.now handings account (at_first functions state account first honest keeps) handed

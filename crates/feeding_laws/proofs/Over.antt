@@ -8,26 +8,26 @@ use Rattle.std.specs.List.{AllByRecursion}
 use Rattle.std.proofs.lemmas.Bool.{le-leb, leb-false, leb-true, ltb-false}
 use Rattle.std.proofs.lemmas.List.{append-nil}
 use Rattle.client_table.proofs.AskedTogether.{named_last, named_least}
-use Rattle.feeding_laws.specs.Feeding.{HasNoName, HaveNoNames, is_over, over}
+use Rattle.feeding_laws.specs.Feeding.{HasNoName, HaveNoNames, is_message_over, over}
 use Rattle.message_frames.specs.Frames.{IsFrame, Sent}
 use Rattle.message_frames.specs.declared.frame.Kind.{Kind}
 use Rattle.message_frames.specs.declared.frame.Kind.TheVariants.{Do, By, Ask}
 use Rattle.message_laws.specs.NearRounds.{Near}
 use Rattle.message_laws.proofs.Tidy.{out_twice}
 use Rattle.message_laws.proofs.Together.{More, cleared_last, cleared_left, cleared_tidy, near_itself}
-use Rattle.message_session.specs.Answers.{answers_to, by_kind, each_frame, one_frame}
+use Rattle.message_session.specs.FrameAnswers.{answers_to, by_kind, each_frame, one_frame}
 use Rattle.message_session.specs.declared.answer.TheConstants.{MOST_CLIENTS}
 use Rattle.message_session.proofs.Rounds.{kind_near}
-use Rattle.messages.specs.Answers.{Round, without_its_position, with_asked, with_message, with_old}
+use Rattle.messages.specs.MessageAnswers.{Round, without_its_position, with_asked, with_message, with_old}
 use Rattle.messages.specs.Position.{position_symbol, without_position}
 use Rattle.user_macros.specs.Functions.{Functions}
 
 -- ---- lists
 
-pub over_true : (n : ℕ) (one : Sent) (more : List Sent) → is_over n one.0 ≡ true → over n (one ∷ more) ≡ one ∷ over n more
+pub over_true : (n : ℕ) (one : Sent) (more : List Sent) → is_message_over n one.0 ≡ true → over n (one ∷ more) ≡ one ∷ over n more
 over_true n one more is = ap (λ b. if b then one ∷ over n more else over n more) is
 
-pub over_false : (n : ℕ) (one : Sent) (more : List Sent) → is_over n one.0 ≡ false → over n (one ∷ more) ≡ over n more
+pub over_false : (n : ℕ) (one : Sent) (more : List Sent) → is_message_over n one.0 ≡ false → over n (one ∷ more) ≡ over n more
 over_false n one more is = ap (λ b. if b then one ∷ over n more else over n more) is
 
 pub names_both : (xs ys : List Sent) → HaveNoNames xs → HaveNoNames ys → HaveNoNames (xs ++ ys)
@@ -36,8 +36,8 @@ names_both (x ∷ xs) ys first second = (first.0, names_both xs ys first.1 secon
 
 pub over_append : (n : ℕ) (xs ys : List Sent) → over n (xs ++ ys) ≡ over n xs ++ over n ys
 over_append n [] ys = refl
-over_append n (x ∷ xs) ys = by (over_append n xs ys) (is_over n x.0) refl where
-  by : over n (xs ++ ys) ≡ over n xs ++ over n ys → (b : Bool) → is_over n x.0 ≡ b → over n (x ∷ (xs ++ ys)) ≡ over n (x ∷ xs) ++ over n ys
+over_append n (x ∷ xs) ys = by (over_append n xs ys) (is_message_over n x.0) refl where
+  by : over n (xs ++ ys) ≡ over n xs ++ over n ys → (b : Bool) → is_message_over n x.0 ≡ b → over n (x ∷ (xs ++ ys)) ≡ over n (x ∷ xs) ++ over n ys
   by rest true is = over_true n x (xs ++ ys) is ∙ ap (λ l. x ∷ l) rest ∙ ap (λ l. l ++ over n ys) (sym (over_true n x xs is))
   by rest false is = over_false n x (xs ++ ys) is ∙ rest ∙ ap (λ l. l ++ over n ys) (sym (over_false n x xs is))
 
@@ -73,7 +73,7 @@ module _ (functions : Functions) where
     }
 
     -- a frame that is not over the number leaves it near
-    near_passed : (n : ℕ) → n ≤ b.last → (frame : Sent) → HasNoName frame.0 → is_over n frame.0 ≡ false → Near a (one_frame functions b frame)
+    near_passed : (n : ℕ) → n ≤ b.last → (frame : Sent) → HasNoName frame.0 → is_message_over n frame.0 ≡ false → Near a (one_frame functions b frame)
     near_passed n least (Ask, text) unnamed not_over = near_asked text
     near_passed n least (By number, text) unnamed not_over = absurd unnamed
     near_passed n least (Do number, text) unnamed not_over =
@@ -94,7 +94,7 @@ module _ (functions : Functions) where
     pub near : Near (each_frame functions a kept) (each_frame functions b frames)
 
   module _ (n : ℕ) (frame : Sent) (more : List Sent) (a b : Round) (near : Near a b) where
-    fed_taken : is_over n frame.0 ≡ true → Fed n more (over n more) (one_frame functions a frame) (one_frame functions b frame) → Fed n (frame ∷ more) (frame ∷ over n more) a b
+    fed_taken : is_message_over n frame.0 ≡ true → Fed n more (over n more) (one_frame functions a frame) (one_frame functions b frame) → Fed n (frame ∷ more) (frame ∷ over n more) a b
     fed_taken is rest =
         let one = kind_near functions frame.0 frame.1 a b near in
         let x = single one.told one.count in
@@ -109,7 +109,7 @@ module _ (functions : Functions) where
           near = rest.near;
         }
 
-    fed_passed : is_over n frame.0 ≡ false → Fed n more (over n more) a (one_frame functions b frame) → Fed n (frame ∷ more) (over n more) a b
+    fed_passed : is_message_over n frame.0 ≡ false → Fed n more (over n more) a (one_frame functions b frame) → Fed n (frame ∷ more) (over n more) a b
     fed_passed is rest =
         let one = kind_near functions frame.0 frame.1 b b (near_itself functions b near.other_tidy) in
         let x = single one.told one.count in
@@ -135,11 +135,11 @@ module _ (functions : Functions) where
     same = refl;
     near = near;
   }
-  each_fed n (frame ∷ more) a b unnamed near least = by (λ x y closer more_least. each_fed n more x y unnamed.1 closer more_least) (is_over n frame.0) refl where
+  each_fed n (frame ∷ more) a b unnamed near least = by (λ x y closer more_least. each_fed n more x y unnamed.1 closer more_least) (is_message_over n frame.0) refl where
     least_on : n ≤ (one_frame functions b frame).last
     least_on = omega (arith, least, one_least frame.0 frame.1 b)
 
-    by : ((x y : Round) → Near x y → n ≤ y.last → Fed n more (over n more) x y) → (x : Bool) → is_over n frame.0 ≡ x → Fed n (frame ∷ more) (over n (frame ∷ more)) a b
+    by : ((x y : Round) → Near x y → n ≤ y.last → Fed n more (over n more) x y) → (x : Bool) → is_message_over n frame.0 ≡ x → Fed n (frame ∷ more) (over n (frame ∷ more)) a b
     by rest true is =
         subst (λ kept. Fed n (frame ∷ more) kept a b) (sym (over_true n frame more is))
         (fed_taken n frame more a b near is
@@ -188,7 +188,7 @@ module _ (functions : Functions) where
     up_to_round frames (one_frame functions r frame),
   )
 
-  not_over : (n : ℕ) (kind : Kind) → IsUpTo n kind → is_over n kind ≡ false
+  not_over : (n : ℕ) (kind : Kind) → IsUpTo n kind → is_message_over n kind ≡ false
   not_over n (Do number) up = elim (nat_lt n number) as (λ b. nat_lt n number ≡ b → b ≡ false) [ true ↦ λ is. absurd (omega (arith, up, leb-true (suc n) number is)) | false ↦ λ _. refl ] refl
   not_over n (By number) up = refl
   not_over n Ask up = refl

@@ -5,12 +5,12 @@ use Rattle.std.specs.List.{AllByRecursion, flat_map}
 use Rattle.std.specs.Option.{option_and_then}
 use Rattle.std.proofs.lemmas.List.{append-nil}
 use Rattle.disk_trait.specs.Disk.{State}
-use Rattle.feeding_laws.specs.Feeding.{AreAnsweredAgain, FeedsAgain, is_over, over, told_position}
+use Rattle.feeding_laws.specs.Feeding.{AreAnsweredAgain, FeedsAgain, is_message_over, over, told_position}
 use Rattle.message_frames.specs.Frames.{AreFrames, IsBegunFrame, IsFrame, Sent, answer_bytes, frame_bytes, position_bytes}
 use Rattle.message_frames.specs.Lists.{SplitsOneWay}
 use Rattle.message_laws.specs.NearRounds.{Near}
-use Rattle.message_session.specs.Answers.{answers_of, each_frame, session_bytes}
-use Rattle.message_session.specs.Sessions.{EndsBy, MessagesBegin, ServesMessages, text_limit}
+use Rattle.message_session.specs.FrameAnswers.{answers_of, each_frame, session_bytes}
+use Rattle.message_session.specs.MessageSessions.{EndsBy, MessagesBegin, ServesMessages, text_limit}
 use Rattle.message_session.specs.declared.ended.MessagesEnd.TheVariants.{End}
 use Rattle.message_session.proofs.Pieces.{begun_none}
 use Rattle.message_laws.proofs.Together.{near_on}
@@ -18,8 +18,8 @@ use Rattle.feeding_laws.proofs.Stands.{near_back}
 use Rattle.plist_state.specs.State.{WorldState}
 use Rattle.prevalence_store.specs.calls.Store.{StoreView}
 use Rattle.sessions.specs.Streams.{Writes}
-use Rattle.messages.specs.Answers.{Round, first_round}
-use Rattle.messages.specs.Calls.{BeginsMessages}
+use Rattle.messages.specs.MessageAnswers.{Round, first_round}
+use Rattle.messages.specs.MessageCalls.{BeginsMessages}
 use Rattle.messages.specs.Position.{number_of_object, position}
 use Rattle.user_macros.specs.Functions.{Functions}
 
@@ -27,7 +27,7 @@ use Rattle.user_macros.specs.Functions.{Functions}
 each_over : (n : ℕ) (frames : List Sent) → AllByRecursion (IsFrame text_limit) frames → AllByRecursion (IsFrame text_limit) (over n frames)
 each_over n [] each = tt
 each_over n (frame ∷ frames) each =
-    elim (is_over n frame.0) as (λ b. AllByRecursion (IsFrame text_limit) (if b then frame ∷ over n frames else over n frames)) [
+    elim (is_message_over n frame.0) as (λ b. AllByRecursion (IsFrame text_limit) (if b then frame ∷ over n frames else over n frames)) [
       | true ↦ (each.0, each_over n frames each.1)
       | false ↦ each_over n frames each.1
     ]

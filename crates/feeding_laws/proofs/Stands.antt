@@ -12,7 +12,7 @@ use Rattle.client_table.specs.Named.{each_asked}
 use Rattle.client_table.specs.declared.asked.AnyRequest.{AnyRequest}
 use Rattle.client_table.specs.declared.asked.AnyRequest.TheVariants as asked
 use Rattle.client_table.proofs.AskedTogether.{asked_stands}
-use Rattle.feeding_laws.specs.Feeding.{FeedsAgain, HaveNoNames, IsFirst, over, request_of, told_position}
+use Rattle.feeding_laws.specs.Feeding.{FeedsAgain, HaveNoNames, IsFirstMessageAccount, over, request_of, told_position}
 use Rattle.feeding_laws.proofs.Over.{AreUpTo, Fed, are_up, bound_round, each_fed, each_least, none_over, none_told, over_append, up_both, up_to_round}
 use Rattle.message_frames.specs.Frames.{IsFrame, Sent}
 use Rattle.message_frames.specs.declared.frame.Kind.{Kind}
@@ -22,13 +22,13 @@ use Rattle.message_laws.specs.NearRounds.{IsTidy, Near}
 use Rattle.message_laws.proofs.Tidy.{sound_tidy}
 use Rattle.message_laws.proofs.Together.{StandsAt, near_itself, stands_first}
 use Rattle.message_session.specs.Account.{MessageAccount}
-use Rattle.message_session.specs.Answers.{AskAlike, answers_of, answers_to, each_frame, one_frame, parts_of_asked}
+use Rattle.message_session.specs.FrameAnswers.{AskAlike, answers_of, answers_to, each_frame, one_frame, parts_of_asked}
 use Rattle.message_session.specs.declared.answer.TheConstants.{MOST_CLIENTS}
-use Rattle.message_session.specs.Sessions.{text_limit}
+use Rattle.message_session.specs.MessageSessions.{text_limit}
 use Rattle.message_session.proofs.Rounds.{answers_append, both_rounds, same_rounds}
 use Rattle.plist_state.specs.State.{WorldState}
-use Rattle.messages.specs.Answers.{Round, first_round, with_its_position, each_request}
-use Rattle.messages.specs.Calls.{left_after}
+use Rattle.messages.specs.MessageAnswers.{Round, first_round, with_its_position, each_request}
+use Rattle.messages.specs.MessageCalls.{left_after}
 use Rattle.messages.specs.Position.{number_of_object, position_property}
 use Rattle.store_laws.proofs.MessagesDone.{closed_at}
 use Rattle.user_macros.specs.Functions.{Functions}
@@ -251,7 +251,7 @@ module _ (functions : Functions) (first_last : ℕ) (first : WorldState) where
       }
 
 -- before the first frame
-pub first_stands : (functions : Functions) {D : Type 0} (account : MessageAccount D) → IsFirst account → Stands functions account.last account.now [] account.last account.now
+pub first_stands : (functions : Functions) {D : Type 0} (account : MessageAccount D) → IsFirstMessageAccount account → Stands functions account.last account.now [] account.last account.now
 first_stands functions account first =
     let tidy : IsTidy account.now.properties = sound_tidy account.now first.sound in
     record {

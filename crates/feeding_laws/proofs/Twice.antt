@@ -2,22 +2,22 @@
 use Rattle.std.proofs.Common.{◌≡◌, ℕ, ◌≤◌, Bool, true, false, List, [], ◌∷◌, refl, sym, ap, subst, ◌∙◌, arith}
 use Rattle.std.specs.Prelude.{nat_lt}
 use Rattle.std.proofs.lemmas.Bool.{ltb-false, le-ltb}
-use Rattle.feeding_laws.specs.Feeding.{FeedsAgain, is_over, over, told_position}
+use Rattle.feeding_laws.specs.Feeding.{FeedsAgain, is_message_over, over, told_position}
 use Rattle.feeding_laws.proofs.Over.{over_false, over_true}
 use Rattle.message_frames.specs.Frames.{Sent}
 use Rattle.message_frames.specs.declared.frame.Kind.{Kind}
 use Rattle.message_frames.specs.declared.frame.Kind.TheVariants.{Do, By, Ask}
 use Rattle.message_laws.specs.NearRounds.{Near}
-use Rattle.message_session.specs.Answers.{answers_of, each_frame}
+use Rattle.message_session.specs.FrameAnswers.{answers_of, each_frame}
 use Rattle.plist_state.specs.State.{WorldState}
-use Rattle.messages.specs.Answers.{Round, first_round}
+use Rattle.messages.specs.MessageAnswers.{Round, first_round}
 use Rattle.user_macros.specs.Functions.{Functions}
 
 near_on : (a b c : Round) → Near a b → Near b c → Near a c
 near_on a b c one other = record { last = one.last ∙ other.last; tidy = one.tidy; other_tidy = other.other_tidy; same = one.same ∙ other.same }
 
 module _ (n m : ℕ) (least : n ≤ m) where
-  not_over : (kind : Kind) → is_over n kind ≡ false → is_over m kind ≡ false
+  not_over : (kind : Kind) → is_message_over n kind ≡ false → is_message_over m kind ≡ false
   not_over (Do number) is = le-ltb m number (omega (arith, least, ltb-false n number is))
   not_over (By number) is = refl
   not_over Ask is = refl
@@ -25,8 +25,8 @@ module _ (n m : ℕ) (least : n ≤ m) where
   -- those over the greater number are among those over the smaller one
   pub over_twice : (frames : List Sent) → over m (over n frames) ≡ over m frames
   over_twice [] = refl
-  over_twice (one ∷ more) = by (over_twice more) (is_over n one.0) refl (is_over m one.0) refl where
-    by : over m (over n more) ≡ over m more → (b : Bool) → is_over n one.0 ≡ b → (d : Bool) → is_over m one.0 ≡ d → over m (over n (one ∷ more)) ≡ over m (one ∷ more)
+  over_twice (one ∷ more) = by (over_twice more) (is_message_over n one.0) refl (is_message_over m one.0) refl where
+    by : over m (over n more) ≡ over m more → (b : Bool) → is_message_over n one.0 ≡ b → (d : Bool) → is_message_over m one.0 ≡ d → over m (over n (one ∷ more)) ≡ over m (one ∷ more)
     by rest true is true greater =
         ap (over m) (over_true n one more is) ∙ over_true m one (over n more) greater ∙ ap (λ l. one ∷ l) rest ∙ sym (over_true m one more greater)
     by rest true is false greater = ap (over m) (over_true n one more is) ∙ over_false m one (over n more) greater ∙ rest ∙ sym (over_false m one more greater)

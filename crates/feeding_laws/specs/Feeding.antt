@@ -6,26 +6,28 @@ use Rattle.message_frames.specs.Frames.{Sent, answer_bytes, position_bytes}
 use Rattle.message_frames.specs.declared.frame.Kind.{Kind}
 use Rattle.message_frames.specs.declared.frame.Kind.TheVariants.{Do, By, Ask}
 use Rattle.message_laws.specs.NearRounds.{Near}
-use Rattle.message_session.specs.Account.{MessageAccount, AnswersAreStored, IsToldIn, with_frames}
-use Rattle.message_session.specs.Answers.{answers_of, each_frame}
+use Rattle.message_session.specs.Account.{MessageAccount, AnswersAreStored, IsPositionToldIn, with_frames}
+use Rattle.message_session.specs.FrameAnswers.{answers_of, each_frame}
 use Rattle.plist_state.specs.Sound.{IsSoundWorldState}
 use Rattle.plist_state.specs.State.{WorldState}
 use Rattle.prevalence_store.specs.calls.Store.{StoreView}
 use Rattle.sessions.specs.Streams.{Writes}
 use Rattle.messages.specs.declared.request.Request.{Request}
-use Rattle.messages.specs.Answers.{first_round}
+use Rattle.messages.specs.MessageAnswers.{first_round}
 use Rattle.messages.specs.Position.{position}
 use Rattle.store_laws.specs.Rounds.{Place}
 use Rattle.user_macros.specs.Functions.{Functions}
 
 -- ---- frames without a name
 
--- A message with a name is answered again by the table of clients. These laws are of the others.
+-- A frame is none of a message with a name: those are answered again by the table of clients, and these laws are of the
+-- others.
 abbrev pub HasNoName : Kind → Type 0
 HasNoName (Do number) = Unit {0}
 HasNoName (By number) = ⊥
 HasNoName Ask = Unit {0}
 
+-- none of these frames is of a message with a name
 abbrev pub HaveNoNames : List Sent → Type 0
 HaveNoNames frames = AllByRecursion (λ (frame : Sent). HasNoName frame.0) frames
 
@@ -37,26 +39,26 @@ pub record FrameHanding (D R : Type 0) : Type 0 where
   pub bytes : List ℕ
   pub frames : List Sent
 
--- the account after them
+-- the account after the answers to these frames were handed on, one time after the other
 abbrev pub account_after_frames : Functions → {D R : Type 0} → MessageAccount D → List (FrameHanding D R) → MessageAccount D
 account_after_frames functions account [] = account
 account_after_frames functions account (one ∷ more) = account_after_frames functions (with_frames functions one.frames one.store account) more
 
--- each as the recipient asks, of frames without a name
+-- the answers to frames without a name were handed on one time after the other, each time as the recipient asks
 abbrev pub FramesAreHanded : Functions → {D R : Type 0} → (D → State) → MessageAccount D → List (FrameHanding D R) → Type 0
 FramesAreHanded functions state account [] = Unit {0}
 FramesAreHanded functions state account (one ∷ more) =
     AnswersAreStored functions state account one.store one.frames one.bytes × HaveNoNames one.frames × FramesAreHanded functions state (with_frames functions one.frames one.store account) more
 
 -- an account as it begins with the position
-pub record IsFirst {D : Type 0} (account : MessageAccount D) : Type 0 where
+pub record IsFirstMessageAccount {D : Type 0} (account : MessageAccount D) : Type 0 where
   pub none : account.answered ≡ []
-  pub told : IsToldIn account.last account.now
+  pub told : IsPositionToldIn account.last account.now
   pub sound : IsSoundWorldState account.now
 
 -- ---- as rounds of requests
 
--- a message without a name has a number, a question none
+-- the number of a message without a name; None for a question, which has none, and for a message with a name
 abbrev pub number_with : Kind → Option ℕ
 number_with (Do number) = Some number
 number_with (By number) = None
@@ -78,15 +80,15 @@ pub record AccountTellsPlace {D : Type 0} (place : Place) (account : MessageAcco
 -- ---- fed again
 
 -- whether a frame, or an answer, is that of a message over this number
-abbrev pub is_over : ℕ → Kind → Bool
-is_over n (Do number) = nat_lt n number
-is_over n (By number) = false
-is_over n Ask = false
+abbrev pub is_message_over : ℕ → Kind → Bool
+is_message_over n (Do number) = nat_lt n number
+is_message_over n (By number) = false
+is_message_over n Ask = false
 
 -- of these frames those of messages over this number, in order
 abbrev pub over : ℕ → List Sent → List Sent
 over n [] = []
-over n (one ∷ more) = if is_over n one.0 then one ∷ over n more else over n more
+over n (one ∷ more) = if is_message_over n one.0 then one ∷ over n more else over n more
 
 -- the position that an opening tells of this world, 0 if it has none
 abbrev pub told_position : WorldState → ℕ

@@ -2,10 +2,10 @@
 ghost use Rattle.std.specs.Prelude.{◌≡◌, ℕ, List, [], ◌∷◌, ◌++◌, Option, Some};
 ghost use Rattle.std.specs.List.{AllByRecursion, flat_map};
 ghost use Rattle.disk_trait.specs.Disk.{Image, IsHonest};
-ghost use Rattle.feeding_laws.specs.Feeding.{AreAnsweredAgain, FramesAreHanded, AccountTellsPlace, FeedsAgain, FrameHanding, HaveNoNames, IsFirst, account_after_frames, over, rounds_of_frames, told_position};
+ghost use Rattle.feeding_laws.specs.Feeding.{AreAnsweredAgain, FramesAreHanded, AccountTellsPlace, FeedsAgain, FrameHanding, HaveNoNames, IsFirstMessageAccount, account_after_frames, over, rounds_of_frames, told_position};
 ghost use Rattle.message_frames.specs.Frames.{IsFrame, Sent, frame_bytes};
 ghost use Rattle.message_session.specs.Account.{MessageAccount, AnswersAreStored, FramesAreUnderWay, with_frames};
-ghost use Rattle.message_session.specs.Sessions.{ServesMessages, text_limit};
+ghost use Rattle.message_session.specs.MessageSessions.{ServesMessages, text_limit};
 ghost use Rattle.plist_state.specs.State.{WorldState};
 ghost use Rattle.prevalence_store.specs.Theorem.{Keeps};
 ghost use Rattle.prevalence_store.specs.calls.Store.{StoreView};
@@ -43,7 +43,7 @@ pub fn feeding_again<D: Disk, R>()
     ensures while_stored { (functions : Functions) (account : MessageAccount D)
         (handings : List (FrameHanding D R)) (one : FrameHanding D R)
         → (more : List Sent) (image : Image) (now : WorldState)
-        → IsFirst account → IsHonest (D.state account.disk) → Keeps functions (D.state account.disk) account.now
+        → IsFirstMessageAccount account → IsHonest (D.state account.disk) → Keeps functions (D.state account.disk) account.now
         → FramesAreHanded functions D.state account handings
         → AnswersAreStored functions D.state (account_after_frames functions account handings) one.store one.frames one.bytes
         → HaveNoNames one.frames → HaveNoNames more
@@ -53,7 +53,7 @@ pub fn feeding_again<D: Disk, R>()
         (handings : List (FrameHanding D R))
         (store : StoreView D R)
         → (more : List Sent) (image : Image) (now : WorldState)
-        → IsFirst account → IsHonest (D.state account.disk) → Keeps functions (D.state account.disk) account.now
+        → IsFirstMessageAccount account → IsHonest (D.state account.disk) → Keeps functions (D.state account.disk) account.now
         → FramesAreHanded functions D.state account handings
         → (since : FramesAreUnderWay functions D.state (account_after_frames functions account handings) store)
         → HaveNoNames since.frames → HaveNoNames more

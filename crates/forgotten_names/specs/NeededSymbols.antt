@@ -12,6 +12,7 @@ use Rattle.package_table.specs.Readers.{package_names}
 use Rattle.plist_state.specs.Properties.{Symbol, Plist, Properties, list_at, same_symbol}
 use Rattle.plist_state.specs.State.{WorldState}
 
+-- whether a symbol is one of these
 abbrev pub stands_among : Symbol → List Symbol → Bool
 stands_among x xs = list_any (same_symbol x) xs
 

@@ -25,6 +25,6 @@ module _ (held : List Symbol) where
   abbrev pub without_unneeded_symbols : WorldState → WorldState
   without_unneeded_symbols s = record s { packages = kept_packages (is_kept s) s.packages }
 
-  -- these symbols, in the order of their homes and then of their names
+  -- the symbols that the world does not need, in the order of their homes and then of their names
   abbrev pub forgettable : WorldState → List Symbol
   forgettable s = filter (λ x. not (is_needed held s x)) (symbols s.packages)

@@ -30,12 +30,12 @@ use Rattle.evaluator.proofs.Widening.{standard_among, wider_operators}
 use Rattle.evaluator.proofs.WithoutBase.{value_without_base}
 use Rattle.evaluator.proofs.NumberedForms.{value_numbered}
 use Rattle.package_table.specs.Symbols.{symbols}
-use Rattle.form_eval.specs.Acceptance.{table_of, after_symbol, with_symbols, accepted_over, accept_over, accepted_by, accept_by, accept, asked_with, question_value}
+use Rattle.form_eval.specs.Acceptance.{packages_of_interning, after_symbol_interned, with_symbols_interned, accepted_over, accept_over, accepted_by, accept_by, accept, asked_with, question_value}
 
 -- ---- one that does not write
-symbol_still : (t : Table) (x : Symbol) (u : Table) → after_symbol t x ≡ Ok u → intern_changes t x.0 x.1 ≡ false → u ≡ t
+symbol_still : (t : Table) (x : Symbol) (u : Table) → after_symbol_interned t x ≡ Ok u → intern_changes t x.0 x.1 ≡ false → u ≡ t
 symbol_still t x u is none =
-    elim (after_intern t x.0 x.1) as (λ r. after_intern t x.0 x.1 ≡ r → table_of r ≡ Ok u → u ≡ t) [
+    elim (after_intern t x.0 x.1) as (λ r. after_intern t x.0 x.1 ≡ r → packages_of_interning r ≡ Ok u → u ≡ t) [
       | Ok q ↦ λ made same. sym (same_ok q.1 u same) ∙ intern_still t x.0 x.1 q.0 q.1 made none
       | Err e ↦ λ _ no. absurd (let other : Err e ≡ Ok u = no in cc)
     ] refl is
@@ -47,8 +47,8 @@ still_after_symbols names s (Err e) x still = record { same = tt }
 
 accepted_keeps : (names : List Name) (s : WorldState) (x : Object) → Keeps s (accept names s x)
 accepted_keeps names s x =
-    still_after_symbols names s (with_symbols s.packages (symbols x)) x
-    (one_unmoved after_symbol (λ u (y : Symbol). intern_changes u y.0 y.1) symbol_still s.packages false (symbols x))
+    still_after_symbols names s (with_symbols_interned s.packages (symbols x)) x
+    (one_unmoved after_symbol_interned (λ u (y : Symbol). intern_changes u y.0 y.1) symbol_still s.packages false (symbols x))
 
 pub accepted_silent : (names : List Name) (s : WorldState) (x : Object) (d : Done Object) → accept names s x ≡ Ok d → d.wrote ≡ false → d.state ≡ s
 accepted_silent names s x d is none = shown (accept names s x) (accepted_keeps names s x) is
@@ -65,7 +65,7 @@ module _ (names : List Name) where
   covered_after_symbols s (Err e) x = record { kept = tt }
 
   pub accepted_covers : (s : WorldState) (x : Object) (d : Done Object) → accept names s x ≡ Ok d → AreCovered names s.readtables → AreCovered names d.state.readtables
-  accepted_covers s x d is = shown (accept names s x) (covered_after_symbols s (with_symbols s.packages (symbols x)) x) is
+  accepted_covers s x d is = shown (accept names s x) (covered_after_symbols s (with_symbols_interned s.packages (symbols x)) x) is
     where
       shown : (o : Evaluation Object) → keeping.Keeps (Covers names) s o → o ≡ Ok d → AreCovered names s.readtables → AreCovered names d.state.readtables
       shown o keeps same = (subst (keeping.Keeps (Covers names) s) same keeps).kept
@@ -91,7 +91,7 @@ module _ (names : List Name) where
   with_symbols_without_base s (Err e) x d is = absurd (let no : Err (package_error_number e) ≡ Ok d = is in cc)
 
   pub accepted_without_base : (s : WorldState) (x : Object) (d : Done Object) → accept_by false names s x ≡ Ok d → (accept_by true names s x ≡ Ok d) × (d.state.read_base ≡ s.read_base)
-  accepted_without_base s x d is = with_symbols_without_base s (with_symbols s.packages (symbols x)) x d is
+  accepted_without_base s x d is = with_symbols_without_base s (with_symbols_interned s.packages (symbols x)) x d is
 
 -- ---- more operators
 module _ (based : Bool) (fewer more : OperatorTable) (wider : (s : WorldState) (x : Object) (d : Done Object) → value_over based fewer s x ≡ Ok d → value_over based more s x ≡ Ok d) where
@@ -105,7 +105,7 @@ module _ (based : Bool) (fewer more : OperatorTable) (wider : (s : WorldState) (
   with_symbols_too s (Err e) x d is = absurd (let no : Err (package_error_number e) ≡ Ok d = is in cc)
 
   pub accepted_with_values : (s : WorldState) (x : Object) (d : Done Object) → accept_over based fewer s x ≡ Ok d → accept_over based more s x ≡ Ok d
-  accepted_with_values s x d is = with_symbols_too s (with_symbols s.packages (symbols x)) x d is
+  accepted_with_values s x d is = with_symbols_too s (with_symbols_interned s.packages (symbols x)) x d is
 
 pub accepted_with_more : (based : Bool) (fewer more : OperatorTable) → AreOperatorsAmong fewer more → (s : WorldState) (x : Object) (d : Done Object)
     → accept_over based fewer s x ≡ Ok d → accept_over based more s x ≡ Ok d
@@ -116,10 +116,10 @@ pub accepted_as_before : (based : Bool) (names : List Name) (s : WorldState) (x 
 accepted_as_before based names s x d is = accepted_with_more based (standard_operator_of names) (operator_of names) (standard_among names) s x d is
 
 -- ---- numbers
-symbol_numbered : (u : Table) (y : Symbol) → IsPackagesNumbered (after_symbol u y)
+symbol_numbered : (u : Table) (y : Symbol) → IsPackagesNumbered (after_symbol_interned u y)
 symbol_numbered u y = of_table (after_intern u y.0 y.1) (numbered_intern u y.0 y.1)
   where
-    of_table : (r : Result (Name × Table) PackageError) → IsPackagesNumbered r → IsPackagesNumbered (table_of r)
+    of_table : (r : Result (Name × Table) PackageError) → IsPackagesNumbered r → IsPackagesNumbered (packages_of_interning r)
     of_table (Ok p) is = tt
     of_table (Err e) is = is
 
@@ -129,8 +129,8 @@ numbered_after_symbols names s (Err e) x is = record { number = is }
 
 accept_numbered : (names : List Name) (s : WorldState) (x : Object) → Numbered (accept names s x)
 accept_numbered names s x =
-    numbered_after_symbols names s (with_symbols s.packages (symbols x)) x
-    (one_numbered after_symbol (λ u (y : Symbol). intern_changes u y.0 y.1) symbol_numbered s.packages false (symbols x))
+    numbered_after_symbols names s (with_symbols_interned s.packages (symbols x)) x
+    (one_numbered after_symbol_interned (λ u (y : Symbol). intern_changes u y.0 y.1) symbol_numbered s.packages false (symbols x))
 
 pub accepted_numbered : (names : List Name) (s : WorldState) (x : Object) (code : ℕ) → accept names s x ≡ Err code → (30 ≤ code) × (code ≤ 47)
 accepted_numbered names s x code is = (subst Numbered is (accept_numbered names s x)).number
@@ -141,4 +141,4 @@ answered_after_symbols names s (Ok p) x = (p.1, refl)
 answered_after_symbols names s (Err e) x = (false, refl)
 
 pub accepted_as_asked : (names : List Name) (s : WorldState) (x : Object) → (new : Bool) × (accept names s x ≡ also new (question_value names s x))
-accepted_as_asked names s x = answered_after_symbols names s (with_symbols s.packages (symbols x)) x
+accepted_as_asked names s x = answered_after_symbols names s (with_symbols_interned s.packages (symbols x)) x

@@ -14,7 +14,7 @@ use Rattle.lisp_operators.specs.Effects.{Leaves, effect}
 use Rattle.lisp_operators.specs.EvaluationAnswers.{Answers}
 use Rattle.lisp_operators.specs.Evaluation.{Done, Evaluation, also}
 use Rattle.evaluator.specs.Value.{value}
-use Rattle.form_eval.specs.Acceptance.{accept, accepted_by, with_symbols}
+use Rattle.form_eval.specs.Acceptance.{accept, accepted_by, with_symbols_interned}
 
 abbrev written_before : Bool → Result (WorldState × Bool) ℕ → Result (WorldState × Bool) ℕ
 written_before interned (Ok p) = Ok (p.0, interned || p.1)
@@ -24,7 +24,7 @@ effect_also : (interned : Bool) (o : Evaluation Object) → effect (also interne
 effect_also interned (Ok d) = refl
 effect_also interned (Err code) = refl
 
-module _ (names : List Name) (s v t : WorldState) (x : Object) (interned : Bool) (there : with_symbols s.packages (symbols x) ≡ Ok (v.packages, interned)) (rest : v ≡ with_packages s v.packages) where
+module _ (names : List Name) (s v t : WorldState) (x : Object) (interned : Bool) (there : with_symbols_interned s.packages (symbols x) ≡ Ok (v.packages, interned)) (rest : v ≡ with_packages s v.packages) where
   pub accepted : accept names s x ≡ also interned (value names v x)
   accepted = (λ i. accepted_by true names s (there i) x) ∙ ap (λ w. also interned (value names w x)) (sym rest)
 

@@ -17,7 +17,7 @@ use Rattle.package_table.specs.Limits.{most_symbols, longest_symbol_name}
 use Rattle.package_table.specs.Changes.{AnswersPackages, intern_changes, with_new_symbol}
 use Rattle.package_table.proofs.Found.{present_found}
 use Rattle.package_table.specs.Symbols.{symbols}
-use Rattle.form_eval.specs.Acceptance.{table_of, after_symbol}
+use Rattle.form_eval.specs.Acceptance.{packages_of_interning, after_symbol_interned}
 
 pub symbols_pairs : (items : List Datum) (end' : Object) → symbols (pairs (map object_of items) end') ≡ flat_map (λ d. symbols (object_of d)) items ++ symbols end'
 symbols_pairs [] end' = refl
@@ -38,17 +38,17 @@ symbols_vector s items =
     append_assoc s (of_items items) (symbols nil) ∙ ap (λ xs. s ++ xs) (sym (symbols_pairs items nil) ∙ ap symbols (sym (object_of-Vector items)))
 
 -- what interning answers, of the packages alone
-pub interned_gives : {A : Type 0} (view : A → Name × Table) (e : PackageError) (r : Result (Name × Table) PackageError) → AnswersPackages view (Err e) r → AnswersPackages {A = Table} (λ t. t) (Err e) (table_of r)
-interned_gives view NoPackage r h = ap table_of h
-interned_gives view NotExternal r h = ap table_of h
-interned_gives view LockedPackage r h = ap table_of h
-interned_gives view EmptyName r h = ap table_of h
-interned_gives view NoSuchPackage r h = ap table_of h
-interned_gives view PackageExists r h = ap table_of h
-interned_gives view PackageIsLocked r h = ap table_of h
-interned_gives view NameConflict r h = ap table_of h
-interned_gives view NotAccessible r h = ap table_of h
-interned_gives view Limit r h = ap table_of h
+pub interned_gives : {A : Type 0} (view : A → Name × Table) (e : PackageError) (r : Result (Name × Table) PackageError) → AnswersPackages view (Err e) r → AnswersPackages {A = Table} (λ t. t) (Err e) (packages_of_interning r)
+interned_gives view NoPackage r h = ap packages_of_interning h
+interned_gives view NotExternal r h = ap packages_of_interning h
+interned_gives view LockedPackage r h = ap packages_of_interning h
+interned_gives view EmptyName r h = ap packages_of_interning h
+interned_gives view NoSuchPackage r h = ap packages_of_interning h
+interned_gives view PackageExists r h = ap packages_of_interning h
+interned_gives view PackageIsLocked r h = ap packages_of_interning h
+interned_gives view NameConflict r h = ap packages_of_interning h
+interned_gives view NotAccessible r h = ap packages_of_interning h
+interned_gives view Limit r h = ap packages_of_interning h
 interned_gives view OutOfMemory (Ok p) h = h
 interned_gives view OutOfMemory (Err e) h = absurd cc
 
@@ -69,8 +69,8 @@ module _ (t : Table) (h n : Name) (there : IsPresent t h n h) where
   abbrev others : Result (Name × Table) PackageError
   others = if bytes_eq h common_lisp then Err PackageIsLocked else (if nat_lt longest_symbol_name (length n) || nat_le most_symbols (symbol_count t) then Err Limit else Ok (h, with_new_symbol t h n))
 
-  pub interned_there : after_symbol t (h, n) ≡ Ok t
-  interned_there = λ i. table_of (if not (is_package i) then Err NoSuchPackage else option_map_or (λ g. Ok (g, t)) (present_found t n h h there i) others)
+  pub interned_there : after_symbol_interned t (h, n) ≡ Ok t
+  interned_there = λ i. packages_of_interning (if not (is_package i) then Err NoSuchPackage else option_map_or (λ g. Ok (g, t)) (present_found t n h h there i) others)
 
   pub old_there : intern_changes t h n ≡ false
   old_there = ap is_none (present_found t n h h there)

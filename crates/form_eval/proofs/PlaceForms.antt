@@ -9,9 +9,9 @@ use Rattle.plist_state.specs.Properties.{Symbol}
 use Rattle.plist_state.specs.State.{WorldState}
 use Rattle.plist_state.specs.Changes.{property, with_property}
 use Rattle.lisp_operators.specs.Evaluation.{Evaluation, gives, writes, also, and_then, of_kind}
-use Rattle.lisp_operators.specs.Kinds.{an_integer}
+use Rattle.lisp_operators.specs.ArgumentKinds.{an_integer}
 use Rattle.lisp_operators.specs.Properties.{set, is_in_range}
-use Rattle.lisp_operators.specs.Places.{parted}
+use Rattle.lisp_operators.specs.PropertyPlaces.{parted}
 use Rattle.value_functions.specs.FunctionAnswers.{FunctionValue}
 use Rattle.value_functions.specs.Functions.{function_named}
 use Rattle.value_functions.specs.Lists.{car, cdr}

@@ -29,7 +29,7 @@ use Rattle.lisp_operators.specs.Evaluation.{Done}
 use Rattle.lisp_operators.specs.Packages.{one_by_one, then_others}
 use Rattle.evaluator.specs.Value.{value}
 use Rattle.package_table.specs.Symbols.{symbols}
-use Rattle.form_eval.specs.Acceptance.{table_of, after_symbol, with_symbols, accepted_by, accept}
+use Rattle.form_eval.specs.Acceptance.{packages_of_interning, after_symbol_interned, with_symbols_interned, accepted_by, accept}
 use Rattle.lisp_operators.specs.Readtables.{AreFunctionNames}
 use Rattle.form_eval.specs.Laws.{FitsTable, IsForm, IsSoundAfter}
 use Rattle.lisp_operators.proofs.Good.{Goods, goods_also}
@@ -59,9 +59,9 @@ record Step (u v : Table) (y : Symbol) : Type 0 where
   present : IsSymbol v y
   others : (z : Symbol) → CanIntern u z → CanIntern v z
 
-step : (u : Table) (y : Symbol) (v : Table) → packages.AreSoundPackages u → CanIntern u y → after_symbol u y ≡ Ok v → Step u v y
+step : (u : Table) (y : Symbol) (v : Table) → packages.AreSoundPackages u → CanIntern u y → after_symbol_interned u y ≡ Ok v → Step u v y
 step u y v sound can is =
-    elim (after_intern u y.0 y.1) as (λ r. after_intern u y.0 y.1 ≡ r → table_of r ≡ Ok v → Step u v y) [
+    elim (after_intern u y.0 y.1) as (λ r. after_intern u y.0 y.1 ≡ r → packages_of_interning r ≡ Ok v → Step u v y) [
       | Ok q ↦ λ made same. subst (λ w. Step u w y) (same_ok q.1 v same) (of_intern q.0 q.1 made)
       | Err e ↦ λ _ no. absurd (let other : Err e ≡ Ok v = no in cc)
     ] refl is
@@ -110,13 +110,13 @@ all_can u v (y ∷ ys) others all = All-cons (CanIntern v) y ys (others y (All-h
 abbrev pub changes : Table → Symbol → Bool
 changes u y = intern_changes u y.0 y.1
 
-pub all_interned : (u : Table) (wrote : Bool) (ys : List Symbol) → packages.AreSoundPackages u → All (CanIntern u) ys → InternedWhere u ys (one_by_one after_symbol changes u wrote ys)
+pub all_interned : (u : Table) (wrote : Bool) (ys : List Symbol) → packages.AreSoundPackages u → All (CanIntern u) ys → InternedWhere u ys (one_by_one after_symbol_interned changes u wrote ys)
 all_interned u wrote [] sound all = record { sound = sound; grows = grows_same u; present = All-nil (IsSymbol u) }
 all_interned u wrote (y ∷ ys) sound all =
-    elim (after_symbol u y) as (λ r. after_symbol u y ≡ r → InternedWhere u (y ∷ ys) (then_others r (λ later. one_by_one after_symbol changes later (wrote || changes u y) ys))) [
+    elim (after_symbol_interned u y) as (λ r. after_symbol_interned u y ≡ r → InternedWhere u (y ∷ ys) (then_others r (λ later. one_by_one after_symbol_interned changes later (wrote || changes u y) ys))) [
       | Ok v ↦ λ is.
           let done = step u y v sound (All-head (CanIntern u) y ys all) is in
-          one_more u v y ys (one_by_one after_symbol changes v (wrote || changes u y) ys) done
+          one_more u v y ys (one_by_one after_symbol_interned changes v (wrote || changes u y) ys) done
           (all_interned v (wrote || changes u y) ys done.sound (all_can u v ys done.others (All-tail (CanIntern u) y ys all)))
       | Err e ↦ λ _. tt
     ] refl
@@ -160,7 +160,7 @@ all_of_mapped P f [] all = All-nil (λ x. P (f x))
 all_of_mapped P f (x ∷ xs) all = All-cons (λ x. P (f x)) x xs (All-head P (f x) (map f xs) all) (all_of_mapped P f xs (All-tail P (f x) (map f xs) all))
 
 -- where the symbols of a form are interned, it can be evaluated
-pub form_may : (s : WorldState) (x : Object) (v : Table) (wrote : Bool) → packages.AreSoundPackages s.packages → IsForm s.packages x → with_symbols s.packages (symbols x) ≡ Ok (v, wrote) → IsValue v x
+pub form_may : (s : WorldState) (x : Object) (v : Table) (wrote : Bool) → packages.AreSoundPackages s.packages → IsForm s.packages x → with_symbols_interned s.packages (symbols x) ≡ Ok (v, wrote) → IsValue v x
 form_may s x v wrote sound form is =
     let done : AllInterned s.packages v (symbols x) = subst (InternedWhere s.packages (symbols x)) is (all_interned s.packages false (symbols x) sound (symbols_can s.packages x form.object form.symbols)) in
     record { object = form.object; depth = form.depth; symbols = known_from s.packages v x form.symbols done.present }
@@ -176,7 +176,7 @@ module _ (names : List Name) (all : AreFunctionNames names) (s : WorldState) (x 
 
   of_accepted : Goods IsValue s (accept names s x)
   of_accepted =
-      after_symbols (with_symbols s.packages (symbols x))
+      after_symbols (with_symbols_interned s.packages (symbols x))
       (all_interned s.packages false (symbols x) sound.packages (symbols_can s.packages x form.object form.symbols))
 
 pub accepted_sound : (names : List Name) (s : WorldState) (x : Object) (d : Done Object) → AreFunctionNames names → IsSoundWorldState s → IsForm s.packages x → accept names s x ≡ Ok d → IsSoundAfter s d

@@ -17,32 +17,33 @@ use Rattle.lisp_operators.specs.Packages.{one_by_one}
 use Rattle.evaluator.specs.Operators.{OperatorTable, operator_of}
 use Rattle.evaluator.specs.Value.{value, value_over}
 
--- the packages alone
-abbrev pub table_of : Result (Name × Table) PackageError → Result Table PackageError
-table_of (Ok p) = Ok p.1
-table_of (Err e) = Err e
+-- of what interning gives the packages alone, or its error
+abbrev pub packages_of_interning : Result (Name × Table) PackageError → Result Table PackageError
+packages_of_interning (Ok p) = Ok p.1
+packages_of_interning (Err e) = Err e
 
--- a symbol is interned in its home
-abbrev pub after_symbol : Table → Symbol → Result Table PackageError
-after_symbol packages x = table_of (after_intern packages x.0 x.1)
+-- the packages after a symbol was interned in its home, or why it may not be
+abbrev pub after_symbol_interned : Table → Symbol → Result Table PackageError
+after_symbol_interned packages x = packages_of_interning (after_intern packages x.0 x.1)
 
--- whether it is new there
-abbrev pub is_new : Table → Symbol → Bool
-is_new packages x = intern_changes packages x.0 x.1
+-- whether it changes the packages that a symbol is interned in its home
+abbrev pub is_new_symbol : Table → Symbol → Bool
+is_new_symbol packages x = intern_changes packages x.0 x.1
 
--- with these symbols, and whether one of them is new
-abbrev pub with_symbols : Table → List Symbol → Result (Table × Bool) PackageError
-with_symbols packages xs = one_by_one after_symbol is_new packages false xs
+-- the packages after these symbols were interned one by one, and whether that changed them; or why one of them may not be
+abbrev pub with_symbols_interned : Table → List Symbol → Result (Table × Bool) PackageError
+with_symbols_interned packages xs = one_by_one after_symbol_interned is_new_symbol packages false xs
 
--- The value of a form, the state after it and whether it wrote; or the number of the refusal, and then nothing has changed. The
--- test in front is whether *READ-BASE* is a variable, as it is for `accept`. A table says which objects are operators.
+-- What a form gives whose symbols were interned with this outcome: its value, the state after it and whether it wrote; or
+-- the number of the refusal, and then nothing has changed. The test in front is whether *READ-BASE* is a variable, as it is
+-- for `accept`. A table says which objects are operators.
 abbrev pub accepted_over : Bool → OperatorTable → WorldState → Result (Table × Bool) PackageError → Object → Evaluation Object
 accepted_over based table s (Ok p) x = also p.1 (value_over based table (with_packages s p.0) x)
 accepted_over based table s (Err e) x = Err (package_error_number e)
 
--- the same of a form whose symbols are interned first
+-- `accepted_over` of a form whose symbols are interned first
 abbrev pub accept_over : Bool → OperatorTable → WorldState → Object → Evaluation Object
-accept_over based table s x = accepted_over based table s (with_symbols s.packages (symbols x)) x
+accept_over based table s x = accepted_over based table s (with_symbols_interned s.packages (symbols x)) x
 
 -- `accepted_over` by the operators that there are, where these are the names of the program's macro functions
 abbrev pub accepted_by : Bool → List Name → WorldState → Result (Table × Bool) PackageError → Object → Evaluation Object
@@ -66,9 +67,10 @@ abbrev pub asked_with : List Name → WorldState → Result (Table × Bool) Pack
 asked_with names s (Ok p) x = value names (with_packages s p.0) x
 asked_with names s (Err e) x = Err (package_error_number e)
 
--- What a form as a question gives.
+-- What a form as a question gives: its value, the state after it and whether its evaluation wrote; or the number of its
+-- refusal.
 abbrev pub question_value : List Name → WorldState → Object → Evaluation Object
-question_value names s x = asked_with names s (with_symbols s.packages (symbols x)) x
+question_value names s x = asked_with names s (with_symbols_interned s.packages (symbols x)) x
 
 -- a form as a question is answered what the definition says, from the first of two states to the second
 abbrev pub AnswersQuestion : List Name → Object → WorldState → WorldState → Result Evaluated EvaluationError → Type 0

@@ -13,24 +13,30 @@ quote_form x = list_of (symbol common_lisp (codes "QUOTE") ∷ x ∷ [])
 abbrev pub get_form : Symbol → Symbol → Object
 get_form x i = list_of (symbol common_lisp (codes "GET") ∷ quote_form (symbol x.0 x.1) ∷ quote_form (symbol i.0 i.1) ∷ [])
 
--- the operators that change a place, each as the form with its arguments
+-- SETF of a place to the value of a form
 abbrev pub setf_form : Object → Object → Object
 setf_form place form = list_of (symbol common_lisp (codes "SETF") ∷ place ∷ form ∷ [])
 
+-- INCF of a place by the value of a form
 abbrev pub incf_form : Object → Object → Object
 incf_form place amount = list_of (symbol common_lisp (codes "INCF") ∷ place ∷ amount ∷ [])
 
+-- DECF of a place by the value of a form
 abbrev pub decf_form : Object → Object → Object
 decf_form place amount = list_of (symbol pazturrok (codes "DECF") ∷ place ∷ amount ∷ [])
 
+-- POP of a place
 abbrev pub pop_form : Object → Object
 pop_form place = list_of (symbol pazturrok (codes "POP") ∷ place ∷ [])
 
+-- CAR of the value of a form
 abbrev pub car_form : Object → Object
 car_form form = list_of (symbol pazturrok (codes "CAR") ∷ form ∷ [])
 
+-- CDR of the value of a form
 abbrev pub cdr_form : Object → Object
 cdr_form form = list_of (symbol pazturrok (codes "CDR") ∷ form ∷ [])
 
+-- PROG1 of two forms: the value is that of the first
 abbrev pub prog1_form : Object → Object → Object
 prog1_form one other = list_of (symbol pazturrok (codes "PROG1") ∷ one ∷ other ∷ [])

@@ -6,7 +6,7 @@ ghost use Rattle.package_table.specs.Changes.{AnswersPackages};
 ghost use Rattle.plist_state.specs.Changes.{with_packages};
 ghost use Rattle.lisp_operators.specs.EvaluationAnswers.{MakesPackages};
 ghost use Rattle.plist_state.specs.Readers.{borrowed_symbol, borrowed_symbols};
-ghost use Rattle.form_eval.specs.Acceptance.{after_symbol, with_symbols, is_new};
+ghost use Rattle.form_eval.specs.Acceptance.{after_symbol_interned, with_symbols_interned, is_new_symbol};
 
 use lisp_operators::either;
 use package_table::PackageError;
@@ -51,8 +51,8 @@ fn is_always_there(home: &[u8], name: &[u8]) -> bool
 fn intern_one(world: &mut World, symbol: &(&[u8], &[u8])) -> Result<bool, PackageError>
     requires { All (λ b. b < 128) symbol.now.1.now }
     ensures gives { AnswersPackages (λ _. world.new.0.packages) result
-        (after_symbol world.old.0.packages (borrowed_symbol symbol.now)) }
-    ensures is_new { IfOk result (λ b. b ≡ is_new world.old.0.packages (borrowed_symbol symbol.now)) }
+        (after_symbol_interned world.old.0.packages (borrowed_symbol symbol.now)) }
+    ensures is_new { IfOk result (λ b. b ≡ is_new_symbol world.old.0.packages (borrowed_symbol symbol.now)) }
     ensures rest { world.new ≡ (with_packages world.old.0 world.new.0.packages, world.old.1) }
     ensures unchanged { IfErr result (λ _. world.new ≡ world.old) }
 {
@@ -77,7 +77,7 @@ pub(crate) fn intern_all(
 ) -> Result<bool, PackageError>
     requires { All (λ p. All (λ b. b < 128) p.1.now) symbols.now }
     ensures gives { MakesPackages result world.new.0.packages
-        (with_symbols world.old.0.packages (borrowed_symbols symbols.now)) }
+        (with_symbols_interned world.old.0.packages (borrowed_symbols symbols.now)) }
     ensures rest { world.new ≡ (with_packages world.old.0 world.new.0.packages, world.old.1) }
 {
     let mut wrote = false;

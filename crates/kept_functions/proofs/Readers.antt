@@ -10,7 +10,7 @@ use Rattle.lisp_object.specs.Datum.{object_of, is_proper}
 use Rattle.package_table.specs.Table.{Name, keyword}
 use Rattle.plist_state.specs.State.{WorldState}
 use Rattle.plist_state.specs.Changes.{property}
-use Rattle.lisp_operators.specs.Kinds.{is_pair}
+use Rattle.lisp_operators.specs.ArgumentKinds.{is_pair}
 use Rattle.lisp_operators.proofs.Shapes.{pair_at}
 use Rattle.value_functions.specs.Sequences.{items_of}
 use Rattle.kept_functions.specs.ReaderFunctions.{way_written, way_by_items, is_lisp_name, reader_function_in, reader_definition_of, reader_indicator, ReaderDefinition}

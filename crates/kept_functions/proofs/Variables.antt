@@ -11,7 +11,7 @@ use Rattle.lisp_object.specs.declared.datum.Datum.{Datum}
 use Rattle.lisp_object.specs.Object.{Object, integer, rational, character, text, symbol, uninterned, pair, vector}
 use Rattle.lisp_object.specs.Datum.{object_of}
 use Rattle.plist_state.specs.Properties.{Symbol}
-use Rattle.lisp_operators.specs.Kinds.{a_symbol}
+use Rattle.lisp_operators.specs.ArgumentKinds.{a_symbol}
 use Rattle.lisp_operators.specs.EvaluationAnswers.{objects}
 use Rattle.lisp_operators.specs.Members.{each_in, symbol_of_member, symbols_in}
 use Rattle.kept_functions.proofs.Members.{each_found}

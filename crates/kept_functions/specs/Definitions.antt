@@ -7,7 +7,7 @@ use Rattle.plist_state.specs.Properties.{Symbol}
 use Rattle.plist_state.specs.State.{WorldState}
 use Rattle.plist_state.specs.Changes.{property}
 use Rattle.lisp_operators.specs.Evaluation.{Evaluation, gives, and_then, of_kind}
-use Rattle.lisp_operators.specs.Kinds.{a_symbol}
+use Rattle.lisp_operators.specs.ArgumentKinds.{a_symbol}
 use Rattle.lisp_operators.specs.Packages.{intern}
 use Rattle.lisp_operators.specs.Properties.{set}
 use Rattle.value_functions.specs.Sequences.{items_of}

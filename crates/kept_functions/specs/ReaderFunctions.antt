@@ -15,7 +15,7 @@ use Rattle.user_macros.specs.declared.call.Gather.TheVariants.{Nothing, Next, Un
 use Rattle.user_macros.specs.Calls.{Material, nothing, one, many, text as letters, MacroCall, MacroAnswer, value, no_value, refused}
 use Rattle.user_macros.specs.Functions.{Functions}
 use Rattle.lisp_operators.specs.Evaluation.{Evaluation, of_kind}
-use Rattle.lisp_operators.specs.Kinds.{a_keyword, a_character}
+use Rattle.lisp_operators.specs.ArgumentKinds.{a_keyword, a_character}
 use Rattle.value_functions.specs.Sequences.{items_of}
 use Rattle.evaluator.specs.Operators.{pazturrok}
 use Rattle.kept_functions.specs.Definitions.{Definition, definition_among, kept_beside}

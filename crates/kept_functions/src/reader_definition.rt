@@ -2,7 +2,7 @@
 ghost use Rattle.std.specs.Prelude.{◌≡◌, IfSome, option_map, option_and_then, bytes_eq};
 ghost use Rattle.lisp_object.specs.Datum.{object_of};
 ghost use Rattle.lisp_operators.specs.EvaluationAnswers.{IsProper, AreProper, objects};
-ghost use Rattle.lisp_operators.specs.Kinds.{a_keyword, a_character};
+ghost use Rattle.lisp_operators.specs.ArgumentKinds.{a_keyword, a_character};
 ghost use Rattle.kept_functions.specs.ReaderFunctions.{is_lisp_name, way_named, way_up_to, way_by_items, way_written, reader_function_of_items, reader_definition_of, reader_function_in};
 ghost use Rattle.value_functions.specs.Sequences.{items_of};
 ghost use Rattle.kept_functions.specs.KeptFunctions.{stored_reader, IsProperDefinition};

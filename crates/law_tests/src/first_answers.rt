@@ -3,7 +3,7 @@ ghost use Rattle.std.specs.Prelude.{◌≡◌, ◌++◌, ◌<◌, ◌-◌, ◌^�
 ghost use Rattle.disk_trait.specs.Disk.{Image, IsHonest};
 ghost use Rattle.feeding_laws.specs.Feeding.{FeedsAgain, HaveNoNames};
 ghost use Rattle.message_frames.specs.Frames.{Sent, sent_frame};
-ghost use Rattle.message_session.specs.Account.{MessageAccount, AnswersAreStored, IsToldIn, first_message_account};
+ghost use Rattle.message_session.specs.Account.{MessageAccount, AnswersAreStored, IsPositionToldIn, first_message_account};
 ghost use Rattle.plist_state.specs.Sound.{IsSoundWorldState};
 ghost use Rattle.plist_state.specs.State.{WorldState};
 ghost use Rattle.prevalence_store.specs.Theorem.{Keeps};
@@ -50,7 +50,7 @@ impl<D: Disk, M: MacroFunctions> FirstAnswers<D, M> {
         requires stored { (kept : MessageAccount D) → account_by self.now.position self.now.start.value ≡ Some kept
             → AnswersAreStored M.Meaning.functions D.state kept store.now (map sent_frame frames.now) bytes.now }
         ensures { (kept : MessageAccount D) → account_by self.now.position self.now.start.value ≡ Some kept
-            → IsToldIn kept.last kept.now → IsSoundWorldState kept.now
+            → IsPositionToldIn kept.last kept.now → IsSoundWorldState kept.now
             → IsHonest (D.state kept.disk) → Keeps M.Meaning.functions (D.state kept.disk) kept.now
             → (more : List Sent) (image : Image) (now : WorldState)
             → HaveNoNames (map sent_frame frames.now) → HaveNoNames more

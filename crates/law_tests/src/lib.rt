@@ -8,6 +8,7 @@
 //! - `carried_out`: a form that is carried out in a world; `answers`: a form that a store answers as an earlier program did
 //! - `texts`: two worlds with the same text; `parts`: the export of the data of a world, and what each of its parts makes
 //! - `batches`: records that come together, and what a crash leaves of their bytes; `batch_writes`: the writes of such records to a half
+//! - `halves`: what a half of version 3 holds as it is read, and one of its records
 //! - `mixing`: a write on a disk that mixes; `ordered`: a crash between two orders of a disk that somebody else carries out
 //! - `in_use`: logs whose disks read the same
 //! - `read_back`: an answer that is read back from its bytes
@@ -27,6 +28,8 @@ mod batches;
 mod carried_out;
 #[cfg(test)]
 mod first_answers;
+#[cfg(test)]
+mod halves;
 #[cfg(test)]
 mod in_use;
 #[cfg(test)]

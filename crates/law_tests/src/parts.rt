@@ -2,7 +2,7 @@
 ghost use Rattle.std.specs.Prelude.{◌≡◌, ◌∷◌, ◌++◌, [], ℕ, List, IfOk, IfSome, IsTrue, Some, true};
 ghost use Rattle.std.specs.FinMap as finite;
 ghost use Rattle.export_laws.specs.Objects.{after_each, property_objects};
-ghost use Rattle.export_laws.specs.Texts.{Makes, ReadsAsExported, with_data_of};
+ghost use Rattle.export_laws.specs.ExportedTexts.{Makes, ReadsAsExported, with_data_of};
 ghost use Rattle.package_table.specs.Table.{Name};
 ghost use Rattle.plist_state.specs.State.{WorldState, first_readtables, initial};
 ghost use Rattle.snapshot_text.specs.BuiltWorlds.{with_packages_of, with_properties_of};

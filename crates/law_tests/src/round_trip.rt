@@ -8,7 +8,7 @@ ghost use Rattle.lisp_object.specs.Object.{IsSound, object_depth};
 ghost use Rattle.lisp_reading.specs.Reading.{form, space_at};
 ghost use Rattle.package_table.specs.Table.{IsPackage};
 ghost use Rattle.readtable_core.specs.Tables.{standard};
-ghost use Rattle.world_text.specs.Tokens.{AreTokensWithin, ends_with_token};
+ghost use Rattle.world_text.specs.PrintedTokens.{AreTokensWithin, ends_with_token};
 
 use canon_printer::{print, printed_symbols_are_found};
 use form_reader::{Limits, ReadOutcome, read_one};

@@ -3,7 +3,7 @@ ghost use Rattle.std.specs.Prelude.{◌≡◌, ◌∷◌, ◌<◌, ◌-◌, ◌^
 ghost use Rattle.client_table.specs.Entries.{KeptMessage, entry, is_of};
 ghost use Rattle.client_table.specs.Named.{told_again};
 ghost use Rattle.client_table.specs.Names.{client_name_in, form_in, is_client_name};
-ghost use Rattle.messages.specs.Answers.{first_round, without_its_position};
+ghost use Rattle.messages.specs.MessageAnswers.{first_round, without_its_position};
 ghost use Rattle.messages.specs.Rounds.{told_in};
 ghost use Rattle.plist_state.specs.State.{WorldState};
 

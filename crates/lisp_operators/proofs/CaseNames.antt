@@ -9,7 +9,7 @@ use Rattle.readtable_core.specs.Cases.{case_name, case_names}
 use Rattle.readtable_core.specs.Names.{is_among}
 use Rattle.readtable_core.proofs.Named.{case_known}
 use Rattle.package_table.specs.Table.{Name}
-use Rattle.lisp_operators.specs.Kinds.{case_named}
+use Rattle.lisp_operators.specs.ArgumentKinds.{case_named}
 
 -- one test of the chain, where the tests after it tell the name
 one_test : (name : Name) (k l : Case) (others : Option Case) → (others ≡ Some l → name ≡ case_name l)

@@ -20,7 +20,7 @@ use Rattle.plist_state.specs.declared.error.ReadtableError.TheVariants.{NoReadta
 use Rattle.plist_state.specs.Properties.{Symbol, Properties, with_value, with_list}
 use Rattle.plist_state.specs.State.{Readtables, WorldState, standard_name}
 use Rattle.plist_state.specs.Changes.{plist, property, without_property, with_packages, with_base, after_in_readtable, with_case, with_macro, with_dispatching, with_dispatch, with_syntax, with_copy, in_state}
-use Rattle.lisp_operators.specs.Kinds.{a_symbol, a_name, a_text, an_integer, a_character, a_keyword, a_source, a_case, one_or_each, given_or, given_or_nil, is_true}
+use Rattle.lisp_operators.specs.ArgumentKinds.{a_symbol, a_name, a_text, an_integer, a_character, a_keyword, a_source, a_case, one_or_each, given_or, given_or_nil, is_true}
 use Rattle.lisp_operators.specs.Evaluation.{Evaluation, gives}
 use Rattle.lisp_operators.specs.Properties.{t, if_within_limits, list, get, set, removed_property, remove, in_turn, symbol_plist, amount, is_in_range, increment, push}
 use Rattle.lisp_operators.specs.Packages.{in_package, made_package, make, enter, interned_symbol, intern, changed, unlocked, export, import, use_all, packages_named, use_package}

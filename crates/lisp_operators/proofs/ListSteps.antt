@@ -19,7 +19,7 @@ use Rattle.plist_state.specs.Changes.{with_packages}
 use Rattle.lisp_operators.specs.declared.error.EvaluationError.{EvaluationError}
 use Rattle.lisp_operators.specs.declared.error.EvaluationError.TheVariants.{Refused, OutOfMemory as NoMemory}
 use Rattle.lisp_operators.specs.declared.evaluated.Evaluated.{Evaluated}
-use Rattle.lisp_operators.specs.Kinds.{a_symbol, a_name, one_or_each, given_or}
+use Rattle.lisp_operators.specs.ArgumentKinds.{a_symbol, a_name, one_or_each, given_or}
 use Rattle.lisp_operators.specs.Evaluation.{Evaluation, of_kind}
 use Rattle.lisp_operators.specs.Properties.{t}
 use Rattle.lisp_operators.specs.Packages.{export, import, use_package, use_all, in_package, unlocked, changed, after_exports, after_imports, after_uses, packages_named}

@@ -24,7 +24,7 @@ use Rattle.plist_state.specs.Sound.{IsSymbol, IsValue, IsSoundWorldState}
 use Rattle.lisp_operators.specs.declared.look_ups.LookUp.{LookUp}
 use Rattle.lisp_operators.specs.declared.look_ups.LookUp.TheVariants.{FindSymbol, ListAllPackages, SymbolsWith}
 use Rattle.lisp_operators.specs.Evaluation.{Evaluation}
-use Rattle.lisp_operators.specs.Kinds.{a_symbol, a_name, a_text, given_or}
+use Rattle.lisp_operators.specs.ArgumentKinds.{a_symbol, a_name, a_text, given_or}
 use Rattle.lisp_operators.specs.Properties.{list}
 use Rattle.lisp_operators.specs.Packages.{in_package}
 use Rattle.lisp_operators.specs.LookUps.{symbol_or_nil, names_with, looked_up}

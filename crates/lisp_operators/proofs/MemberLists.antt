@@ -13,7 +13,7 @@ use Rattle.lisp_object.specs.Datum.{object_of, is_proper}
 use Rattle.lisp_object.proofs.ProperLists.{proper_list_object, items_of_proper}
 use Rattle.lisp_operators.proofs.Shapes.{dotted_pair}
 use Rattle.lisp_operators.proofs.ArgumentLists.{list_object}
-use Rattle.lisp_operators.specs.Kinds.{each_of, one_or_each}
+use Rattle.lisp_operators.specs.ArgumentKinds.{each_of, one_or_each}
 use Rattle.lisp_operators.specs.Members.{each_in, AreMembers}
 
 module _ {A : Type 0} (kind : Object → Option A) where

@@ -13,9 +13,9 @@ use Rattle.plist_state.specs.Sound.{IsValue, IsSoundWorldState}
 use Rattle.lisp_operators.specs.declared.places.PlaceChange.{PlaceChange}
 use Rattle.lisp_operators.specs.declared.places.PlaceChange.TheVariants.{Stepped, Popped}
 use Rattle.lisp_operators.specs.declared.places.Direction.{Direction}
-use Rattle.lisp_operators.specs.Kinds.{a_symbol, an_integer}
+use Rattle.lisp_operators.specs.ArgumentKinds.{a_symbol, an_integer}
 use Rattle.lisp_operators.specs.Properties.{amount, is_in_range}
-use Rattle.lisp_operators.specs.Places.{stepped, take_step, parted, pop, with_nil, with_default, place_changed}
+use Rattle.lisp_operators.specs.PropertyPlaces.{stepped, take_step, parted, pop, with_nil, with_default, place_changed}
 use Rattle.lisp_operators.proofs.Good.{goods_if, goods_kind, goods_state}
 use Rattle.lisp_operators.proofs.Storable.{AreValues, nil_value, symbol_kind, value_parts}
 use Rattle.lisp_operators.proofs.Silence.{written, keeps_if, keeps_kind}

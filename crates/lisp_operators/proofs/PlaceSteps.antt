@@ -15,7 +15,7 @@ use Rattle.plist_state.specs.Changes.{property, with_property}
 use Rattle.plist_state.specs.PoppedLists.{first_item, with_rest, with_popped}
 use Rattle.plist_state.specs.Sound.{IsValue}
 use Rattle.lisp_operators.specs.Evaluation.{of_kind, writes}
-use Rattle.lisp_operators.specs.Places.{parted, popped_at}
+use Rattle.lisp_operators.specs.PropertyPlaces.{parted, popped_at}
 use Rattle.lisp_operators.specs.EvaluationAnswers.{IsArgument}
 use Rattle.lisp_operators.proofs.Storable.{nil_value}
 

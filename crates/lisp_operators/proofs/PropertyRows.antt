@@ -20,7 +20,7 @@ use Rattle.package_table.specs.Table.{Table, keyword, IsPackage}
 use Rattle.package_table.specs.Lookup.{home_by_name}
 use Rattle.package_table.proofs.Found.{found_finds}
 use Rattle.package_table.proofs.Keeping.{present_at_home}
-use Rattle.lisp_operators.specs.Kinds.{a_name, a_text}
+use Rattle.lisp_operators.specs.ArgumentKinds.{a_name, a_text}
 use Rattle.plist_state.specs.Properties.{Symbol, Plist}
 use Rattle.plist_state.specs.State.{WorldState}
 use Rattle.plist_state.specs.Changes.{plist, property}

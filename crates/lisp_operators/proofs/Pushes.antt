@@ -14,7 +14,7 @@ use Rattle.plist_state.specs.Changes.{property}
 use Rattle.plist_state.specs.Sound.{IsSoundWorldState}
 use Rattle.plist_state.specs.PushedLists.{holds_pair, pair_size, pushed_list}
 use Rattle.lisp_object.specs.declared.refusal.TheConstants.{VALUE_TOO_DEEP, LIMIT}
-use Rattle.lisp_operators.specs.Kinds.{is_pair}
+use Rattle.lisp_operators.specs.ArgumentKinds.{is_pair}
 use Rattle.lisp_operators.specs.Evaluation.{Evaluation}
 use Rattle.lisp_operators.specs.Properties.{if_within_limits}
 use Rattle.lisp_operators.proofs.SoundProperties.{property_value}

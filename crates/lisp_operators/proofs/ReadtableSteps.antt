@@ -17,7 +17,7 @@ use Rattle.lisp_operators.specs.declared.error.EvaluationError.{EvaluationError}
 use Rattle.lisp_operators.specs.declared.evaluated.Evaluated.{Evaluated}
 use Rattle.lisp_operators.specs.ErrorNumbers.{of_readtable}
 use Rattle.lisp_operators.specs.Evaluation.{Evaluation}
-use Rattle.lisp_operators.specs.Kinds.{a_character, a_keyword, given_or, given_or_nil, is_true}
+use Rattle.lisp_operators.specs.ArgumentKinds.{a_character, a_keyword, given_or, given_or_nil, is_true}
 use Rattle.lisp_operators.specs.Properties.{t}
 use Rattle.lisp_operators.specs.Readtables.{value_after, with_readtables, changeable, is_function, a_function, after_first, set_macro, make_dispatch, set_dispatch}
 use Rattle.lisp_operators.specs.EvaluationAnswers.{Answers, done}

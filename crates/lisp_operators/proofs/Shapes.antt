@@ -18,7 +18,7 @@ use Rattle.lisp_object.proofs.Lists.{proper_items}
 use Rattle.lisp_object.proofs.ProperLists.{items_of_proper, tail_of_proper, pairs_proper, no_proper_list, no_list_object}
 use Rattle.package_table.specs.Table.{keyword}
 use Rattle.plist_state.specs.State.{standard_name}
-use Rattle.lisp_operators.specs.Kinds.{a_symbol, a_name, a_text, a_keyword, a_source, is_true}
+use Rattle.lisp_operators.specs.ArgumentKinds.{a_symbol, a_name, a_text, a_keyword, a_source, is_true}
 
 pub name_by_parts : (x : Object) → a_name x ≡ option_map_or (λ p. Some p.1) (a_symbol x) (a_text x)
 name_by_parts (integer n) = refl

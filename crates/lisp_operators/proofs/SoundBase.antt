@@ -11,7 +11,7 @@ use Rattle.package_table.proofs.Names.{same_some, none_some}
 use Rattle.plist_state.specs.Changes.{with_base}
 use Rattle.plist_state.specs.Sound.{IsValue}
 use Rattle.plist_state.proofs.Soundness.{sound_base}
-use Rattle.lisp_operators.specs.Kinds.{an_integer}
+use Rattle.lisp_operators.specs.ArgumentKinds.{an_integer}
 use Rattle.lisp_operators.specs.ReadBase.{is_base, a_base, set_base}
 use Rattle.lisp_operators.proofs.Good.{goods_state, goods_kind, goods_option}
 use Rattle.lisp_operators.proofs.SoundProperties.{IsSafe, refused, first_of}

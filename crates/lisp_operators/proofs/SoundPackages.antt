@@ -20,7 +20,7 @@ use Rattle.plist_state.specs.State.{WorldState}
 use Rattle.plist_state.specs.Changes.{with_packages}
 use Rattle.plist_state.specs.Sound.{IsSymbol, IsValue, IsSoundWorldState}
 use Rattle.plist_state.proofs.Soundness.{sound_packages, sound_in_package}
-use Rattle.lisp_operators.specs.Kinds.{a_symbol, a_name, a_text, one_or_each, given_or}
+use Rattle.lisp_operators.specs.ArgumentKinds.{a_symbol, a_name, a_text, one_or_each, given_or}
 use Rattle.lisp_operators.specs.Evaluation.{Evaluation}
 use Rattle.lisp_operators.specs.Properties.{t}
 use Rattle.lisp_operators.specs.Packages.{in_package, made_package, make, enter, interned_symbol, intern, then_others, one_by_one, changed, unlocked, export, import, use_all, packages_named, use_package}

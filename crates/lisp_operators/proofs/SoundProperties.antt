@@ -14,7 +14,7 @@ use Rattle.plist_state.specs.State.{WorldState}
 use Rattle.plist_state.specs.Changes.{plist, property, with_property, without_property}
 use Rattle.plist_state.specs.Sound.{IsSymbol, IsValue, IsSoundWorldState}
 use Rattle.plist_state.proofs.Soundness.{sound_put, sound_removed}
-use Rattle.lisp_operators.specs.Kinds.{a_symbol, an_integer, given_or_nil}
+use Rattle.lisp_operators.specs.ArgumentKinds.{a_symbol, an_integer, given_or_nil}
 use Rattle.lisp_operators.specs.Evaluation.{Evaluation, gives}
 use Rattle.lisp_operators.specs.Properties.{t, if_within_limits, list, get, set, removed_property, remove, in_turn, symbol_plist, amount, is_in_range, increment, push}
 use Rattle.lisp_operators.proofs.Good.{Goods, goods_here, goods_state, goods_if, goods_kind}

@@ -30,7 +30,7 @@ use Rattle.plist_state.specs.Changes.{after_in_readtable, with_case, with_macro,
 use Rattle.plist_state.specs.Sound.{IsSymbol, IsValue, IsSoundWorldState}
 use Rattle.plist_state.proofs.Soundness.{sound_in_readtable}
 use Rattle.plist_state.proofs.KeptWorld.{sound_changed, named_case, named_macro, named_dispatching, named_dispatched, sound_syntax, sound_copied, dispatch_there}
-use Rattle.lisp_operators.specs.Kinds.{a_character, a_keyword, a_source, a_case, given_or, given_or_nil, is_true}
+use Rattle.lisp_operators.specs.ArgumentKinds.{a_character, a_keyword, a_source, a_case, given_or, given_or_nil, is_true}
 use Rattle.lisp_operators.specs.Evaluation.{Evaluation}
 use Rattle.lisp_operators.specs.Properties.{t}
 use Rattle.lisp_operators.specs.Readtables.{name_or_nil, value_after, in_readtable, changeable, is_function, a_function, readtable_case, set_case, copy_readtable, enter_readtable, after_first, set_syntax, set_macro, get_macro, make_dispatch, set_dispatch, get_dispatch}

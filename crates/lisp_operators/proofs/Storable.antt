@@ -18,7 +18,7 @@ use Rattle.package_table.proofs.Names.{name_total, same_some, none_some}
 use Rattle.package_table.proofs.Frames.{equal_names}
 use Rattle.plist_state.specs.Properties.{Symbol}
 use Rattle.plist_state.specs.Sound.{IsSymbol, IsSymbolStorable, IsValue}
-use Rattle.lisp_operators.specs.Kinds.{a_symbol, a_name, a_text, a_keyword, a_character, each_of, one_or_each}
+use Rattle.lisp_operators.specs.ArgumentKinds.{a_symbol, a_name, a_text, a_keyword, a_character, each_of, one_or_each}
 use Rattle.lisp_operators.specs.Properties.{t}
 
 -- ---- symbols and texts

@@ -8,7 +8,7 @@ use Rattle.plist_state.specs.PushedLists.{pushed_list, with_pushed}
 use Rattle.lisp_operators.specs.declared.error.EvaluationError.{EvaluationError}
 use Rattle.lisp_operators.specs.declared.error.EvaluationError.TheVariants.{Refused, OutOfMemory}
 use Rattle.lisp_operators.specs.Evaluation.{Evaluation, gives, writes}
-use Rattle.lisp_operators.specs.Kinds.{is_true}
+use Rattle.lisp_operators.specs.ArgumentKinds.{is_true}
 use Rattle.lisp_operators.specs.Properties.{if_within_limits}
 
 -- the state that an evaluation leaves, and whether it wrote

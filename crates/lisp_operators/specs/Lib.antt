@@ -1,7 +1,7 @@
 pub mod ErrorNumbers
 pub mod EvaluationAnswers
 pub mod Evaluation
-pub mod Kinds
+pub mod ArgumentKinds
 pub mod Members
 pub mod Properties
 pub mod Packages
@@ -10,4 +10,4 @@ pub mod ReadBase
 pub mod Effects
 pub mod ListBuilder
 pub mod LookUps
-pub mod Places
+pub mod PropertyPlaces

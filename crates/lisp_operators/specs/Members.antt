@@ -6,7 +6,7 @@ use Rattle.lisp_object.specs.declared.datum.Datum.{Datum}
 use Rattle.lisp_object.specs.Datum.{object_of}
 use Rattle.package_table.specs.Table.{Name, full_name}
 use Rattle.plist_state.specs.Properties.{Symbol}
-use Rattle.lisp_operators.specs.Kinds.{a_symbol, a_name}
+use Rattle.lisp_operators.specs.ArgumentKinds.{a_symbol, a_name}
 
 -- what these are, where each is of the kind
 abbrev pub each_in : {A : Type 0} → (Object → Option A) → List Object → Option (List A)

@@ -13,7 +13,7 @@ use Rattle.plist_state.specs.Properties.{Symbol}
 use Rattle.plist_state.specs.State.{WorldState}
 use Rattle.plist_state.specs.Changes.{with_packages}
 use Rattle.lisp_operators.specs.Evaluation.{Evaluation, writes, of_kind}
-use Rattle.lisp_operators.specs.Kinds.{a_symbol, a_name, a_text, one_or_each, given_or}
+use Rattle.lisp_operators.specs.ArgumentKinds.{a_symbol, a_name, a_text, one_or_each, given_or}
 use Rattle.lisp_operators.specs.Properties.{t}
 
 -- what goes on with the package of this name or nickname

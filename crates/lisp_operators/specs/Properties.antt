@@ -7,7 +7,7 @@ use Rattle.plist_state.specs.Properties.{Plist}
 use Rattle.plist_state.specs.State.{WorldState}
 use Rattle.plist_state.specs.Changes.{plist, property, with_property, without_property}
 use Rattle.lisp_operators.specs.Evaluation.{Evaluation, gives, writes, of_kind}
-use Rattle.lisp_operators.specs.Kinds.{a_symbol, an_integer, given_or_nil}
+use Rattle.lisp_operators.specs.ArgumentKinds.{a_symbol, an_integer, given_or_nil}
 
 -- the symbol T
 abbrev pub t : Object

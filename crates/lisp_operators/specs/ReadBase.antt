@@ -6,7 +6,7 @@ use Rattle.lisp_object.specs.declared.refusal.TheConstants.{ARGUMENT_KIND, INTEG
 use Rattle.plist_state.specs.State.{WorldState}
 use Rattle.plist_state.specs.Changes.{with_base}
 use Rattle.lisp_operators.specs.Evaluation.{Evaluation, writes, of_kind}
-use Rattle.lisp_operators.specs.Kinds.{an_integer}
+use Rattle.lisp_operators.specs.ArgumentKinds.{an_integer}
 
 -- a base in which numbers may be read
 abbrev pub is_base : ℕ → Bool

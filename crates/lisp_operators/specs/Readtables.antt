@@ -19,7 +19,7 @@ use Rattle.plist_state.specs.State.{Readtables, WorldState, standard_name}
 use Rattle.plist_state.specs.ErrorNumbers.{readtable_error_number}
 use Rattle.plist_state.specs.Changes.{after_in_readtable, with_case, with_macro, with_dispatching, with_dispatch, with_syntax, with_copy, in_state}
 use Rattle.lisp_operators.specs.Evaluation.{Evaluation, gives, writes, of_kind}
-use Rattle.lisp_operators.specs.Kinds.{a_character, a_keyword, a_source, a_case, given_or, given_or_nil, is_true}
+use Rattle.lisp_operators.specs.ArgumentKinds.{a_character, a_keyword, a_source, a_case, given_or, given_or_nil, is_true}
 use Rattle.lisp_operators.specs.Properties.{t}
 
 -- the keyword of this name

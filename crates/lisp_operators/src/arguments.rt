@@ -1,7 +1,7 @@
 //! The arguments of an operator: so many of them, and what those after the first ones stand for where they are given.
 ghost use Rattle.std.specs.Prelude.{◌≡◌, ◌<◌, true, [], ◌∷◌, All, IfOk};
 ghost use Rattle.lisp_object.specs.Datum.{object_of};
-ghost use Rattle.lisp_operators.specs.Kinds.{a_name, a_keyword, a_source, given_or, given_or_nil, is_true};
+ghost use Rattle.lisp_operators.specs.ArgumentKinds.{a_name, a_keyword, a_source, given_or, given_or_nil, is_true};
 ghost use Rattle.lisp_operators.specs.Readtables.{after_first};
 ghost use Rattle.lisp_operators.specs.EvaluationAnswers.{IsArgument, IsOfKind, IsProper, AreProper, AreExactly, AreAtLeast, WhereArguments, objects};
 

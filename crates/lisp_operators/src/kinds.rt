@@ -1,7 +1,7 @@
 //! The kinds of arguments, and what an argument of each stands for.
 ghost use Rattle.std.specs.Prelude.{◌≡◌, true};
 ghost use Rattle.lisp_object.specs.Datum.{object_of};
-ghost use Rattle.lisp_operators.specs.Kinds.{a_symbol, a_name, a_text, an_integer, a_character, a_keyword, a_source, a_case, is_true, is_pair};
+ghost use Rattle.lisp_operators.specs.ArgumentKinds.{a_symbol, a_name, a_text, an_integer, a_character, a_keyword, a_source, a_case, is_true, is_pair};
 ghost use Rattle.lisp_operators.specs.EvaluationAnswers.{IsOfKind, IsProper};
 
 use crate::EvaluationError;

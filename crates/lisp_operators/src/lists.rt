@@ -1,7 +1,7 @@
 //! Arguments that are one of a kind or a list of such.
 ghost use Rattle.std.specs.Prelude.{◌≡◌, None, IsSome, All, IfErr, IfOk, IfSome, option_map};
 ghost use Rattle.lisp_object.specs.Datum.{object_of};
-ghost use Rattle.lisp_operators.specs.Kinds.{a_symbol, a_name, one_or_each};
+ghost use Rattle.lisp_operators.specs.ArgumentKinds.{a_symbol, a_name, one_or_each};
 ghost use Rattle.lisp_operators.specs.declared.error.EvaluationError.TheVariants.{Refused};
 ghost use Rattle.lisp_operators.specs.Members.{AreMembers, symbol_of_member, name_in, symbols_in, names_in};
 ghost use Rattle.lisp_operators.specs.EvaluationAnswers.{IsOfKind, IsProper, AreProper, IsRefusedAs, objects};

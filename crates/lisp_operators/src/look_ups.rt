@@ -8,7 +8,7 @@ ghost use Rattle.package_table.specs.Lookup.{home_by_name};
 ghost use Rattle.package_table.specs.Readers.{names_of};
 ghost use Rattle.plist_state.specs.Changes.{property};
 ghost use Rattle.plist_state.specs.Views.{symbol_named};
-ghost use Rattle.lisp_operators.specs.Kinds.{a_symbol};
+ghost use Rattle.lisp_operators.specs.ArgumentKinds.{a_symbol};
 ghost use Rattle.lisp_operators.specs.LookUps.{look_up_named, least_of_look_up, most_of_look_up, looked_up, symbol_or_nil, find_symbol, list_all_packages, names_with, symbols_with};
 ghost use Rattle.lisp_operators.specs.EvaluationAnswers.{IsOfKind, IsProper, IsAscii, IsProperValue, AreArgumentsOf, CarriesOut, objects};
 

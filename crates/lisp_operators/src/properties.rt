@@ -7,7 +7,7 @@ ghost use Rattle.plist_state.specs.Changes.{property};
 ghost use Rattle.plist_state.specs.PushedLists.{holds_pair};
 ghost use Rattle.plist_state.specs.Views.{symbol_of};
 ghost use Rattle.plist_state.specs.Sound.{IsSymbol};
-ghost use Rattle.lisp_operators.specs.Kinds.{a_symbol};
+ghost use Rattle.lisp_operators.specs.ArgumentKinds.{a_symbol};
 ghost use Rattle.lisp_operators.specs.Properties.{get, set, remove, in_turn, symbol_plist, amount, increment, push};
 ghost use Rattle.lisp_operators.specs.EvaluationAnswers.{IsOfKind, IsPropertyKey, object_of_symbol, or_nil, IsProper, AreProper, IsProperValue, AreArgumentsOf, CarriesOut, IsArgument, StoresProperty, objects};
 

@@ -2,7 +2,7 @@
 use Rattle.std.proofs.Common.{IsTrue, List, [], ◌∷◌, sym, subst}
 use Rattle.disk_trait.specs.Disk.{IsHonest, State}
 use Rattle.sessions.specs.Account.{Account, with_forms}
-use Rattle.store_laws.specs.Sessions.{AreHanded, Handing, account_after}
+use Rattle.store_laws.specs.SessionLines.{AreHanded, Handing, account_after}
 use Rattle.user_macros.specs.Functions.{Functions}
 
 -- the disk with which lines were handed on last is as honest as the one with which the session began

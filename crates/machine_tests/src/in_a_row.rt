@@ -3,14 +3,14 @@ ghost use Rattle.std.specs.Prelude.{◌≡◌, ◌<◌, ◌-◌, ◌^◌, List, 
 ghost use Rattle.disk_trait.specs.Disk.{IsHonest};
 ghost use Rattle.plist_state.specs.State.{WorldState};
 ghost use Rattle.sessions.specs.Account.{first_account};
-ghost use Rattle.session_ledger.specs.OutgoingLines.{Went, handings_of};
+ghost use Rattle.session_ledger.specs.OutgoingLines.{WentOut, handings_of};
 ghost use Rattle.store_commands.specs.Accounts.{AccountGoesOn};
-ghost use Rattle.store_laws.specs.Sessions.{account_after};
+ghost use Rattle.store_laws.specs.SessionLines.{account_after};
 
 use disk_trait::{Disk, MemoryDisk};
 use prevalence_store::{Mode, Store};
 use session_ledger::serve_recorded;
-use sessions::{Ended, Wanted};
+use sessions::{Ended, SessionOptions};
 use std::alloc::Global;
 use std::io::{Read, Write};
 use std::test::Fail;
@@ -28,11 +28,11 @@ fn serve_before_another<D: Disk, M: MacroFunctions, I: Read, O: Write>(
     store: &mut Store<D, M>,
     reader: &mut I,
     output: &mut O,
-    wanted: Wanted,
+    wanted: SessionOptions,
 ) -> Ended
     requires is_open { IsSome store.old.world }
     ensures { (world : WorldState) → store.old.world ≡ Some world → IsHonest (D.state store.old.disk)
-        → (went : Went M.Meaning.functions D.state
+        → (went : WentOut M.Meaning.functions D.state
         (first_account world wanted.mode (I.remaining reader.old) store.old.disk) store.new
         (O.contents output.old) (O.contents output.new))
         × ((now : WorldState) (mode : Mode) (had : Option (List ℕ)) → store.new.world ≡ Some now
@@ -51,7 +51,7 @@ fn written_twice<D: Disk, M: MacroFunctions>(
     input: &[u8],
     more: &[u8],
 ) -> Option<Vec<u8>> {
-    let wanted = Wanted {
+    let wanted = SessionOptions {
         mode: Mode::Current,
         snapshot_every: 0,
         snapshot_ratio: 0,

@@ -2,7 +2,7 @@
 use Rattle.std.specs.Prelude.{◌≡◌, ◌⊎◌, ℕ, Bool, List, Option}
 use Rattle.disk_trait.specs.Disk.{State}
 use Rattle.message_session.specs.Account.{MessageAccount}
-use Rattle.message_session.specs.Sessions.{ServesMessages, message_end_after_cut}
+use Rattle.message_session.specs.MessageSessions.{ServesMessages, message_end_after_cut}
 use Rattle.message_session.specs.Standing.{AcknowledgesNoFrame}
 use Rattle.message_session.specs.declared.ended.MessagesEnd.{MessagesEnd}
 use Rattle.message_session.specs.declared.ended.MessagesEnd.TheVariants as way

@@ -15,7 +15,7 @@ use Rattle.plist_state.specs.Changes.{with_packages}
 use Rattle.evaluator.specs.Value.{value}
 use Rattle.evaluator.proofs.FunctionLaws.{computed_keeps}
 use Rattle.evaluator.proofs.Induction.{Operators, Steps, every_value}
-use Rattle.form_eval.specs.Acceptance.{accept, accepted_by as accepted_with, with_symbols}
+use Rattle.form_eval.specs.Acceptance.{accept, accepted_by as accepted_with, with_symbols_interned}
 use Rattle.session_words.specs.declared.mode.Mode.{Mode}
 use Rattle.prevalence_store.specs.calls.ExecuteAll.{world_left_after}
 use Rattle.prevalence_store.specs.meaning.Acceptance.{Acceptance, acceptance_of, accepted_of, accepts, between, read_in, transaction_value}
@@ -92,7 +92,7 @@ module _ (names : List Name) where
   after_symbols s (Err e) x = record { kept = tt }
 
   accepted_tidy : (s : WorldState) (x : Object) → Keeps s (accept names s x)
-  accepted_tidy s x = after_symbols s (with_symbols s.packages (symbols x)) x
+  accepted_tidy s x = after_symbols s (with_symbols_interned s.packages (symbols x)) x
 
   -- FORGET-NAMES leaves the property lists as they are
   transacted_tidy : (s : WorldState) (x : Object) → Keeps s (transaction_value names s x)

@@ -18,8 +18,8 @@ use Rattle.session_words.specs.declared.mode.Mode.{Mode}
 use Rattle.session_words.specs.declared.mode.Mode.TheVariants.{Current}
 use Rattle.prevalence_store.specs.calls.ExecuteAll.{logged_entries, world_left_after, told_of}
 use Rattle.prevalence_store.specs.meaning.Acceptance.{Acceptance, accepts, after, records_of}
-use Rattle.messages.specs.Answers.{Round, answer_in, answer_to_question, first_round, by_number, without_its_position, with_its_position, each_request, one_request, refusal_text, with_asked, with_message, with_old, wrote_by}
-use Rattle.messages.specs.Calls.{left_after}
+use Rattle.messages.specs.MessageAnswers.{Round, answer_in, answer_to_question, first_round, by_number, without_its_position, with_its_position, each_request, one_request, refusal_text, with_asked, with_message, with_old, wrote_by}
+use Rattle.messages.specs.MessageCalls.{left_after}
 use Rattle.messages.specs.Position.{number_of_object, position, position_property, position_symbol, with_position, without_position}
 use Rattle.messages.proofs.Positions.{position_out, position_put}
 use Rattle.prevalence_store.proofs.steps.Grouping.{one_replayed}

@@ -3,8 +3,8 @@ use Rattle.std.specs.Prelude.{ℕ, ◌≡◌, Bool, List, [], ◌++◌, fold}
 use Rattle.std.specs.List.{flat_map}
 use Rattle.plist_state.specs.State.{WorldState}
 use Rattle.messages.specs.declared.request.Request.{Request}
-use Rattle.messages.specs.Answers.{Round, round_after_requests, first_round}
-use Rattle.messages.specs.Calls.{left_after}
+use Rattle.messages.specs.MessageAnswers.{Round, round_after_requests, first_round}
+use Rattle.messages.specs.MessageCalls.{left_after}
 use Rattle.messages.specs.Position.{without_position}
 use Rattle.user_macros.specs.Functions.{Functions}
 

@@ -3,7 +3,7 @@ use Rattle.std.specs.Prelude.{◌≡◌, ◌≢◌, [], Some}
 use Rattle.std.specs.FinMap as finite
 use Rattle.plist_state.specs.Properties.{Plist, Properties, Symbol}
 use Rattle.plist_state.specs.Sound.{IsApart}
-use Rattle.messages.specs.Answers.{Round}
+use Rattle.messages.specs.MessageAnswers.{Round}
 use Rattle.messages.specs.Position.{without_position}
 
 -- a property list that is there has a property, and no indicator twice

@@ -4,7 +4,7 @@ ghost use Rattle.message_laws.specs.Batches.{IsAlike, all_requests, at_first, in
 ghost use Rattle.plist_state.specs.Sound.{IsSoundWorldState};
 ghost use Rattle.plist_state.specs.State.{WorldState};
 ghost use Rattle.messages.specs.declared.request.Request.{Request};
-ghost use Rattle.messages.specs.Answers.{first_round, each_request};
+ghost use Rattle.messages.specs.MessageAnswers.{first_round, each_request};
 ghost use Rattle.user_macros.specs.Functions.{Functions};
 
 /// Requests have the same answers in whichever batches they are answered. From a sound world on, as that of each store is

@@ -2,13 +2,13 @@
 use Rattle.std.proofs.Common.{◌≡◌, inl, inr, ℕ, Bool, true, false, List, Some, Ok, Err, unwrap_or, sym, ap, subst, ◌∙◌, arith}
 use Rattle.disk_trait.specs.Disk.{State}
 use Rattle.lisp_object.specs.declared.refusal.TheConstants.{LOG_FULL}
-use Rattle.message_session.specs.Account.{IsToldIn}
-use Rattle.message_session.specs.Sessions.{HasNoRoomToBegin}
+use Rattle.message_session.specs.Account.{IsPositionToldIn}
+use Rattle.message_session.specs.MessageSessions.{HasNoRoomToBegin}
 use Rattle.plist_state.specs.State.{WorldState}
 use Rattle.prevalence_store.specs.calls.Execute.{Executes, Stores}
 use Rattle.prevalence_store.specs.calls.Store.{StoreView}
 use Rattle.prevalence_store.specs.declared.outcome.Outcome.TheVariants.{Refused}
-use Rattle.messages.specs.Calls.{BeginsMessages}
+use Rattle.messages.specs.MessageCalls.{BeginsMessages}
 use Rattle.messages.specs.Position.{position}
 use Rattle.session_words.specs.declared.mode.Mode.{Mode}
 use Rattle.user_macros.specs.Functions.{Functions}
@@ -24,7 +24,7 @@ module _ (functions : Functions) {D R : Type 0} (state : D → State) (old new :
   world_begun w number known (inr set) = (set.3.1.given.world, left_by_form set.3.1.given.wrote _ set.3.1.given.text set.3.1.given.world set.3.1.stored)
 
   -- and the number is told in it
-  pub told_in : (w : WorldState) (number : ℕ) → old.world ≡ Some w → BeginsMessages functions state old new w (Ok number) → (now : WorldState) → new.world ≡ Some now → IsToldIn number now
+  pub told_in : (w : WorldState) (number : ℕ) → old.world ≡ Some w → BeginsMessages functions state old new w (Ok number) → (now : WorldState) → new.world ≡ Some now → IsPositionToldIn number now
   told_in w number known (inl there) now is =
       let both : Some w ≡ Some now = sym known ∙ sym (ap (λ (s : StoreView D R). s.world) there.1) ∙ is in
       let same : w ≡ now = cc in

@@ -10,8 +10,8 @@ use Rattle.lisp_object.specs.declared.refusal.TheConstants.{LOG_FULL, NO_MEMORY,
 use Rattle.message_frames.specs.Frames.{AreFrames, Sent, frame_bytes}
 use Rattle.message_laws.specs.NearRounds.{IsTidy, Near}
 use Rattle.message_laws.proofs.Together.{near_itself}
-use Rattle.message_session.specs.Answers.{answered_bytes, each_frame}
-use Rattle.message_session.specs.Sessions.{AreCarriedOut, AreFramesAnswered, HasCarriedOut, HasCause, HoldsWorldAlone, EndsWithoutMemory, EndsAtRefusedSnapshot, EndsAtRefusedFrames, EndsUnwritten, text_limit}
+use Rattle.message_session.specs.FrameAnswers.{answered_bytes, each_frame}
+use Rattle.message_session.specs.MessageSessions.{AreCarriedOut, AreFramesAnswered, HasCarriedOut, HasCause, HoldsWorldAlone, EndsWithoutMemory, EndsAtRefusedSnapshot, EndsAtRefusedFrames, EndsUnwritten, text_limit}
 use Rattle.message_session.specs.Steps.{AreFramesUntaken, Breaks, BreaksIn, IsFaultAfter, RefusesFirst, ServesFrames}
 use Rattle.message_session.specs.declared.ended.MessagesEnd.{MessagesEnd}
 use Rattle.message_session.specs.declared.ended.MessagesEnd.TheVariants.{End, NoFrame, Fault}
@@ -23,7 +23,7 @@ use Rattle.prevalence_store.specs.calls.Snapshot.{Snapshots}
 use Rattle.prevalence_store.specs.calls.Store.{StoreView}
 use Rattle.sessions.specs.Streams.{Writes, WritesPart}
 use Rattle.prevalence_store.specs.declared.outcome.Outcome.TheVariants.{Refused}
-use Rattle.messages.specs.Answers.{first_round}
+use Rattle.messages.specs.MessageAnswers.{first_round}
 use Rattle.user_macros.specs.Functions.{Functions}
 
 -- of one frame the first ones, if there are some, are one

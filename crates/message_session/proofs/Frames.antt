@@ -5,8 +5,8 @@ use Rattle.std.proofs.lemmas.Grind.{flat_map-append}
 use Rattle.disk_trait.specs.Disk.{State}
 use Rattle.message_frames.specs.Frames.{AreFrames, IsFrame, Sent, frame_bytes}
 use Rattle.message_laws.specs.NearRounds.{IsTidy}
-use Rattle.message_session.specs.Answers.{answered_bytes}
-use Rattle.message_session.specs.Sessions.{AreFramesAnswered, text_limit}
+use Rattle.message_session.specs.FrameAnswers.{answered_bytes}
+use Rattle.message_session.specs.MessageSessions.{AreFramesAnswered, text_limit}
 use Rattle.message_session.specs.Steps.{ServesFrames}
 use Rattle.message_session.proofs.Rounds.{bytes_of_both, first_after, more_after}
 use Rattle.message_session.proofs.Streams.{none_written, writes_both}

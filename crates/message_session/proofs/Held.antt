@@ -7,7 +7,7 @@ use Rattle.message_frames.specs.WholeFrames as held
 use Rattle.message_frames.specs.declared.frame.MessageFrame.{MessageFrame}
 use Rattle.message_frames.specs.declared.held.Next.{Next}
 use Rattle.message_frames.specs.declared.held.Next.TheVariants as next
-use Rattle.message_session.specs.Sessions.{text_limit}
+use Rattle.message_session.specs.MessageSessions.{text_limit}
 use Rattle.message_session.specs.Steps.{ComesAfter}
 
 -- as many frames as were wanted are some

@@ -9,9 +9,9 @@ use Rattle.std.specs.List.{flat_map}
 use Rattle.std.specs.Option.{option_map}
 use Rattle.std.proofs.lemmas.List.{append-nil, take-append-drop}
 use Rattle.message_frames.specs.Frames.{AreFrames, Sent, frame_bytes}
-use Rattle.message_session.specs.Account.{MessageAccount, AreNext, with_frames}
-use Rattle.message_session.specs.Sessions.{text_limit}
-use Rattle.message_session.specs.Standing.{AnswersFirstOf, AnswersMore, ComeNext, ComesNext, IsNextInInput, IsReadIn}
+use Rattle.message_session.specs.Account.{MessageAccount, AreNextFrames, with_frames}
+use Rattle.message_session.specs.MessageSessions.{text_limit}
+use Rattle.message_session.specs.Standing.{AnswersFirstOf, AnswersMore, FramesComeNext, BytesComeNext, IsNextInInput, IsReadIn}
 use Rattle.message_session.specs.Steps.{TakesPiece}
 use Rattle.message_session.proofs.Frames.{frames_both, frames_fed, frames_first, no_frames}
 use Rattle.message_session.proofs.Streams.{read_both}
@@ -37,7 +37,7 @@ whole_of (Some xs) (Some ys) read reads = (ys, λ told is. sym reads ∙ (let sa
 module _ {D : Type 0} where
   -- ---- the next frames
 
-  pub next_first : (account : MessageAccount D) (xs ys : List Sent) → AreNext account (xs ++ ys) → AreNext account xs
+  pub next_first : (account : MessageAccount D) (xs ys : List Sent) → AreNextFrames account (xs ++ ys) → AreNextFrames account xs
   next_first account xs ys next = record {
     all = next.all;
     of_input = next.of_input;
@@ -45,10 +45,10 @@ module _ {D : Type 0} where
     parts = frames_first (account.answered ++ xs) ys next.all next.rest (subst (λ fs. AreFrames text_limit fs next.rest next.all) (sym (append_assoc account.answered xs ys)) next.parts);
   }
 
-  pub next_taken : (account : MessageAccount D) (frames : List Sent) (n : ℕ) → AreNext account frames → AreNext account (take n frames)
-  next_taken account frames n next = next_first account (take n frames) (drop n frames) (subst (AreNext account) (sym (take-append-drop n frames)) next)
+  pub next_taken : (account : MessageAccount D) (frames : List Sent) (n : ℕ) → AreNextFrames account frames → AreNextFrames account (take n frames)
+  next_taken account frames n next = next_first account (take n frames) (drop n frames) (subst (AreNextFrames account) (sym (take-append-drop n frames)) next)
 
-  pub next_after : (account later : MessageAccount D) (xs ys : List Sent) → later.input ≡ account.input → later.answered ≡ account.answered ++ xs → AreNext account (xs ++ ys) → AreNext later ys
+  pub next_after : (account later : MessageAccount D) (xs ys : List Sent) → later.input ≡ account.input → later.answered ≡ account.answered ++ xs → AreNextFrames account (xs ++ ys) → AreNextFrames later ys
   next_after account later xs ys input answered next = record {
     all = next.all;
     of_input = λ told is. next.of_input told (sym input ∙ is);
@@ -56,11 +56,11 @@ module _ {D : Type 0} where
     parts = subst (λ fs. AreFrames text_limit fs next.rest next.all) (sym (append_assoc account.answered xs ys) ∙ ap (λ fs. fs ++ ys) (sym answered)) next.parts;
   }
 
-  pub next_none : (account later : MessageAccount D) (xs : List Sent) → later.input ≡ account.input → later.answered ≡ account.answered ++ xs → AreNext account xs → AreNext later []
-  next_none account later xs input answered next = next_after account later xs [] input answered (subst (AreNext account) (sym (append-nil xs)) next)
+  pub next_none : (account later : MessageAccount D) (xs : List Sent) → later.input ≡ account.input → later.answered ≡ account.answered ++ xs → AreNextFrames account xs → AreNextFrames later []
+  next_none account later xs input answered next = next_after account later xs [] input answered (subst (AreNextFrames account) (sym (append-nil xs)) next)
 
   -- before the first
-  pub next_begun : (account : MessageAccount D) → account.answered ≡ [] → AreNext account []
+  pub next_begun : (account : MessageAccount D) → account.answered ≡ [] → AreNextFrames account []
   next_begun account none = record {
     all = unwrap_or account.input [];
     of_input = λ told is. ap (λ o. unwrap_or o []) is;
@@ -70,7 +70,7 @@ module _ {D : Type 0} where
 
   -- ---- the next bytes
 
-  pub next_of_bytes : (account : MessageAccount D) (bytes : List ℕ) (frames : List Sent) (rest : List ℕ) → IsNextInInput account bytes → AreFrames text_limit frames rest bytes → AreNext account frames
+  pub next_of_bytes : (account : MessageAccount D) (bytes : List ℕ) (frames : List Sent) (rest : List ℕ) → IsNextInInput account bytes → AreFrames text_limit frames rest bytes → AreNextFrames account frames
   next_of_bytes account bytes frames rest next parts = record {
     all = next.all;
     of_input = next.of_input;
@@ -78,7 +78,7 @@ module _ {D : Type 0} where
     parts = frames_both account.answered frames next.all (bytes ++ next.rest) (rest ++ next.rest) next.parts (frames_fed frames bytes rest next.rest parts);
   }
 
-  pub bytes_after : (old new : Option (MessageAccount D)) (bytes rest : List ℕ) → ComesNext old bytes → AnswersFirstOf old new bytes rest → ComesNext new rest
+  pub bytes_after : (old new : Option (MessageAccount D)) (bytes rest : List ℕ) → BytesComeNext old bytes → AnswersFirstOf old new bytes rest → BytesComeNext new rest
   bytes_after old new bytes rest comes first later is =
       let more = first.2 later is in
       let next = comes more.0 more.1 in
@@ -114,7 +114,7 @@ module _ {D : Type 0} where
         subst (λ fs. AreFrames text_limit fs rest far.0) (sym more.3) (frames_both more.0.answered first.0 far.0 bytes rest far.2 first.1),
       )
 
-  pub read_next : (told : Option (MessageAccount D)) (left : Option (List ℕ)) (bytes : List ℕ) → IsReadIn told left bytes → ComesNext told bytes
+  pub read_next : (told : Option (MessageAccount D)) (left : Option (List ℕ)) (bytes : List ℕ) → IsReadIn told left bytes → BytesComeNext told bytes
   read_next told left bytes before account is =
       let far = before account is in
       let whole = whole_of account.input left far.0 far.1 in
@@ -144,11 +144,11 @@ module _ {D : Type 0} where
   first_both old mid new bytes between rest first second =
       (first.0 ++ second.0, frames_both first.0 second.0 bytes between rest first.1 second.1, more_both old mid new first.0 second.0 first.2 second.2)
 
-  pub come_first : (told : Option (MessageAccount D)) (xs ys : List Sent) → ComeNext told (xs ++ ys) → ComeNext told xs
+  pub come_first : (told : Option (MessageAccount D)) (xs ys : List Sent) → FramesComeNext told (xs ++ ys) → FramesComeNext told xs
   come_first told xs ys come account is = next_first account xs ys (come account is)
 
   -- those after them come next
-  pub come_after : (old new : Option (MessageAccount D)) (xs ys : List Sent) → ComeNext old (xs ++ ys) → AnswersMore old new xs → ComeNext new ys
+  pub come_after : (old new : Option (MessageAccount D)) (xs ys : List Sent) → FramesComeNext old (xs ++ ys) → AnswersMore old new xs → FramesComeNext new ys
   come_after old new xs ys come more later is =
       let one = more later is in
       next_after one.0 later xs ys one.2 one.3 (come one.0 one.1)

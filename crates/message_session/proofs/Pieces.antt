@@ -8,8 +8,8 @@ use Rattle.lisp_object.specs.declared.refusal.TheConstants.{INPUT, NO_MEMORY}
 use Rattle.message_frames.specs.Frames.{AreFrames, IsBegunFrame, IsMalformedFrame, Sent, frame_bytes}
 use Rattle.message_frames.specs.declared.frame.Kind.TheVariants.{Ask}
 use Rattle.message_laws.specs.NearRounds.{IsTidy}
-use Rattle.message_session.specs.Answers.{answered_bytes}
-use Rattle.message_session.specs.Sessions.{AreCarriedOut, EndsBy, text_limit}
+use Rattle.message_session.specs.FrameAnswers.{answered_bytes}
+use Rattle.message_session.specs.MessageSessions.{AreCarriedOut, EndsBy, text_limit}
 use Rattle.message_session.specs.Steps.{AnswersAllHeld, AnswersFramesOfInput, BreaksIn, PassesFrames, ServesFrames, TakesPiece}
 use Rattle.message_session.specs.declared.ended.MessagesEnd.{MessagesEnd}
 use Rattle.message_session.specs.declared.ended.MessagesEnd.TheVariants.{End, NoFrame, Fault}

@@ -6,7 +6,7 @@ use Rattle.std.proofs.Common.{◌≡◌, ◌≢◌, inr, ℕ, ◌<◌, ◌≤◌
 use Rattle.std.specs.List.{flat_map}
 use Rattle.std.proofs.Math.Seq.{take-append_seam}
 use Rattle.std.proofs.lemmas.List.{length-map, take-append-drop, take-map}
-use Rattle.client_table.specs.Calls.{AnswersAllAsked, AnswersFirstAsked}
+use Rattle.client_table.specs.CallsByName.{AnswersAllAsked, AnswersFirstAsked}
 use Rattle.client_table.specs.Named.{all_answered, each_asked}
 use Rattle.client_table.specs.declared.asked.AnyRequest.{AnyRequest}
 use Rattle.client_table.proofs.AskedTogether.{asked_stands}
@@ -16,8 +16,8 @@ use Rattle.message_laws.specs.Batches.{at_first, with_batch}
 use Rattle.message_laws.specs.NearRounds.{Near}
 use Rattle.message_laws.proofs.Together.{StandsAt, stands_first}
 use Rattle.message_laws.proofs.Tidy.{sound_tidy}
-use Rattle.message_session.specs.Answers.{AskAlike, answered_bytes, answers_to, each_frame, parts_of_asked}
-use Rattle.message_session.specs.Sessions.{HasCarriedOut}
+use Rattle.message_session.specs.FrameAnswers.{AskAlike, answered_bytes, answers_to, each_frame, parts_of_asked}
+use Rattle.message_session.specs.MessageSessions.{HasCarriedOut}
 use Rattle.message_session.specs.Steps.{AreFramesUntaken}
 use Rattle.message_session.specs.declared.answer.TheConstants.{MOST_CLIENTS}
 use Rattle.message_session.proofs.Rounds.{same_rounds}
@@ -25,8 +25,8 @@ use Rattle.plist_state.specs.Sound.{IsSoundWorldState}
 use Rattle.plist_state.specs.State.{WorldState}
 use Rattle.prevalence_store.specs.calls.Store.{StoreView}
 use Rattle.messages.specs.declared.request.Replies.{Replies}
-use Rattle.messages.specs.Answers.{Round, first_round}
-use Rattle.messages.specs.Calls.{AreAnsweredAndLogged, left_after}
+use Rattle.messages.specs.MessageAnswers.{Round, first_round}
+use Rattle.messages.specs.MessageCalls.{AreAnsweredAndLogged, left_after}
 use Rattle.messages.specs.declared.request.TheConstants.{ANSWER_BYTES}
 use Rattle.messages.specs.Fronts.{answer_length}
 use Rattle.messages.specs.Rounds.{told_in}

@@ -17,12 +17,12 @@ use Rattle.message_frames.specs.declared.frame.Kind.{Kind}
 use Rattle.message_frames.specs.declared.frame.Kind.TheVariants.{Ask, By, Do}
 use Rattle.message_laws.specs.NearRounds.{IsTidy, Near}
 use Rattle.message_laws.proofs.Together.{More, near_itself, near_on, one_near}
-use Rattle.message_session.specs.Answers.{answered_bytes, answers_to, by_kind, each_frame, kind_by_number, one_frame, parts_of_asked}
-use Rattle.message_session.specs.Sessions.{HasCarriedOut}
+use Rattle.message_session.specs.FrameAnswers.{answered_bytes, answers_to, by_kind, each_frame, kind_by_number, one_frame, parts_of_asked}
+use Rattle.message_session.specs.MessageSessions.{HasCarriedOut}
 use Rattle.message_session.specs.declared.answer.TheConstants.{MOST_CLIENTS}
 use Rattle.plist_state.specs.State.{WorldState}
 use Rattle.prevalence_store.specs.calls.Store.{StoreView}
-use Rattle.messages.specs.Answers.{Round, first_round, by_number}
+use Rattle.messages.specs.MessageAnswers.{Round, first_round, by_number}
 use Rattle.user_macros.specs.Functions.{Functions}
 
 pub answers_append : (xs ys : List Sent) (ts us : List (List ℕ × Bool)) → length ts ≡ length xs → answers_to (xs ++ ys) (ts ++ us) ≡ answers_to xs ts ++ answers_to ys us

@@ -2,7 +2,7 @@
 use Rattle.std.proofs.Common.{◌≡◌, ◌≢◌, ◌⊎◌, ℕ, ◌+◌, ◌<◌, Bool, true, false, List, [], length, Option, Some, IsTrue, take, Result, Ok, Err, inl, inr, refl, sym, ap, subst, ◌∙◌, arith}
 use Rattle.std.specs.Option.{option_map}
 use Rattle.std.specs.Prelude.{unwrap_or}
-use Rattle.client_table.specs.Calls.{AnswersAllAsked, AnswersFirstAsked}
+use Rattle.client_table.specs.CallsByName.{AnswersAllAsked, AnswersFirstAsked}
 use Rattle.client_table.specs.Named.{all_answered}
 use Rattle.client_table.specs.declared.asked.AnyRequest.{AnyRequest}
 use Rattle.client_table.proofs.Settling.{asked_unchanged}
@@ -11,9 +11,9 @@ use Rattle.disk_trait.specs.Moments.{joined, weaker}
 use Rattle.gate_log.specs.Layout.{LogRecord}
 use Rattle.lisp_object.specs.declared.refusal.TheConstants.{DEVICE, SNAPSHOT_TOO_LARGE}
 use Rattle.message_frames.specs.Frames.{Sent}
-use Rattle.message_session.specs.Account.{MessageAccount, FramesAreLogged, AreNext, AnswersAreStored, FramesAreUnderWay, first_message_account, round_after, with_frames}
-use Rattle.message_session.specs.Answers.{AskAlike, answered_bytes, each_frame}
-use Rattle.message_session.specs.Standing.{AcknowledgesNoFrame, ComeNext, HasLoggedNothing, RestsAt, RestsOrStops}
+use Rattle.message_session.specs.Account.{MessageAccount, FramesAreLogged, AreNextFrames, AnswersAreStored, FramesAreUnderWay, first_message_account, round_after, with_frames}
+use Rattle.message_session.specs.FrameAnswers.{AskAlike, answered_bytes, each_frame}
+use Rattle.message_session.specs.Standing.{AcknowledgesNoFrame, FramesComeNext, HasLoggedNothing, RestsAt, RestsOrStops}
 use Rattle.message_session.specs.Steps.{RenewsWhereDue, StopsAfter}
 use Rattle.message_session.specs.declared.answer.TheConstants.{MOST_CLIENTS}
 use Rattle.message_session.specs.declared.answer.Stop.{Stop}
@@ -33,8 +33,8 @@ use Rattle.prevalence_store.specs.declared.outcome.Outcome.{Outcome}
 use Rattle.prevalence_store.specs.declared.outcome.Outcome.TheVariants.{Accepted, Snapshotted, Refused}
 use Rattle.prevalence_store.specs.meaning.Acceptance.{after}
 use Rattle.prevalence_store.specs.meaning.Files.{MeansWorld}
-use Rattle.messages.specs.Answers.{Round, first_round, with_its_position}
-use Rattle.messages.specs.Calls.{AreAnsweredAndLogged, FailOnDevice, entries_by, left_after}
+use Rattle.messages.specs.MessageAnswers.{Round, first_round, with_its_position}
+use Rattle.messages.specs.MessageCalls.{AreAnsweredAndLogged, FailOnDevice, entries_by, left_after}
 use Rattle.prevalence_store.proofs.Surviving.{both_survive, fewer_survive, none_taken}
 use Rattle.user_macros.specs.Functions.{Functions}
 
@@ -168,7 +168,7 @@ module _ (functions : Functions) {D R : Type 0} (state : D → State) (sound : (
       ap with_its_position (same_rounds functions all frames (first_round last w) alike) ∙ (λ i. with_its_position (each_frame functions (first_round (sym rest.last_is i) (sym rest.now i)) frames))
 
   -- they are under way
-  under_way : (old new : StoreView D R) (last : ℕ) (frames : List Sent) (all : List AnyRequest) → AskAlike all frames → (account : MessageAccount D) → AreNext account frames
+  under_way : (old new : StoreView D R) (last : ℕ) (frames : List Sent) (all : List AnyRequest) → AskAlike all frames → (account : MessageAccount D) → AreNextFrames account frames
       → (w : WorldState) → old.world ≡ Some w → HasLoggedNothing functions state account old last w
       → SurvivesAs functions state old new w (entries_by (all_answered functions MOST_CLIENTS (first_round last w) all).wrote (all_answered functions MOST_CLIENTS (first_round last w) all).entries) 0
       → AllOrNone functions state old new w (entries_by (all_answered functions MOST_CLIENTS (first_round last w) all).wrote (all_answered functions MOST_CLIENTS (first_round last w) all).entries)
@@ -185,7 +185,7 @@ module _ (functions : Functions) {D R : Type 0} (state : D → State) (sound : (
 
   module _ (told : Option (MessageAccount D)) (old new : StoreView D R) (last : ℕ) (rests : RestsAt functions state told old last) where
     -- the first of the frames were not answered
-    module _ (frames : List Sent) (come : ComeNext told frames) (all : List AnyRequest) (alike : AskAlike all frames) (number : ℕ)
+    module _ (frames : List Sent) (come : FramesComeNext told frames) (all : List AnyRequest) (alike : AskAlike all frames) (number : ℕ)
         (answers : (w : WorldState) → old.world ≡ Some w → AnswersFirstAsked functions state old new w MOST_CLIENTS last all (Err number)) where
       none_of_those : AcknowledgesNoFrame functions state told new
       none_of_those account is = by (asked_unchanged functions state old new far.0 MOST_CLIENTS last first.front number first.answers) where
@@ -212,7 +212,7 @@ module _ (functions : Functions) {D R : Type 0} (state : D → State) (sound : (
 
     -- ---- what is handed on: the answers to frames that were answered
 
-    module _ (frames : List Sent) (come : ComeNext told frames) (replies : Replies)
+    module _ (frames : List Sent) (come : FramesComeNext told frames) (replies : Replies)
         (answers : (w : WorldState) → old.world ≡ Some w → (all : List AnyRequest) × AskAlike all frames × AnswersAllAsked functions state old new w MOST_CLIENTS last all (Ok replies)) where
       -- nobody was told so
       pub none_told : AcknowledgesNoFrame functions state told new

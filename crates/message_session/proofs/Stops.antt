@@ -1,15 +1,15 @@
 -- Why frames were not answered together, and what is tried then.
 use Rattle.std.proofs.Common.{◌≡◌, ◌≢◌, inl, inr, ℕ, ◌<◌, List, [], Option, Some, Result, Ok, Err, length, take, drop, refl, sym, ap, subst, ◌∙◌}
 use Rattle.std.proofs.lemmas.List.{take-append-drop}
-use Rattle.client_table.specs.Calls.{AnswersFirstAsked}
+use Rattle.client_table.specs.CallsByName.{AnswersFirstAsked}
 use Rattle.client_table.specs.declared.asked.AnyRequest.{AnyRequest}
 use Rattle.disk_trait.specs.Disk.{State}
 use Rattle.lisp_object.specs.declared.refusal.TheConstants.{DEVICE, LOG_FULL}
 use Rattle.message_frames.specs.Frames.{Sent}
 use Rattle.message_laws.specs.NearRounds.{IsTidy}
 use Rattle.message_laws.proofs.Together.{near_itself}
-use Rattle.message_session.specs.Answers.{AskAlike}
-use Rattle.message_session.specs.Sessions.{HoldsWorldAlone}
+use Rattle.message_session.specs.FrameAnswers.{AskAlike}
+use Rattle.message_session.specs.MessageSessions.{HoldsWorldAlone}
 use Rattle.message_session.specs.Steps.{AnswersFront, AreFramesUntaken, Breaks, RefusesFirst, StopsAfter, TakesFrames, TakesWithRoom, ended_by}
 use Rattle.message_session.specs.declared.answer.TheConstants.{MOST_CLIENTS}
 use Rattle.message_session.specs.declared.answer.Stop.{Stop}
@@ -22,7 +22,7 @@ use Rattle.message_session.proofs.Streams.{none_written}
 use Rattle.plist_state.specs.State.{WorldState}
 use Rattle.prevalence_store.specs.calls.Snapshot.{IsSnapshotted}
 use Rattle.prevalence_store.specs.calls.Store.{StoreView}
-use Rattle.messages.specs.Answers.{first_round}
+use Rattle.messages.specs.MessageAnswers.{first_round}
 use Rattle.user_macros.specs.Functions.{Functions}
 
 module _ (functions : Functions) (last : ℕ) (w : WorldState) (tidy : IsTidy w.properties) {D R : Type 0} (state : D → State) (old new : StoreView D R) (known : old.world ≡ Some w) where

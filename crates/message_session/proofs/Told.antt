@@ -2,7 +2,7 @@
 use Rattle.std.proofs.Common.{◌⊎◌, inl, inr, ℕ, List, ◌++◌, Option, ap, ◌∙◌, sym, append_assoc}
 use Rattle.disk_trait.specs.Disk.{State}
 use Rattle.message_frames.specs.Frames.{Sent}
-use Rattle.message_session.specs.Sessions.{BeginsWithAnsweredFrames, EndsBy, HasCause, EndsUnread}
+use Rattle.message_session.specs.MessageSessions.{BeginsWithAnsweredFrames, EndsBy, HasCause, EndsUnread}
 use Rattle.message_session.specs.declared.ended.MessagesEnd.{MessagesEnd}
 use Rattle.message_session.specs.declared.ended.MessagesEnd.TheVariants.{End, NoFrame, Fault}
 use Rattle.message_session.proofs.Streams.{writes_both}

@@ -1,9 +1,9 @@
 -- what the recipient of the answers keeps account of, and asks
 pub mod Account
 -- what is answered to frames
-pub mod Answers
+pub mod FrameAnswers
 -- how a session goes, and how it ends
-pub mod Sessions
+pub mod MessageSessions
 -- where it stands to the recipient
 pub mod Standing
 -- its steps

@@ -6,8 +6,8 @@ use Rattle.lisp_object.specs.declared.refusal.TheConstants.{DEVICE, INPUT, LOG_F
 use Rattle.message_frames.specs.Frames.{AreFrames, IsBegunFrame, IsMalformedFrame, Sent}
 use Rattle.message_frames.specs.declared.held.Next.{Next}
 use Rattle.message_frames.specs.declared.held.Next.TheVariants as next
-use Rattle.message_session.specs.Answers.{AskAlike, answered_bytes}
-use Rattle.message_session.specs.Sessions.{AreFramesAnswered, BeginsWithAnsweredFrames, CannotBegin, EndsBy, HasCause, MessagesBegin, text_limit}
+use Rattle.message_session.specs.FrameAnswers.{AskAlike, answered_bytes}
+use Rattle.message_session.specs.MessageSessions.{AreFramesAnswered, BeginsWithAnsweredFrames, CannotBegin, EndsBy, HasCause, MessagesBegin, text_limit}
 use Rattle.message_session.specs.declared.answer.Stop.{Stop}
 use Rattle.message_session.specs.declared.answer.Stop.TheVariants as stop
 use Rattle.message_session.specs.declared.ended.MessagesEnd.{MessagesEnd}
@@ -18,7 +18,7 @@ use Rattle.prevalence_store.specs.calls.Execute.{SurvivesAs}
 use Rattle.prevalence_store.specs.calls.Snapshot.{IsSnapshotted, Snapshots}
 use Rattle.prevalence_store.specs.calls.Store.{StoreView}
 use Rattle.prevalence_store.specs.declared.outcome.Outcome.TheVariants.{Refused}
-use Rattle.client_table.specs.Calls.{AnswersAllAsked}
+use Rattle.client_table.specs.CallsByName.{AnswersAllAsked}
 use Rattle.client_table.specs.declared.asked.AnyRequest.{AnyRequest}
 use Rattle.message_session.specs.declared.answer.TheConstants.{MOST_CLIENTS}
 use Rattle.user_macros.specs.Functions.{Functions}

@@ -2,8 +2,8 @@
 ghost use Rattle.std.specs.Prelude.{◌≡◌, ℕ, ◌<◌, ◌≤◌, length, map, take, IfErr, IfOk, OnOk, Some};
 ghost use Rattle.std.specs.List.{flat_map};
 ghost use Rattle.message_frames.specs.Frames.{answer_bytes, sent_frame};
-ghost use Rattle.message_session.specs.Answers.{AskAlike, answers_to, parts_of_asked};
-ghost use Rattle.message_session.specs.Standing.{AnswersMore, ComeNext, RestsAt, RestsOrEnds, RestsOrStops};
+ghost use Rattle.message_session.specs.FrameAnswers.{AskAlike, answers_to, parts_of_asked};
+ghost use Rattle.message_session.specs.Standing.{AnswersMore, FramesComeNext, RestsAt, RestsOrEnds, RestsOrStops};
 ghost use Rattle.message_session.specs.Steps.{AnswersFront, AnswersFrames, RenewsForRoom, RenewsWhereDue, StopsAfter, TakesFrames, TakesWithRoom, ended_by};
 ghost use Rattle.plist_state.specs.Sound.{IsSoundWorldState};
 ghost use Rattle.plist_state.specs.State.{WorldState};
@@ -101,7 +101,7 @@ enum Stop {
     // There was no room or no memory for them, or no snapshot for room, with this number. Fewer of them may be tried.
     Untaken(u16),
     // The session has ended.
-    MessagesEnd(MessagesEnd),
+    Ended(MessagesEnd),
 }
 
 impl Stop {
@@ -124,7 +124,7 @@ pub(crate) fn answer_frames<D: Disk, R: MacroFunctions, O: AnswerRecipient<D, R>
     output: &mut O,
 ) -> Result<(), MessagesEnd>
     requires rests { RestsAt R.Meaning.functions D.state (O.account output.old) store.old course.old.last }
-    requires next { ComeNext (O.account output.old) (map sent_frame frames.now) }
+    requires next { FramesComeNext (O.account output.old) (map sent_frame frames.now) }
     ensures answers { (w : WorldState) → store.old.world ≡ Some w
         → AnswersFrames R.Meaning.functions course.old.last w D.state store.new (O.contents output.old) (O.contents output.new)
         course.new.last (map sent_frame frames.now) result }
@@ -156,7 +156,7 @@ fn answer_front<D: Disk, R: MacroFunctions, O: AnswerRecipient<D, R>>(
     output: &mut O,
 ) -> Result<usize, MessagesEnd>
     requires rests { RestsAt R.Meaning.functions D.state (O.account output.old) store.old course.old.last }
-    requires next { ComeNext (O.account output.old) (map sent_frame frames.now) }
+    requires next { FramesComeNext (O.account output.old) (map sent_frame frames.now) }
     requires any { 0 < length frames.now }
     ensures answers { (w : WorldState) → store.old.world ≡ Some w
         → AnswersFront R.Meaning.functions course.old.last w D.state store.new (O.contents output.old) (O.contents output.new)
@@ -191,7 +191,7 @@ fn answer_in_turn<D: Disk, R: MacroFunctions, O: AnswerRecipient<D, R>>(
     output: &mut O,
 ) -> Result<usize, MessagesEnd>
     requires rests { RestsAt R.Meaning.functions D.state (O.account output.old) store.old course.old.last }
-    requires next { ComeNext (O.account output.old) (map sent_frame frames.now) }
+    requires next { FramesComeNext (O.account output.old) (map sent_frame frames.now) }
     requires any { 0 < length frames.now }
     ensures answers { (w : WorldState) → store.old.world ≡ Some w
         → AnswersFront R.Meaning.functions course.old.last w D.state store.new (O.contents output.old) (O.contents output.new)
@@ -226,7 +226,7 @@ fn take_with_room<D: Disk, R: MacroFunctions, O: AnswerRecipient<D, R>>(
     output: &mut O,
 ) -> Result<usize, Stop>
     requires rests { RestsAt R.Meaning.functions D.state (O.account output.old) store.old course.old.last }
-    requires next { ComeNext (O.account output.old) (map sent_frame frames.now) }
+    requires next { FramesComeNext (O.account output.old) (map sent_frame frames.now) }
     requires any { 0 < length frames.now }
     ensures takes { (w : WorldState) → store.old.world ≡ Some w
         → TakesWithRoom R.Meaning.functions course.old.last w D.state store.new (O.contents output.old) (O.contents output.new)
@@ -275,7 +275,7 @@ fn take_frames<D: Disk, R: MacroFunctions, O: AnswerRecipient<D, R>>(
     output: &mut O,
 ) -> Result<usize, Stop>
     requires rests { RestsAt R.Meaning.functions D.state (O.account output.old) store.old course.old.last }
-    requires next { ComeNext (O.account output.old) (map sent_frame frames.now) }
+    requires next { FramesComeNext (O.account output.old) (map sent_frame frames.now) }
     requires any { 0 < length frames.now }
     ensures takes { (w : WorldState) → store.old.world ≡ Some w
         → TakesFrames R.Meaning.functions course.old.last w D.state store.new (O.contents output.old) (O.contents output.new)

@@ -1,6 +1,6 @@
 // How a session of messages ends.
 ghost use Rattle.std.specs.Prelude.{◌≡◌};
-ghost use Rattle.message_session.specs.Sessions.{message_end_after_cut};
+ghost use Rattle.message_session.specs.MessageSessions.{message_end_after_cut};
 
 use lisp_object::refusal::REOPEN;
 

@@ -1,7 +1,7 @@
 //! A session of messages: frames come in, each is answered, and what they write is logged before that.
 //!
 //! `serve_messages` (module `serve`) serves the frames of an input over a store, to an output. It promises what is written: the position,
-//! and the answer to each frame (specs/Answers.antt), as far as the session came, and why a fault ended it (specs/Sessions.antt). How a session
+//! and the answer to each frame (specs/FrameAnswers.antt), as far as the session came, and why a fault ended it (specs/MessageSessions.antt). How a session
 //! ended is `MessagesEnd`.
 //!
 //! - `serve`: messages are begun, and the input is read to its end. What came is held (`Held` of message_frames) until it is whole frames

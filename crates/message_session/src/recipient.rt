@@ -2,7 +2,7 @@
 ghost use Rattle.std.specs.Prelude.{◌≡◌, ℕ, List, map, Option, None, Some, OnOk, OnErr};
 ghost use Rattle.std.specs.Option.{option_map};
 ghost use Rattle.message_frames.specs.Frames.{position_bytes, sent_frame};
-ghost use Rattle.message_session.specs.Account.{MessageAccount, AnswersAreStored, IsToldIn, first_message_account, with_frames};
+ghost use Rattle.message_session.specs.Account.{MessageAccount, AnswersAreStored, IsPositionToldIn, first_message_account, with_frames};
 ghost use Rattle.plist_state.specs.State.{WorldState};
 ghost use Rattle.sessions.specs.Streams.{Writes, WritesPart};
 
@@ -37,7 +37,7 @@ pub trait AnswerRecipient<D: Disk, R: MacroFunctions> {
     ) -> Result<(), OutputFault>
         requires begins { (kept : MessageAccount D) → account self.old ≡ Some kept → ⊥ }
         requires told { bytes.now ≡ position_bytes position }
-        requires in_world { (world : WorldState) → store.now.world ≡ Some world → IsToldIn position world }
+        requires in_world { (world : WorldState) → store.now.world ≡ Some world → IsPositionToldIn position world }
         ensures whole { OnOk result (Writes (contents self.old) (contents self.new) bytes.now) }
         ensures part { OnErr result (WritesPart (contents self.old) (contents self.new) bytes.now) }
         ensures kept { (later : MessageAccount D) → account self.new ≡ Some later

@@ -2,9 +2,9 @@
 ghost use Rattle.std.specs.Prelude.{◌≡◌, ◌<◌, ◌≤◌, ℕ, List, [], length, true, IfOk, OnOk, Err, None, Some};
 ghost use Rattle.lisp_object.specs.declared.refusal.TheConstants.{REOPEN};
 ghost use Rattle.message_frames.specs.declared.held.Next.TheVariants as next;
-ghost use Rattle.message_session.specs.Account.{MessageAccount, IsToldIn};
-ghost use Rattle.message_session.specs.Sessions.{SessionAsksToReopen, HasNoRoomToBegin, ServesMessages};
-ghost use Rattle.message_session.specs.Standing.{AcknowledgesNoFrame, AnswersFirstOf, ComesNext, IsReadIn, RestsAt, RestsOrEnds};
+ghost use Rattle.message_session.specs.Account.{MessageAccount, IsPositionToldIn};
+ghost use Rattle.message_session.specs.MessageSessions.{SessionAsksToReopen, HasNoRoomToBegin, ServesMessages};
+ghost use Rattle.message_session.specs.Standing.{AcknowledgesNoFrame, AnswersFirstOf, BytesComeNext, IsReadIn, RestsAt, RestsOrEnds};
 ghost use Rattle.message_session.specs.Steps.{AnswersAllHeld, AnswersFramesOfInput, AnswersSomeHeld, MayBegin, TakesPiece};
 ghost use Rattle.plist_state.specs.State.{WorldState};
 
@@ -32,8 +32,8 @@ const MOST_READS: u64 = 1 << 40;
 /// Serves the frames of an input over a store: tells its position, and answers each frame, those together that stand whole in what was
 /// read at once. A snapshot is taken after so many messages that wrote, never if that is 0, and where the half has no room.
 ///
-/// What is written is the position, and the answer to each frame, in order (`session_bytes` of specs/Answers.antt): whole at the end of the
-/// input and at bytes that are no frame. A fault has one of these causes (`IsBroken` of specs/Sessions.antt), and nothing is written of it:
+/// What is written is the position, and the answer to each frame, in order (`session_bytes` of specs/FrameAnswers.antt): whole at the end of the
+/// input and at bytes that are no frame. A fault has one of these causes (`IsBroken` of specs/MessageSessions.antt), and nothing is written of it:
 ///
 /// - 67: a read failed, or there were 2^40 of them. All that came whole is answered.
 /// - 68: a write failed or took nothing. The frames whose answers were to go out are stored, and a part of their answers is written.
@@ -96,7 +96,7 @@ fn begin<D: Disk, R: MacroFunctions>(store: &mut Store<D, R>) -> Result<u64, Mes
     ensures begun { (w : WorldState) → store.old.world ≡ Some w
         → MayBegin R.Meaning.functions D.state store.old store.new w result }
     ensures told { IfOk result (λ position. (w : WorldState) → store.new.world ≡ Some w
-        → IsToldIn position w) }
+        → IsPositionToldIn position w) }
     ensures macros { store.new.macros ≡ store.old.macros }
 {
     match begin_messages(store) {
@@ -112,7 +112,7 @@ fn begin_anew<D: Disk, R: MacroFunctions>(store: &mut Store<D, R>) -> Result<u64
         → HasNoRoomToBegin R.Meaning.functions D.state store.old w
         → MayBegin R.Meaning.functions D.state store.old store.new w result }
     ensures told { (before : WorldState) → store.old.world ≡ Some before
-        → IfOk result (λ position. (w : WorldState) → store.new.world ≡ Some w → IsToldIn position w) }
+        → IfOk result (λ position. (w : WorldState) → store.new.world ≡ Some w → IsPositionToldIn position w) }
     ensures macros { store.new.macros ≡ store.old.macros }
 {
     match renew_for_room(store) {
@@ -204,7 +204,7 @@ impl Session {
     ) -> Result<bool, MessagesEnd>
         requires rests { RestsAt R.Meaning.functions D.state
             (O.account output.old) store.old self.old.course.last }
-        requires next { ComesNext (O.account output.old) self.old.held }
+        requires next { BytesComeNext (O.account output.old) self.old.held }
         ensures answers { (w : WorldState) → store.old.world ≡ Some w
             → AnswersAllHeld R.Meaning.functions self.old self.new w D.state store.new
             (O.contents output.old) (O.contents output.new) result }
@@ -234,7 +234,7 @@ impl Session {
     ) -> Result<Next, MessagesEnd>
         requires rests { RestsAt R.Meaning.functions D.state
             (O.account output.old) store.old self.old.course.last }
-        requires next { ComesNext (O.account output.old) self.old.held }
+        requires next { BytesComeNext (O.account output.old) self.old.held }
         ensures answers { (w : WorldState) → store.old.world ≡ Some w
             → AnswersSomeHeld R.Meaning.functions self.old self.new w D.state store.new
             (O.contents output.old) (O.contents output.new) result }

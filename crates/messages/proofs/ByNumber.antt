@@ -10,9 +10,9 @@ use Rattle.prevalence_store.specs.declared.failure.Unlogged.TheVariants.{Full, D
 use Rattle.messages.specs.declared.own.Own.{Own}
 use Rattle.messages.specs.declared.request.Request.{Request}
 use Rattle.prevalence_store.specs.meaning.Acceptance.{IsFormNumber, accepts}
-use Rattle.messages.specs.Answers.{round_after_requests, first_round}
+use Rattle.messages.specs.MessageAnswers.{round_after_requests, first_round}
 use Rattle.messages.specs.Position.{own_text}
-use Rattle.messages.specs.Calls.{AnswersRequests, AreNotAnswered, IsOwnRefused, RefusesOwn}
+use Rattle.messages.specs.MessageCalls.{AnswersRequests, AreNotAnswered, IsOwnRefused, RefusesOwn}
 use Rattle.prevalence_store.specs.steps.Failure.{failure_number}
 use Rattle.session_words.specs.declared.mode.Mode.{Mode}
 use Rattle.session_words.specs.declared.mode.Mode.TheVariants.{Rescue}

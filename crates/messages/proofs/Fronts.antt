@@ -24,8 +24,8 @@ use Rattle.messages.specs.declared.request.TheConstants.{ANSWER_BYTES}
 use Rattle.prevalence_store.specs.calls.ExecuteAll.{world_left_after, told_of}
 use Rattle.prevalence_store.specs.calls.Store.{StoreView}
 use Rattle.prevalence_store.specs.meaning.Acceptance.{accepts}
-use Rattle.messages.specs.Answers.{Round, answer_in, answer_to_question, first_round, by_number, without_its_position, with_its_position, each_request, one_request, with_message, with_old, with_own, wrote_by}
-use Rattle.messages.specs.Calls.{AnswersRequests, RefusesOwn, RefusesRequest}
+use Rattle.messages.specs.MessageAnswers.{Round, answer_in, answer_to_question, first_round, by_number, without_its_position, with_its_position, each_request, one_request, with_message, with_old, with_own, wrote_by}
+use Rattle.messages.specs.MessageCalls.{AnswersRequests, RefusesOwn, RefusesRequest}
 use Rattle.messages.specs.Fronts.{AnswersFirst, answer_length, first_of, is_full, is_none_left, room_left}
 use Rattle.messages.specs.Position.{position_property}
 use Rattle.messages.specs.Rounds.{IfRefused, told_in}

@@ -25,8 +25,8 @@ use Rattle.messages.specs.declared.own.Own.{Own}
 use Rattle.messages.specs.declared.own.Own.TheVariants.{Clearing, Position}
 use Rattle.messages.specs.declared.request.Request.{Request}
 use Rattle.prevalence_store.specs.meaning.Acceptance.{read_in, transaction_value}
-use Rattle.messages.specs.Answers.{Round, each_request}
-use Rattle.messages.specs.Calls.{IsNotCleared, IsNotClosed, IsNotOld, IsOwnRead, IsOwnRefused, RefusesOwn, RefusesRequest}
+use Rattle.messages.specs.MessageAnswers.{Round, each_request}
+use Rattle.messages.specs.MessageCalls.{IsNotCleared, IsNotClosed, IsNotOld, IsOwnRead, IsOwnRefused, RefusesOwn, RefusesRequest}
 use Rattle.messages.specs.Position.{own_form, own_text, position_property}
 use Rattle.messages.specs.Rounds.{IfRefused, IsPositionNeeded, IsOwnForm, own_datum}
 use Rattle.prevalence_store.specs.steps.Batch.{IsNotAdded}

@@ -20,13 +20,13 @@ use Rattle.messages.specs.declared.request.Request.{Request}
 use Rattle.messages.specs.declared.round.Round.{Round as Held}
 use Rattle.prevalence_store.specs.calls.Store.{StoreView}
 use Rattle.prevalence_store.specs.meaning.Acceptance.{after}
-use Rattle.messages.specs.Answers.{Round, round_after_requests, first_round}
-use Rattle.messages.specs.Calls.{AnswersRequests, AreNotAnswered, FailOnDevice, entries_by, left_after}
+use Rattle.messages.specs.MessageAnswers.{Round, round_after_requests, first_round}
+use Rattle.messages.specs.MessageCalls.{AnswersRequests, AreNotAnswered, FailOnDevice, entries_by, left_after}
 use Rattle.messages.specs.Rounds.{MayBeLogged as IsMadeBy, round_in, told_in}
 use Rattle.messages.specs.Turn.{AreRequestsAnswered, MakesReplies, front_requests, round_of}
 use Rattle.prevalence_store.specs.steps.Batch.{FailsBatch, IsEmpty, StoresBatch, entries_in, entries_of}
 use Rattle.prevalence_store.specs.steps.Failure.{failure_number, is_device_failure}
-use Rattle.prevalence_store.specs.steps.Together.{IsMade, IsNotMade}
+use Rattle.prevalence_store.specs.steps.Together.{IsTurnLogged, IsTurnNotLogged}
 use Rattle.user_macros.specs.Functions.{Functions}
 
 module _ (functions : Functions) (turn : FirstRequests) (w : WorldState) where
@@ -81,7 +81,7 @@ module _ (functions : Functions) (turn : FirstRequests) (w : WorldState) where
     abbrev needed : List LogRecord
     needed = entries_by round.wrote round.entries
 
-    pub replies_logged : (made : Result Replies ℕ) → IsMade functions state old new w (λ left records. MakesReplies functions turn w left records made)
+    pub replies_logged : (made : Result Replies ℕ) → IsTurnLogged functions state old new w (λ left records. MakesReplies functions turn w left records made)
         → AnswersRequests functions state old new w turn.last (front_requests functions turn w) made
     replies_logged (Ok replies) logged =
         let is = logged.makes in
@@ -91,7 +91,7 @@ module _ (functions : Functions) (turn : FirstRequests) (w : WorldState) where
         record { told = is.told; last = is.last; logs = stores.logs; survives = stores.survives; all_or_none = stores.all_or_none }
     replies_logged (Err number) logged = inl (logged.makes.0, logged.stores.logs.nothing (ap length logged.makes.2))
 
-    pub refused_unchanged : (made : Result Replies ℕ) → IsMade functions state old new w (λ left records. MakesReplies functions turn w left records made) → IfErr made (λ number. new ≡ old)
+    pub refused_unchanged : (made : Result Replies ℕ) → IsTurnLogged functions state old new w (λ left records. MakesReplies functions turn w left records made) → IfErr made (λ number. new ≡ old)
     refused_unchanged (Ok replies) logged = tt
     refused_unchanged (Err number) logged = logged.stores.logs.nothing (ap length logged.makes.2)
 
@@ -117,7 +117,7 @@ module _ (functions : Functions) (turn : FirstRequests) (w : WorldState) where
         }
     failed_in left records (Err number) is fails = absurd (omega (arith, fails.some, ap length is.2))
 
-    left_by : (cause : Unlogged) → IsNotMade functions state old new w (λ left records. (made : Result Replies ℕ) × MakesReplies functions turn w left records made) cause
+    left_by : (cause : Unlogged) → IsTurnNotLogged functions state old new w (λ left records. (made : Result Replies ℕ) × MakesReplies functions turn w left records made) cause
         → AreNotAnswered functions state old new w round cause
     left_by OutOfMemory unmade = record { unchanged = unmade.unchanged; full = λ full. absurd (cc); stopped = λ device. absurd (cc) }
     left_by Full unmade =
@@ -127,7 +127,7 @@ module _ (functions : Functions) (turn : FirstRequests) (w : WorldState) where
         let stopped = unmade.stopped refl in
         record { unchanged = λ calm. absurd (cc); full = λ full. absurd (cc); stopped = λ _. failed_in stopped.left stopped.records stopped.makes.0 stopped.makes.1 stopped.fails }
 
-    pub replies_unlogged : (cause : Unlogged) → IsNotMade functions state old new w (λ left records. (made : Result Replies ℕ) × MakesReplies functions turn w left records made) cause
+    pub replies_unlogged : (cause : Unlogged) → IsTurnNotLogged functions state old new w (λ left records. (made : Result Replies ℕ) × MakesReplies functions turn w left records made) cause
         → AnswersRequests functions state old new w turn.last (front_requests functions turn w) (Err (failure_number cause))
     replies_unlogged cause unmade = inr (cause, refl, left_by cause unmade)
 

@@ -6,11 +6,11 @@ use Rattle.prevalence_store.specs.calls.Store.{StoreView}
 use Rattle.messages.specs.declared.request.Replies.{Replies}
 use Rattle.messages.specs.declared.request.Request.{Request}
 use Rattle.messages.specs.declared.request.TheConstants.{ANSWER_BYTES}
-use Rattle.messages.specs.Answers.{Round, first_round, each_request, one_request}
-use Rattle.messages.specs.Calls.{AnswersRequests}
+use Rattle.messages.specs.MessageAnswers.{Round, first_round, each_request, one_request}
+use Rattle.messages.specs.MessageCalls.{AnswersRequests}
 use Rattle.user_macros.specs.Functions.{Functions}
 
--- the bytes of the answers
+-- how many bytes the answers of a round have together
 abbrev pub answer_length : Round → ℕ
 answer_length round = sum_by (λ answer. length answer.0) round.told
 
@@ -32,22 +32,23 @@ module _ (functions : Functions) {D R : Type 0} (state : D → State) (old new :
 
 -- ---- by the code
 
--- whether the answers have so many bytes, if that ends a batch
+-- whether the answers of a round have so many bytes; never, where no number of bytes ends a batch
 abbrev pub is_full : Option ℕ → Round → Bool
 is_full None round = false
 is_full (Some most) round = nat_le most (answer_length round)
 
--- what is left of a room after so many bytes, and whether that is none
+-- what is left of a room after so many bytes; None is a room without an end
 abbrev pub room_left : Option ℕ → ℕ → Option ℕ
 room_left None bytes = None
 room_left (Some left) bytes = Some (left - bytes)
 
--- whether there is a room, and nothing of it is left
+-- whether nothing of a room is left; never of one without an end
 abbrev pub is_none_left : Option ℕ → Bool
 is_none_left None = false
 is_none_left (Some left) = left == 0
 
--- the first of these requests, up to the one with whose answer they have
+-- the first of these requests, up to the one with whose answer the answers have so many bytes; all of them, where none comes
+-- to that
 unfoldable pub first_of : Functions → Option ℕ → Round → List Request → List Request
 first_of functions most round [] = []
 first_of functions most round (request ∷ later) =

@@ -7,8 +7,8 @@ use Rattle.lisp_object.specs.declared.refusal.TheConstants.{DEVICE, LOG_FULL, NO
 use Rattle.plist_state.specs.State.{WorldState}
 use Rattle.prevalence_store.specs.calls.Store.{StoreView}
 use Rattle.messages.specs.declared.request.Request.{Request}
-use Rattle.messages.specs.Answers.{round_after_requests, first_round}
-use Rattle.messages.specs.Calls.{FailOnDevice, RefusesOwn, records}
+use Rattle.messages.specs.MessageAnswers.{round_after_requests, first_round}
+use Rattle.messages.specs.MessageCalls.{FailOnDevice, RefusesOwn, records}
 use Rattle.user_macros.specs.Functions.{Functions}
 
 module _ (functions : Functions) {D R : Type 0} (state : D → State) (old new : StoreView D R) (world : WorldState) (last : ℕ) (requests : List Request) where

@@ -19,7 +19,7 @@ use Rattle.session_words.specs.declared.mode.Mode.TheVariants.{Rescue}
 use Rattle.messages.specs.declared.request.RequestAnswer.{RequestAnswer}
 use Rattle.messages.specs.declared.round.Round.{Round as Held}
 use Rattle.prevalence_store.specs.meaning.Acceptance.{after, read_in}
-use Rattle.messages.specs.Answers.{Round}
+use Rattle.messages.specs.MessageAnswers.{Round}
 use Rattle.messages.specs.Position.{own_form, own_text, position_property}
 use Rattle.prevalence_store.specs.steps.Batch.{entries_in}
 use Rattle.user_macros.specs.Functions.{Functions}
@@ -28,7 +28,7 @@ use Rattle.user_macros.specs.Functions.{Functions}
 abbrev pub told_in : RequestAnswer → List ℕ × Bool
 told_in answer = (answer.text.items, answer.wrote)
 
--- in this world
+-- a round as it is held in memory, with this world
 abbrev pub round_in : Held → WorldState → Round
 round_in held world = record {
   told = map told_in held.answers.items;
@@ -38,7 +38,7 @@ round_in held world = record {
   wrote = held.wrote;
 }
 
--- its records make the world after it, from this one on, and fit the log
+-- The records of a round make the world after it, from this one on, and each fits the log.
 pub record MayBeLogged (functions : Functions) (first : WorldState) (round : Round) : Type 0 where
   pub again : after functions first round.entries ≡ Some round.left
   pub fit : AllByRecursion IsLogRecord round.entries
@@ -47,19 +47,20 @@ pub record MayBeLogged (functions : Functions) (first : WorldState) (round : Rou
 abbrev pub StaysMade : Functions → Round → Round → Type 0
 StaysMade functions before later = (first : WorldState) → MayBeLogged functions first before → MayBeLogged functions first later
 
--- what holds of the number, if this is a refusal
+-- what holds of the number, if a form was not added because it is refused; of want of memory nothing is said
 abbrev pub IfRefused : Unadded → (ℕ → Type 0) → Type 0
 IfRefused (Refused number) holds = holds number
 IfRefused OutOfMemory holds = Unit {0}
 
 -- ---- a form of the store's own
 
--- the position is taken out only where it is
+-- what a form of the store's own needs in the world: the one that takes the position out needs a position, the one that sets
+-- it needs nothing
 abbrev pub IsPositionNeeded : Own → WorldState → Type 0
 IsPositionNeeded Clearing world = IsSome (position_property world)
 IsPositionNeeded (Position n) world = Unit {0}
 
--- what is read of it, as a datum
+-- a call of an operator of COMMON-LISP, as a datum
 abbrev pub call_datum : List ℕ → List Datum → Datum
 call_datum operator arguments = datum.List (datum.Symbol common_lisp operator ∷ arguments) None
 
@@ -72,7 +73,7 @@ abbrev pub own_datum : Own → Datum
 own_datum Clearing = call_datum (codes "REMPROP") (quoted_datum ∷ quoted_datum ∷ [])
 own_datum (Position n) = call_datum (codes "SETF") (call_datum (codes "GET") (quoted_datum ∷ quoted_datum ∷ []) ∷ datum.Integer (pos n) ∷ [])
 
--- it was read from its text in this world, whose packages have each symbol of it
+-- A form of the store's own was read from its text in this world, whose packages have each symbol of it.
 pub record IsOwnForm (functions : Functions) (own : Own) (world : WorldState) (read : ReadForm) (text : List ℕ) : Type 0 where
   pub own_is : text ≡ own_text own
   pub reads : read_in functions world Rescue text ≡ form (own_form own) 0 (length text) (length text)

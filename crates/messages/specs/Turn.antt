@@ -5,8 +5,8 @@ use Rattle.plist_state.specs.State.{WorldState}
 use Rattle.messages.specs.declared.first_requests.FirstRequests.{FirstRequests}
 use Rattle.messages.specs.declared.request.Replies.{Replies}
 use Rattle.messages.specs.declared.request.Request.{Request}
-use Rattle.messages.specs.Answers.{Round, round_after_requests, first_round}
-use Rattle.messages.specs.Calls.{RefusesOwn, entries_by, left_after}
+use Rattle.messages.specs.MessageAnswers.{Round, round_after_requests, first_round}
+use Rattle.messages.specs.MessageCalls.{RefusesOwn, entries_by, left_after}
 use Rattle.messages.specs.Fronts.{first_of}
 use Rattle.messages.specs.Rounds.{MayBeLogged, told_in}
 use Rattle.user_macros.specs.Functions.{Functions}
@@ -20,7 +20,7 @@ pub record AreRequestsAnswered (functions : Functions) (world : WorldState) (rou
   pub records_are : records ≡ entries_by round.wrote round.entries
 
 module _ (functions : Functions) (turn : FirstRequests) (world : WorldState) where
-  -- those that are to be answered together
+  -- the requests that this turn answers: the first of its requests, up to the one with whose answer a batch ends
   abbrev pub front_requests : List Request
   front_requests = first_of functions turn.most (first_round turn.last world) turn.requests.now
 

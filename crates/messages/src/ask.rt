@@ -3,7 +3,7 @@ ghost use Rattle.std.specs.Prelude.{◌≡◌, Ok, IfOk};
 ghost use Rattle.form_eval.specs.Laws.{MayEvaluate};
 ghost use Rattle.lisp_object.specs.Datum.{object_of};
 ghost use Rattle.lisp_operators.specs.EvaluationAnswers.{IsArgument, done};
-ghost use Rattle.messages.specs.Answers.{answer_to_asked, answer_to_question};
+ghost use Rattle.messages.specs.MessageAnswers.{answer_to_asked, answer_to_question};
 ghost use Rattle.prevalence_store.specs.meaning.Forgetting.{question_in_force};
 
 use crate::request::QUESTION_WRITES;

@@ -3,8 +3,8 @@ ghost use Rattle.std.specs.Prelude.{◌≡◌, ◌≢◌, ◌<◌, ◌≤◌, []
 ghost use Rattle.std.specs.Option.{option_and_then};
 ghost use Rattle.lisp_object.specs.declared.refusal.TheConstants.{DEVICE as DEVICE_FAULT, REOPEN as NOT_OPEN};
 ghost use Rattle.plist_state.specs.State.{WorldState};
-ghost use Rattle.messages.specs.Answers.{first_round};
-ghost use Rattle.messages.specs.Calls.{AnswersRequests, BeginsMessages};
+ghost use Rattle.messages.specs.MessageAnswers.{first_round};
+ghost use Rattle.messages.specs.MessageCalls.{AnswersRequests, BeginsMessages};
 ghost use Rattle.messages.specs.Fronts.{AnswersFirst, first_of};
 ghost use Rattle.messages.specs.Position.{is_position_hidden, position as position_of, position_property};
 

@@ -1,8 +1,9 @@
 // The first of some requests, answered until their answers have so many bytes.
+// After an error the world and the round may have changed: the marks of the world lead back.
 ghost use Rattle.std.specs.Prelude.{◌≡◌, ℕ, Bool, List, [], ◌∷◌, ◌++◌, false, length, map, IfErr, OnOk};
 ghost use Rattle.plist_state.specs.State.{Worlds};
-ghost use Rattle.messages.specs.Answers.{round_after_requests, with_its_position, each_request};
-ghost use Rattle.messages.specs.Calls.{IsNotClosed, RefusesOwn};
+ghost use Rattle.messages.specs.MessageAnswers.{round_after_requests, with_its_position, each_request};
+ghost use Rattle.messages.specs.MessageCalls.{IsNotClosed, RefusesOwn};
 ghost use Rattle.messages.specs.Fronts.{first_of, is_none_left, room_left};
 ghost use Rattle.messages.specs.Rounds.{IfRefused, StaysMade, round_in, told_in};
 ghost use Rattle.prevalence_store.specs.steps.Batch.{IsWorldMarked};

@@ -1,6 +1,6 @@
 //! Why requests are refused.
 ghost use Rattle.std.specs.Prelude.{ℕ, List, Err};
-ghost use Rattle.messages.specs.Calls.{AnswersRequests};
+ghost use Rattle.messages.specs.MessageCalls.{AnswersRequests};
 ghost use Rattle.messages.specs.Refusals.{AreRefusedBy};
 ghost use Rattle.messages.specs.declared.request.Request.{Request};
 ghost use Rattle.plist_state.specs.State.{WorldState};

@@ -3,8 +3,8 @@
 //! A message has a number, and is carried out once: the number of the last one that wrote is a property of the world, the position
 //! (specs/Position.antt), and is logged together with what the messages need. A question is evaluated, and nothing of it is left.
 //!
-//! - `begin_messages` gives the position, and makes it 0 in a store that has none (`BeginsMessages` of specs/Calls.antt); `position` tells it.
-//! - `answer_requests` answers messages and questions one after the other (specs/Answers.antt), and logs what they need together, each
+//! - `begin_messages` gives the position, and makes it 0 in a store that has none (`BeginsMessages` of specs/MessageCalls.antt); `position` tells it.
+//! - `answer_requests` answers messages and questions one after the other (specs/MessageAnswers.antt), and logs what they need together, each
 //!   answer with its cause (`AnswersRequests`). `answer_first_requests` answers the first of them (`AnswersFirst` of specs/Fronts.antt).
 //! - `refusals_have_causes` is a law: the number with which they are refused tells why (specs/Refusals.antt).
 //!

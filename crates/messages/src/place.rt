@@ -35,7 +35,7 @@ impl PositionPlace {
         Ok(PositionPlace { symbol })
     }
 
-    // What stands there.
+    // What stands there; None where nothing does.
     fn value<'a>(&self, world: &'a World) -> Option<&'a Datum>
         ensures value { option_map (λ d. object_of d.now) result ≡ position_property world.now.0 }
         ensures proper { IfSome result (λ d. is_proper d.now ≡ true) }
@@ -65,7 +65,7 @@ impl PositionPlace {
         }
     }
 
-    /// The number that stands there.
+    /// The number that stands there; None where nothing does, or something else than a number of 64 bits.
     pub(crate) fn number(&self, world: &World) -> Option<u64>
         ensures { result ≡ position world.now.0 }
     {
@@ -76,7 +76,7 @@ impl PositionPlace {
     }
 }
 
-/// The number of 64 bits that a datum is.
+/// The number of 64 bits that a datum is; None of any other datum, also of an integer below 0 or over 64 bits.
 pub fn number_of(datum: &Datum) -> Option<u64>
     requires { is_proper datum.now ≡ true }
     ensures { result ≡ number_of_object (object_of datum.now) }

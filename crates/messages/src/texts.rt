@@ -3,7 +3,7 @@ ghost use Rattle.std.specs.Prelude.{◌≡◌, true, IfOk};
 ghost use Rattle.lisp_object.specs.Datum.{is_proper, object_of};
 ghost use Rattle.prevalence_store.specs.calls.Execute.{IsProperOutcome};
 ghost use Rattle.prevalence_store.specs.calls.ExecuteAll.{told_by};
-ghost use Rattle.messages.specs.Answers.{answer_in, refusal_answer, refusal_text, printed_value};
+ghost use Rattle.messages.specs.MessageAnswers.{answer_in, refusal_answer, refusal_text, printed_value};
 
 use canon_printer::print;
 use lisp_object::Datum;

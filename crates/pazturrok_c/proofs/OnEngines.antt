@@ -1,6 +1,6 @@
 -- What a call does to the engine of a slot, from what it did to the engine that it took out and put back.
 use Rattle.std.proofs.Common.{◌≡◌, ℕ, Option, Some, sym, subst}
-use Rattle.pazturrok_c.specs.Calls.{OnEngine}
+use Rattle.pazturrok_c.specs.EngineCalls.{OnEngine}
 use Rattle.pazturrok_c.specs.declared.engine.Engine.{Engine}
 
 pub engine_there : (old new : Engine) (found left : Option Engine) (number : ℕ) (Does : Engine → Engine → Type 0) → Some old ≡ found → left ≡ Some new → Does old new → OnEngine found left number Does

@@ -4,7 +4,7 @@ use Rattle.std.specs.Borrow.{Bor}
 use Rattle.std.specs.Int.{w16, w64, to_le_bytes}
 use Rattle.std.specs.List.{flat_map}
 use Rattle.canon_printer.specs.Printed.{printed}
-use Rattle.deferred_disk.specs.Calls.{first_calls}
+use Rattle.deferred_disk.specs.DiskRequests.{first_calls}
 use Rattle.deferred_disk.specs.Disk.{calls_of, pending_of, state_by_calls}
 use Rattle.disk_trait.specs.Orders.{OrderValue}
 use Rattle.deferred_disk.specs.declared.disk.DeferredDisk.{DeferredDisk}
@@ -21,7 +21,7 @@ use Rattle.session_words.specs.declared.mode.Mode.{Mode}
 use Rattle.session_words.specs.declared.mode.Mode.TheVariants.{Current, Rescue}
 use Rattle.prevalence_store.specs.declared.outcome.Outcome.{Outcome}
 use Rattle.prevalence_store.specs.declared.outcome.Outcome.TheVariants.{Accepted, Snapshotted, Refused}
-use Rattle.pazturrok_c.specs.Texts.{texts_in}
+use Rattle.pazturrok_c.specs.JoinedTexts.{texts_in}
 use Rattle.six_functions.specs.MacroFunctions.{six_functions}
 
 -- the mode that a flag asks for
@@ -52,7 +52,8 @@ outcome_bytes left (Accepted value) = numbered_answer 0 (value_text_in left (obj
 outcome_bytes left Snapshotted = numbered_answer 0 []
 outcome_bytes left (Refused number) = numbered_answer number []
 
--- The number of many outcomes, and what is told of them. Where there is no room for that the number is 90.
+-- The number of a call with many texts, and the bytes that tell what became of each. Where there is no room for those the
+-- number is 90.
 abbrev pub AreOutcomesTold : Option WorldState → List Outcome → ℕ → List ℕ → Type 0
 AreOutcomesTold left outcomes number answers = ((number ≡ 0) × (answers ≡ flat_map (outcome_bytes left) outcomes)) ⊎ (number ≡ NO_MEMORY)
 
@@ -69,7 +70,7 @@ pub record IsOpenedOn {R : Type 0} (a b : List ℕ) (limit : ℕ) (store : Store
   pub macros : R
   pub opened : IsOpened six_functions state_by_calls disk macros limit store
 
--- they were refused with this number
+-- two files of these bytes were refused with this number
 pub record IsUnopenedOn (a b : List ℕ) (limit number : ℕ) : Type 0 where
   pub disk : DeferredDisk
   pub begins : calls_of disk ≡ first_calls a b
@@ -102,5 +103,6 @@ module _ {R : Type 0} (old new : StoreView DeferredDisk R) where
     pub executes : (world : WorldState) → old.world ≡ Some world → ExecutesAll six_functions state_by_calls old new world mode texts outcomes
     pub answered : AreOutcomesTold new.world outcomes number answers
 
+  -- the store executed the texts; or there was no room for them, with the number 90, and nothing changes
   abbrev pub ExecutesMany : Mode → List ℕ → List ℕ → ℕ → List ℕ → Type 0
   ExecutesMany mode bytes ends number answers = AreExecutedOf mode bytes ends number answers ⊎ ((number ≡ NO_MEMORY) × (new ≡ old))

@@ -1,6 +1,6 @@
-pub mod Calls
+pub mod EngineCalls
 pub mod Engine
 pub mod OwnedEngine
 pub mod Messages
 pub mod Requests
-pub mod Texts
+pub mod JoinedTexts

@@ -10,14 +10,14 @@ use Rattle.plist_state.specs.State.{WorldState}
 use Rattle.prevalence_store.specs.calls.Store.{StoreView}
 use Rattle.messages.specs.declared.request.Replies.{Replies}
 use Rattle.messages.specs.declared.request.Request.{Request}
-use Rattle.messages.specs.Calls.{AnswersRequests, BeginsMessages}
+use Rattle.messages.specs.MessageCalls.{AnswersRequests, BeginsMessages}
 use Rattle.six_functions.specs.MacroFunctions.{six_functions}
 
--- The number of replies, and what is told of them. Where there is no room for that the number is 90.
+-- The number of a call with requests, and the bytes that tell each reply. Where there is no room for those the number is 90.
 abbrev pub AreRepliesTold : Replies → ℕ → List ℕ → Type 0
 AreRepliesTold replies number answers = ((number ≡ 0) × (answers ≡ flat_map bytes_of_answer replies.answers.items)) ⊎ (number ≡ NO_MEMORY)
 
--- the same of what the store gave: replies, or the number of a refusal
+-- what is told of what the store gave: replies, or the number of a refusal
 abbrev pub IsReplyOrRefusalTold : Result Replies ℕ → ℕ → List ℕ → Type 0
 IsReplyOrRefusalTold (Ok replies) number answers = AreRepliesTold replies number answers
 IsReplyOrRefusalTold (Err refusal) number answers = number ≡ refusal

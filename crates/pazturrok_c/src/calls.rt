@@ -1,6 +1,7 @@
-// What C asks of an engine.
+// What C asks of an engine. While orders are open each of these calls is refused with 61, and changes nothing; after any refusal
+// the answer has no bytes.
 ghost use Rattle.std.specs.Prelude.{◌≡◌, length, min};
-ghost use Rattle.pazturrok_c.specs.Calls.{AnswersEach, BeginsWithMessages, ExecutesForm, ExecutesForms, AreBytesCopied, TakesSnapshot, TellsEnd};
+ghost use Rattle.pazturrok_c.specs.EngineCalls.{AnswersEach, BeginsWithMessages, ExecutesForm, ExecutesForms, AreBytesCopied, TakesSnapshot, TellsEnd};
 
 use crate::done::{CallResult, RequestHead};
 use crate::engine::Engine;
@@ -30,7 +31,7 @@ impl Engine {
         }
     }
 
-    /// Executes a form. As much of its answer is copied as there is room for.
+    /// Executes a form. As much of its answer is copied as there is room for; after a refusal nothing is said of `answer`.
     pub(crate) fn execute_for(&mut self, rescue: bool, text: &[u8], answer: &mut [u8]) -> CallResult
         ensures asked { ExecutesForm self.old self.new rescue text.now result }
         ensures copies { result.number ≡ 0 → AreBytesCopied self.new.answer.items 0 answer.old answer.new
@@ -43,7 +44,8 @@ impl Engine {
         self.done(number, self.answer().len())
     }
 
-    /// Executes the forms whose texts end at these places.
+    /// Executes the forms whose texts end at these places, one after the other. The number of one that is refused stands in
+    /// the answer.
     pub(crate) fn execute_all_for(&mut self, rescue: bool, texts: &[u8], ends: &[u64]) -> CallResult
         ensures { ExecutesForms self.old self.new rescue texts.now ends.now result }
     {
@@ -51,7 +53,7 @@ impl Engine {
         self.done(number, self.answer().len())
     }
 
-    /// Begins with messages.
+    /// Begins with messages, and gives the position of the store; after a refusal nothing is said of `position`.
     pub(crate) fn begin_messages_for(&mut self, position: &mut u64) -> CallResult
         ensures { BeginsWithMessages self.old self.new position.new result }
     {
@@ -59,7 +61,8 @@ impl Engine {
         self.done(number, 0)
     }
 
-    /// Answers the requests whose texts end at these places.
+    /// Answers the requests of these heads, one after the other, after the message of the number `last`. Their texts stand
+    /// one behind the other, and each head says where its own ends.
     pub(crate) fn answer_requests_for(
         &mut self,
         last: u64,

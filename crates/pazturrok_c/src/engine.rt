@@ -47,7 +47,7 @@ fn mode_of(rescue: bool) -> Mode
 }
 
 impl Engine {
-    ghost use Rattle.pazturrok_c.specs.Calls.{AreOrdersPerformed};
+    ghost use Rattle.pazturrok_c.specs.EngineCalls.{AreOrdersPerformed};
 
     /// Opens the store of two files that hold these bytes. Else the number of the refusal: where the store is not
     /// opened on them, or there was no memory for a copy.
@@ -240,18 +240,21 @@ impl Engine {
         self.store.report_done(count);
     }
 
+    /// The generation of the half in use.
     pub(crate) fn generation(&self) -> u64
         ensures { result ≡ self.now.store.generation }
     {
         self.store.generation()
     }
 
+    /// How many records the half in use has.
     pub(crate) fn record_count(&self) -> u64
         ensures { result ≡ self.now.store.record_count }
     {
         self.store.record_count()
     }
 
+    /// The version of the half in use.
     pub(crate) fn version(&self) -> u16
         ensures { result ≡ self.now.store.version }
     {

@@ -4,7 +4,7 @@ ghost use Rattle.deferred_disk.specs.Bytes.{orders_bytes};
 ghost use Rattle.deferred_disk.specs.Disk.{pending_of};
 ghost use Rattle.lisp_object.specs.Refusal.{name_of as name};
 ghost use Rattle.lisp_object.specs.declared.refusal.TheConstants.{REOPEN as reopen};
-ghost use Rattle.pazturrok_c.specs.Calls.{AnswersEach, BeginsWithMessages, ExecutesForm, ExecutesForms, AreBytesCopied, AreOrdersPerformed, MayRefuseToOpen, OnEngine, Opens, ShowsAnswer, TakesSnapshot, TellsNothing};
+ghost use Rattle.pazturrok_c.specs.EngineCalls.{AnswersEach, BeginsWithMessages, ExecutesForm, ExecutesForms, AreBytesCopied, AreOrdersPerformed, MayRefuseToOpen, OnEngine, Opens, ShowsAnswer, TakesSnapshot, TellsNothing};
 ghost use Rattle.pazturrok_c.specs.Engine.{IsOpenedOn};
 ghost use Rattle.pazturrok_c.specs.declared.engine.Engine.{Engine as AnEngine};
 

@@ -2,7 +2,7 @@
 ghost use Rattle.std.specs.Prelude.{◌≡◌, ◌++◌, IfOk, OnOk, map};
 ghost use Rattle.std.specs.List.{All, flat_map};
 ghost use Rattle.pazturrok_c.specs.Engine.{outcome_bytes, numbered_answer};
-ghost use Rattle.pazturrok_c.specs.Texts.{texts_in};
+ghost use Rattle.pazturrok_c.specs.JoinedTexts.{texts_in};
 ghost use Rattle.prevalence_store.specs.calls.Execute.{IsProperOutcome};
 
 use crate::answer::{EngineStore, printed};

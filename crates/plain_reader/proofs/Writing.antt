@@ -1,8 +1,9 @@
--- SETF by the names that stand in a text: what the calls take, from what those in them do, and what the form is.
+-- GET and SETF by the names that stand in a text: what the calls take, from what those in them do, and what the form is.
 --     word_begins, word_shortens, name_taken, operator_taken      a name at the front of a text
 --     quoted_name, place_written, place_spaced, setf_written      what a call takes, from what the call in it took
 --     always, both_operators      what holds of whatever was found
---     setf_read, setf_taken, setf_known, setf_sound      the form that the text begins with, that its symbols are there, and that it is sound
+--     setf_read, setf_taken, get_taken      the form that the text begins with
+--     get_there, setf_known, setf_sound      that its symbols are there, and that it is sound
 use Rattle.std.proofs.Common.{◌≡◌, ℕ, ◌-◌, ◌<◌, ◌≤◌, Bool, true, false, not, List, [], ◌∷◌, ◌++◌, length, take, drop, get_or, Option, Some, None, Result, Ok, Err, IfOk, IfSome, refl, sym, ap, subst, ◌∙◌, arith}
 use Rattle.std.specs.Prelude.{◌==◌, codes, if◌then◌else◌, nat_lt}
 use Rattle.std.specs.List.{list_all, list_any}
@@ -19,7 +20,7 @@ use Rattle.lisp_reading.specs.declared.found.Found.TheVariants.{One as one}
 use Rattle.lisp_reading.specs.declared.limits.Limits.{Limits}
 use Rattle.lisp_reading.specs.Plans.{gives}
 use Rattle.lisp_reading.specs.Reading.{is_whitespace, attempt, form, reads}
-use Rattle.lisp_reading.specs.Setting.{setting_of}
+use Rattle.lisp_reading.specs.Setting.{Setting, setting_of}
 use Rattle.lisp_reading.proofs.Homes.{in_ascii}
 use Rattle.package_table.specs.Resolving.{found_at, resolution}
 use Rattle.package_table.specs.declared.resolve.Resolved.TheVariants.{Found}
@@ -35,7 +36,7 @@ use Rattle.plain_reader.specs.declared.written.WrittenPlace.{WrittenPlace}
 use Rattle.plain_reader.specs.declared.written.WrittenSetf.{WrittenSetf}
 use Rattle.plain_reader.specs.Coming.{ReadsOnAs}
 use Rattle.plain_reader.specs.Written.{lisp, quote_of, literal_of, TakesObject, TakesItems, EndsList, arguments_at, get_form_at, setf_at, FindsSymbol}
-use Rattle.plain_reader.specs.Plain.{setting, IfStill}
+use Rattle.plain_reader.specs.Plain.{setting, IfStill, IsHanded}
 use Rattle.plain_reader.specs.Tokens.{IsToken, IsTokenRun}
 use Rattle.plain_reader.specs.Words.{is_word}
 use Rattle.plain_reader.proofs.WrittenItems.{object_item, spaced, quoted_items, headed_list, list_item, quoted_sound, lisp_sound, written_sound}
@@ -167,31 +168,56 @@ setf_read limits table base packages current text start rest more x functions fi
     form_given setting text rest more false x (length text - length rest) fits refl refl
     (subst (λ cs. ReadsOnAs setting (attempt setting limits.nesting) cs (gives (one false x)) rest) whole (takes functions))
 
--- of what was read as such a SETF, whatever the functions of users are
-pub setf_taken : (limits : Limits) (table : Table) (base : ℕ) (packages : Packages) (current : Name) (text start more : List ℕ) (o : Option WrittenSetf) (t : WrittenSetf) (h i : Name)
-    (functions : Functions) → length text ≤ limits.text → start ≡ text → o ≡ Some t
-    → IfSome o (λ t. resolution packages current t.symbol.now ≡ Ok (found_at h) → resolution packages current t.indicator.now ≡ Ok (found_at i)
-    → (functions : Functions) → let setting = setting_of limits table base packages current functions in
-    ReadsOnAs setting (attempt setting limits.nesting) start (gives (one false (setf_at h t.symbol.now i t.indicator.now t.literal))) t.rest.now)
-    → resolution packages current t.symbol.now ≡ Ok (found_at h) → resolution packages current t.indicator.now ≡ Ok (found_at i)
-    → reads (setting_of limits table base packages current functions) (text ++ more)
-    ≡ form (setf_at h t.symbol.now i t.indicator.now t.literal) 0 (length text - length t.rest.now) (length text - length t.rest.now)
-setf_taken limits table base packages current text start more o t h i functions fits whole is takes one_found two_found =
-    setf_read limits table base packages current text start t.rest.now more (setf_at h t.symbol.now i t.indicator.now t.literal) functions fits whole
-    (subst (λ o. IfSome o (λ (t : WrittenSetf). resolution packages current t.symbol.now ≡ Ok (found_at h) → resolution packages current t.indicator.now ≡ Ok (found_at i)
-    → (functions : Functions) → let setting = setting_of limits table base packages current functions in
-    ReadsOnAs setting (attempt setting limits.nesting) start (gives (one false (setf_at h t.symbol.now i t.indicator.now t.literal))) t.rest.now)) is takes one_found two_found)
+module _ (limits : Limits) (table : Table) (base : ℕ) (packages : Packages) (current : Name) (with : PlainContext) (is : IsHanded limits table base packages current with) where
+  setting_is : (functions : Functions) → setting with functions ≡ setting_of limits table base packages current functions
+  setting_is functions = λ j. setting_of (is.limits_are j) (is.table_is j) (is.base_is j) (is.packages_are j) (is.current_is j) functions
+
+  finds : (home name : List ℕ) → resolution packages current name ≡ Ok (found_at home) → FindsSymbol with home name
+  finds home name found = (λ j. resolution (is.packages_are j) (is.current_is j) name) ∙ found
+
+  -- what calls took, of the text that was handed
+  taken_reads : (text start rest more : List ℕ) (x : Object) (functions : Functions) → length text ≤ limits.text → start ≡ text → TakesObject with limits.nesting start false x rest
+      → reads (setting_of limits table base packages current functions) (text ++ more) ≡ form x 0 (length text - length rest) (length text - length rest)
+  taken_reads text start rest more x functions fits whole takes =
+      setf_read limits table base packages current text start rest more x functions fits whole
+      (λ functions. subst (λ (s : Setting). ReadsOnAs s (attempt s limits.nesting) start (gives (one false x)) rest) (setting_is functions) (takes functions))
+
+  -- of what was read as such a SETF, whatever the functions of users are
+  pub setf_taken : (text start more : List ℕ) (o : Option WrittenSetf) (t : WrittenSetf) (h i : Name) (functions : Functions) → length text ≤ limits.text → start ≡ text → o ≡ Some t
+      → IfSome o (λ t. FindsSymbol with h t.symbol.now → FindsSymbol with i t.indicator.now → TakesObject with limits.nesting start false (setf_at h t.symbol.now i t.indicator.now t.literal) t.rest.now)
+      → resolution packages current t.symbol.now ≡ Ok (found_at h) → resolution packages current t.indicator.now ≡ Ok (found_at i)
+      → reads (setting_of limits table base packages current functions) (text ++ more)
+      ≡ form (setf_at h t.symbol.now i t.indicator.now t.literal) 0 (length text - length t.rest.now) (length text - length t.rest.now)
+  setf_taken text start more o t h i functions fits whole some takes one_found two_found =
+      taken_reads text start t.rest.now more (setf_at h t.symbol.now i t.indicator.now t.literal) functions fits whole
+      (subst (λ o. IfSome o (λ (t : WrittenSetf). FindsSymbol with h t.symbol.now → FindsSymbol with i t.indicator.now
+      → TakesObject with limits.nesting start false (setf_at h t.symbol.now i t.indicator.now t.literal) t.rest.now)) some takes
+      (finds h t.symbol.now one_found) (finds i t.indicator.now two_found))
+
+  -- and as such a GET
+  pub get_taken : (text start more : List ℕ) (p : WrittenPlace) (h i : Name) (functions : Functions) → length text ≤ limits.text → start ≡ text
+      → (FindsSymbol with h p.symbol.now → FindsSymbol with i p.indicator.now → TakesObject with limits.nesting start false (get_form_at h p.symbol.now i p.indicator.now) p.rest.now)
+      → resolution packages current p.symbol.now ≡ Ok (found_at h) → resolution packages current p.indicator.now ≡ Ok (found_at i)
+      → reads (setting_of limits table base packages current functions) (text ++ more)
+      ≡ form (get_form_at h p.symbol.now i p.indicator.now) 0 (length text - length p.rest.now) (length text - length p.rest.now)
+  get_taken text start more p h i functions fits whole takes one_found two_found =
+      taken_reads text start p.rest.now more (get_form_at h p.symbol.now i p.indicator.now) functions fits whole
+      (takes (finds h p.symbol.now one_found) (finds i p.indicator.now two_found))
 
 -- its symbols are there
-setf_there : (t : Packages) (current h x i y : List ℕ) (l : Literal) → AreSoundPackages t → are_there t (lisp (codes "SETF")) ≡ true → are_there t (lisp (codes "GET")) ≡ true
-    → resolution t current x ≡ Ok (found_at h) → resolution t current y ≡ Ok (found_at i) → are_there t (literal_of l) ≡ true → are_there t (setf_at h x i y l) ≡ true
-setf_there t current h x i y l sound setf get first second literal =
+pub get_there : (t : Packages) (current h x i y : List ℕ) → AreSoundPackages t → are_there t (lisp (codes "GET")) ≡ true
+    → resolution t current x ≡ Ok (found_at h) → resolution t current y ≡ Ok (found_at i) → are_there t (get_form_at h x i y) ≡ true
+get_there t current h x i y sound get first second =
     let symbol_is : are_there t (quote_of (symbol h x)) ≡ true = headed_there t (symbol h x) sound (found_there t current x h sound first) in
     let indicator_is : are_there t (quote_of (symbol i y)) ≡ true = headed_there t (symbol i y) sound (found_there t current y i sound second) in
     let arguments : list_all (are_there t) (arguments_at h x i y) ≡ true =
     and_from (are_there t (quote_of (symbol h x))) (list_all (are_there t) (quote_of (symbol i y) ∷ [])) symbol_is (and_from (are_there t (quote_of (symbol i y))) true indicator_is refl) in
-    let place : are_there t (get_form_at h x i y) ≡ true =
-    list_there t (lisp (codes "GET") ∷ arguments_at h x i y) sound (and_from (are_there t (lisp (codes "GET"))) (list_all (are_there t) (arguments_at h x i y)) get arguments) in
+    list_there t (lisp (codes "GET") ∷ arguments_at h x i y) sound (and_from (are_there t (lisp (codes "GET"))) (list_all (are_there t) (arguments_at h x i y)) get arguments)
+
+setf_there : (t : Packages) (current h x i y : List ℕ) (l : Literal) → AreSoundPackages t → are_there t (lisp (codes "SETF")) ≡ true → are_there t (lisp (codes "GET")) ≡ true
+    → resolution t current x ≡ Ok (found_at h) → resolution t current y ≡ Ok (found_at i) → are_there t (literal_of l) ≡ true → are_there t (setf_at h x i y l) ≡ true
+setf_there t current h x i y l sound setf get first second literal =
+    let place : are_there t (get_form_at h x i y) ≡ true = get_there t current h x i y sound get first second in
     list_there t (lisp (codes "SETF") ∷ get_form_at h x i y ∷ literal_of l ∷ []) sound
     (and_from (are_there t (lisp (codes "SETF"))) (list_all (are_there t) (get_form_at h x i y ∷ literal_of l ∷ [])) setf
     (and_from (are_there t (get_form_at h x i y)) (list_all (are_there t) (literal_of l ∷ [])) place (and_from (are_there t (literal_of l)) true literal refl)))

@@ -2,9 +2,12 @@
 use Rattle.std.specs.Prelude.{ℕ, ◌≡◌, ◌<◌, Bool, List, [], ◌∷◌, ◌++◌, true, false, length}
 use Rattle.std.specs.List.{list_all}
 use Rattle.lisp_object.specs.Object.{Object, list_of}
+use Rattle.readtable_core.specs.Tables.{Table}
 use Rattle.package_table.specs.Symbols.{are_there}
+use Rattle.package_table.specs.Table.{Name, Table as Packages}
 use Rattle.user_macros.specs.Functions.{Functions}
 use Rattle.lisp_reading.specs.declared.found.Found.TheVariants.{One as one}
+use Rattle.lisp_reading.specs.declared.limits.Limits.{Limits}
 use Rattle.lisp_reading.specs.Plans.{Plan, gives}
 use Rattle.lisp_reading.specs.Setting.{Setting, setting_of}
 use Rattle.lisp_reading.specs.Reading.{Items, attempt, items_after}
@@ -15,6 +18,14 @@ use Rattle.plain_reader.specs.Coming.{ReadsOnAs}
 -- reading with this, where these are the functions of users
 abbrev pub setting : PlainContext → Functions → Setting
 setting with functions = setting_of with.limits with.readtable.now with.base with.packages.now.0 with.current.now functions
+
+-- reading was handed these
+pub record IsHanded (limits : Limits) (table : Table) (base : ℕ) (packages : Packages) (current : Name) (with : PlainContext) : Type 0 where
+  pub limits_are : with.limits ≡ limits
+  pub table_is : with.readtable.now ≡ table
+  pub base_is : with.base ≡ base
+  pub packages_are : with.packages.now.0 ≡ packages
+  pub current_is : with.current.now ≡ current
 
 -- an attempt at an object where so many calls may be opened takes this from the text, whatever the functions are
 abbrev pub Takes : PlainContext → ℕ → List ℕ → Taken → Type 0

@@ -1,4 +1,4 @@
--- SETF of the property of two quoted symbols to a literal, by the names that stand in the text: its object, and what each call takes.
+-- GET of the property of two quoted symbols, and SETF of it to a literal, by the names that stand in the text: their objects, and what each call takes.
 use Rattle.std.specs.Prelude.{◌≡◌, ℕ, Bool, true, if◌then◌else◌, List, [], ◌∷◌, ◌++◌, Ok, codes}
 use Rattle.lisp_object.specs.Object.{Object, symbol, list_of}
 use Rattle.lisp_object.specs.Datum.{object_of}

@@ -6,13 +6,13 @@
 //! the functions of users are, and whatever follows the text.
 //!
 //! `read_setf` gives what `(SETF (GET 'S 'I) literal)` says, the names as they stand in the text and the literal, so that whoever
-//! replays such a text can carry it out without a datum of it.
+//! replays such a text can carry it out without a datum of it. `read_get` gives the names of `(GET 'S 'I)`.
 //!
 //! - specs/Coming.antt: how reading goes on at the front of a text; specs/Plain.antt: what each call takes from it;
-//!   specs/Tokens.antt: tokens without escapes; specs/Written.antt: SETF by the names that stand in a text
+//!   specs/Tokens.antt: tokens without escapes; specs/Written.antt: GET and SETF by the names that stand in a text
 //!
-//! - `plain`: `PlainForm`, `read_plain`, `ReadSetf`, `read_setf`
-//! - `written`: where a text begins with SETF of a property; `literals`: what SETF puts there; `literal`: `Literal`
+//! - `plain`: `PlainForm`, `read_plain`, `ReadSetf`, `read_setf`, `ReadGet`, `read_get`
+//! - `written`: where a text begins with GET of a property, or with SETF of one; `literals`: what SETF puts there; `literal`: `Literal`
 //! - `context`: what reading is handed
 //! - `objects`: lists, quoted objects, texts
 //! - `tokens`: where a token ends, and what it means; `words`: names and integers that are seen from their bytes
@@ -28,4 +28,4 @@ mod words;
 mod written;
 
 pub use literal::Literal;
-pub use plain::{PlainForm, ReadSetf, read_plain, read_setf};
+pub use plain::{PlainForm, ReadGet, ReadSetf, read_get, read_plain, read_setf};

@@ -1,5 +1,5 @@
 //! Plain forms.
-ghost use Rattle.std.specs.Prelude.{◌≡◌, ◌≤◌, ◌<◌, ℕ, List, ◌++◌, length, true, None, Ok, IfOk, IfSome, IsTrue};
+ghost use Rattle.std.specs.Prelude.{◌≡◌, ◌≤◌, ◌<◌, ℕ, List, ◌∷◌, ◌++◌, length, true, None, Ok, IfOk, IfSome, IsTrue};
 ghost use Rattle.std.specs.List.{list_all};
 ghost use Rattle.lisp_object.specs.Object.{IsSound};
 ghost use Rattle.lisp_object.specs.Datum.{object_of, is_proper};
@@ -11,12 +11,13 @@ ghost use Rattle.lisp_reading.specs.Setting.{setting_of};
 ghost use Rattle.lisp_reading.specs.Reading.{is_whitespace, form, reads};
 ghost use Rattle.package_table.specs.Resolving.{found_at, resolution};
 ghost use Rattle.package_table.specs.Table.{Name};
-ghost use Rattle.plain_reader.specs.Written.{setf_at};
+ghost use Rattle.plain_reader.specs.Written.{get_form_at, setf_at};
+ghost use Rattle.plain_reader.specs.Plain.{IsHanded};
 
 use crate::context::PlainContext;
 use crate::literal::Literal;
 use crate::objects::{calls, is_blank, list};
-use crate::written::written_setf;
+use crate::written::{written_place, written_setf};
 use lisp_object::Datum;
 use lisp_reading::Limits;
 use package_table::Packages;
@@ -148,44 +149,124 @@ pub fn read_setf<'a>(
         → resolution packages.now.0 current.now s.indicator.now ≡ Ok (found_at i)
         → IsSound (setf_at h s.symbol.now i s.indicator.now s.literal))) }
 {
-    if bytes.len() > limits.text || limits.nesting > MAX_NESTING {
+    let Some(rest) = behind_parenthesis(limits, bytes) else {
         return Ok(None);
+    };
+    let Some(with) = quoting(alloc, limits, readtable, base, packages, current) else {
+        return Ok(None);
+    };
+    packages.soundness();
+    let mut known = true;
+    match written_setf(&with, limits.nesting, &mut known, rest)? {
+        None => Ok(None),
+        Some(taken) => Ok(Some(ReadSetf {
+            symbol: taken.symbol,
+            indicator: taken.indicator,
+            literal: taken.literal,
+            end: bytes.len() - taken.rest.len(),
+            known,
+        })),
+    }
+}
+
+/// GET of the property of two quoted symbols, by the names that stand in the text, and where it ends.
+#[derive(Clone, Copy)]
+pub struct ReadGet<'a> {
+    pub symbol: &'a [u8],
+    pub indicator: &'a [u8],
+    pub end: usize,
+}
+
+/// What `read_plain` gives of the text `bytes`, where it is such a GET, as `read_setf` has its place. None says nothing of the text.
+#[inline(always)]
+pub fn read_get<'a>(
+    alloc: Global,
+    limits: Limits,
+    readtable: &Readtable,
+    base: u8,
+    packages: &Packages,
+    current: &[u8],
+    bytes: &'a [u8],
+) -> Option<ReadGet<'a>>
+    requires lowest_base { 2 ≤ base }
+    requires highest_base { base ≤ 36 }
+    requires current { IsPackage packages.now.0 current.now }
+    ensures form { (functions : Functions) (more : List ℕ) (h i : Name) →
+        let setting = setting_of limits readtable.now base packages.now.0 current.now functions in
+        IfSome result
+        (λ g. resolution packages.now.0 current.now g.symbol.now ≡ Ok (found_at h)
+        → resolution packages.now.0 current.now g.indicator.now ≡ Ok (found_at i)
+        → reads setting (bytes.now ++ more) ≡ form (get_form_at h g.symbol.now i g.indicator.now) 0 g.end g.end) }
+    ensures there { (h i : Name) → IfSome result
+        (λ g. resolution packages.now.0 current.now g.symbol.now ≡ Ok (found_at h)
+        → resolution packages.now.0 current.now g.indicator.now ≡ Ok (found_at i)
+        → are_there packages.now.0 (get_form_at h g.symbol.now i g.indicator.now) ≡ true) }
+    ensures within { IfSome result (λ g. (0 < g.end) × (g.end ≤ length bytes.now)) }
+{
+    let rest = behind_parenthesis(limits, bytes)?;
+    if limits.nesting < 2 {
+        return None;
+    }
+    let with = quoting(alloc, limits, readtable, base, packages, current)?;
+    packages.soundness();
+    let place = written_place(&with, limits.nesting, rest)?;
+    Some(ReadGet {
+        symbol: place.symbol,
+        indicator: place.indicator,
+        end: bytes.len() - place.rest.len(),
+    })
+}
+
+// The text behind a parenthesis, where it is not too long, and no higher limit of nesting is in force than forms are read under here.
+#[inline(always)]
+fn behind_parenthesis<'a>(limits: Limits, bytes: &'a [u8]) -> Option<&'a [u8]>
+    ensures fits { IfSome result (λ _. length bytes.now ≤ limits.text) }
+    ensures behind { IfSome result (λ rest. 40 ∷ rest.now ≡ bytes.now) }
+{
+    if bytes.len() > limits.text || limits.nesting > MAX_NESTING {
+        return None;
     }
     match bytes {
-        [c, rest @ ..] if *c == b'(' => {
-            if !calls(readtable, b'(', STD_LIST) || is_blank(readtable, b')') {
-                return Ok(None);
-            }
-            if !calls(readtable, b'\'', STD_QUOTE) {
-                return Ok(None);
-            }
-            readtable.soundness();
-            packages.soundness();
-            let with = PlainContext {
-                alloc,
-                limits,
-                readtable,
-                base,
-                packages,
-                current,
-                current_package: packages.package(current),
-                standard: base == 10 && is_upcase(readtable.case()),
-                quotes: true,
-            };
-            let mut known = true;
-            match written_setf(&with, limits.nesting, &mut known, rest)? {
-                None => Ok(None),
-                Some(taken) => Ok(Some(ReadSetf {
-                    symbol: taken.symbol,
-                    indicator: taken.indicator,
-                    literal: taken.literal,
-                    end: bytes.len() - taken.rest.len(),
-                    known,
-                })),
-            }
-        }
-        _ => Ok(None),
+        [c, rest @ ..] if *c == b'(' => Some(rest),
+        _ => None,
     }
+}
+
+// What reading is handed, where parentheses and quotes have their standard functions.
+#[inline(always)]
+fn quoting<'a>(
+    alloc: Global,
+    limits: Limits,
+    readtable: &'a Readtable,
+    base: u8,
+    packages: &'a Packages,
+    current: &'a [u8],
+) -> Option<PlainContext<'a>>
+    requires lowest_base { 2 ≤ base }
+    requires highest_base { base ≤ 36 }
+    requires current { IsPackage packages.now.0 current.now }
+    ensures quotes { IfSome result (λ with. IsTrue with.quotes) }
+    ensures hands { IfSome result
+        (IsHanded limits readtable.now base packages.now.0 current.now) }
+{
+    if !calls(readtable, b'(', STD_LIST) || is_blank(readtable, b')') {
+        return None;
+    }
+    if !calls(readtable, b'\'', STD_QUOTE) {
+        return None;
+    }
+    readtable.soundness();
+    Some(PlainContext {
+        alloc,
+        limits,
+        readtable,
+        base,
+        packages,
+        current,
+        current_package: packages.package(current),
+        standard: base == 10 && is_upcase(readtable.case()),
+        quotes: true,
+    })
 }
 
 fn is_upcase(case: Case) -> bool

@@ -30,12 +30,12 @@ struct WrittenName<'a> {
     rest: &'a [u8],
 }
 
-// The names of a symbol and of an indicator, and the text after the place that they name.
+/// The names of a symbol and of an indicator, and the text after the place that they name.
 #[derive(Clone, Copy)]
-struct WrittenPlace<'a> {
-    symbol: &'a [u8],
-    indicator: &'a [u8],
-    rest: &'a [u8],
+pub(crate) struct WrittenPlace<'a> {
+    pub symbol: &'a [u8],
+    pub indicator: &'a [u8],
+    pub rest: &'a [u8],
 }
 
 /// The names in SETF of such a place to a literal, the literal, and the text after it.
@@ -143,9 +143,13 @@ fn spaced_written<'a>(
     }
 }
 
-// The place whose opening parenthesis was before the text.
+/// The place whose opening parenthesis was before the text.
 #[inline(always)]
-fn written_place<'a>(with: &PlainContext<'_>, room: u32, text: &'a [u8]) -> Option<WrittenPlace<'a>>
+pub(crate) fn written_place<'a>(
+    with: &PlainContext<'_>,
+    room: u32,
+    text: &'a [u8],
+) -> Option<WrittenPlace<'a>>
     requires quotes { IsTrue with.now.quotes }
     requires room { 1 < room }
     ensures takes { (h i : Name) → IfSome result

@@ -2,6 +2,7 @@
 pub mod Fitting
 pub mod Settings
 pub mod Naming
+pub mod Getting
 pub mod Committing
 pub mod ForgettingForms
 pub mod Grouping

@@ -21,14 +21,14 @@ pub(crate) struct AllTexts<'a> {
 impl<R: MacroFunctions> Turn<R> for AllTexts<'_> {
     ghost use Rattle.std.specs.List.{All};
     ghost use Rattle.prevalence_store.specs.calls.Execute.{IsProperOutcome};
-    ghost use Rattle.prevalence_store.specs.calls.ExecuteAll.{texts_in_turn};
-    ghost use Rattle.prevalence_store.specs.steps.Group.{AreTurns};
+    ghost use Rattle.prevalence_store.specs.calls.ExecuteAll.{progress_of_texts};
+    ghost use Rattle.prevalence_store.specs.steps.Group.{AreTextsEvaluated};
 
     type Made = Vec<Outcome>;
 
     ghost needs = { λ turn world. Unit {0} };
 
-    ghost makes = { λ turn world left records outcomes. AreTurns (texts_in_turn R.Meaning.functions world turn.mode turn.texts.now) outcomes.items left records
+    ghost makes = { λ turn world left records outcomes. AreTextsEvaluated (progress_of_texts R.Meaning.functions world turn.mode turn.texts.now) outcomes.items left records
         × All IsProperOutcome outcomes.items };
 
     fn take(

@@ -39,7 +39,7 @@
 //! - `store` with `open`, `execute`, `execute_all`, `snapshot`, `zeros` and `run`: the store. `batch`: forms that are evaluated one after the other
 //!   and logged together, one or many, all or none; `log`: the halves of `gate_log`, and whether the device has failed. `group`
 //!   adds texts to a batch;
-//!   `replay` makes the world again from the records of a log. `named` carries SETF of a property out from the text of a record;
+//!   `replay` makes the world again from the records of a log. `named` carries SETF of a property out from the text of a record, and GET of one;
 //!   `tries` says when that is tried. `setting` says under what a text is read, by the mode, and what it is
 //!   as one form (`form_reader`).
 //! - `transaction`: a form as it is carried out, and as a question: what `form_eval` says, and FORGET-NAMES (`forgetting`), which no crate below knows.
@@ -92,6 +92,7 @@ pub use batch::Batch;
 pub use failure::{Unadded, Unlogged};
 pub use laws::{form_numbers, fresh_files, headline, one_world, recoveries, version_1_stays};
 pub use lisp_object::refusal::name_of as refusal_name;
+pub use named::{FoundValue, get_from_text};
 pub use open_fault::OpenFault;
 pub use outcome::Outcome;
 pub use session_words::Mode;

@@ -3,7 +3,7 @@ ghost use Rattle.std.specs.Prelude.{◌≡◌, ◌≤◌, true, IfOk};
 ghost use Rattle.package_table.specs.Table.{IsPackage};
 ghost use Rattle.form_reader.specs.Reader.{IsOutcome};
 ghost use Rattle.prevalence_store.specs.meaning.Acceptance.{base_in, package_in, read_in, table_in};
-ghost use Rattle.prevalence_store.specs.steps.Setting.{SymbolsAreThere, IsWhole};
+ghost use Rattle.prevalence_store.specs.steps.Setting.{SymbolsAreThere, IsTextReadWhole};
 
 use crate::whole_macros::WholeMacros;
 use form_eval::ReadForm;
@@ -75,7 +75,7 @@ pub fn read_whole<R: MacroFunctions>(
     mode: Mode,
     text: &[u8],
 ) -> Result<WholeText, AllocError>
-    ensures { IfOk result (IsWhole R.Meaning.functions world.now.0 mode text.now) }
+    ensures { IfOk result (IsTextReadWhole R.Meaning.functions world.now.0 mode text.now) }
 {
     world.soundness();
     let SettingStart { outcome, known } = begins(alloc, world, macros, mode, text)?;

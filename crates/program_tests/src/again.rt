@@ -2,7 +2,7 @@
 ghost use Rattle.std.specs.Prelude.{ℕ, List, ◌<◌, ◌-◌, ◌^◌, IfSome, IsSome};
 ghost use Rattle.gate_log.specs.Layout.{LogRecord};
 ghost use Rattle.plist_state.specs.State.{WorldState};
-ghost use Rattle.store_laws.specs.Histories.{Stands, StillStands};
+ghost use Rattle.store_laws.specs.Histories.{StandsAfterEvents, StillStands};
 
 use disk_trait::{Disk, MemoryDisk, OnceDisk};
 use prevalence_store::{Mode, Store};
@@ -24,7 +24,7 @@ pub fn reopen_failed<D: Disk + Drop, M: MacroFunctions + Drop>(
 ) -> Option<Store<D, M>>
     ensures is_open { IfSome result (λ later. IsSome later.world) }
     ensures stands { IfSome result (λ later. (first : WorldState) (line : List LogRecord) (sure : ℕ)
-        → Stands M.Meaning.functions D.state first line sure store.disk store.world
+        → StandsAfterEvents M.Meaning.functions D.state first line sure store.disk store.world
         → StillStands M.Meaning.functions D.state first line sure later.disk later.world) }
 {
     histories::<D>();

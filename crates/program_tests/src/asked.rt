@@ -7,7 +7,7 @@ use crate::lines::{
 use disk_trait::{Disk, Half, MemoryDisk};
 use fixed_macros::Fixed;
 use prevalence_store::{Mode, Step, Store};
-use sessions::{Ended, Ending, Wanted, serve, serve_wanted};
+use sessions::{Ended, Ending, SessionOptions, serve, serve_wanted};
 use six_functions::SixFunctions;
 use std::alloc::Global;
 
@@ -21,7 +21,7 @@ pub enum Ask<'a> {
     Serve(u64, &'a [u8]),
     /// One that tells where it ended: its answers, and `end`, `store N`, or `reader N` or `strict N` with the forms before it and the
     /// places where it starts and is refused, as in `reader 4 forms 1 start 2 at 2`.
-    Wanted(Wanted, &'a [u8]),
+    Wanted(SessionOptions, &'a [u8]),
     /// Steps, each with `accepted 7` for an integer, `accepted` for another value, `snapshotted` or `refused N`.
     Run(&'a [Step<'a>]),
 }
@@ -35,7 +35,7 @@ fn answers_to(alloc: Global, store: &mut TestStore, every: u64, input: &[u8]) ->
 fn wanted_answers_to(
     alloc: Global,
     store: &mut TestStore,
-    wanted: Wanted,
+    wanted: SessionOptions,
     input: &[u8],
 ) -> (Ended, Vec<u8>) {
     let (mut reader, mut writer) = (input, Vec::new(alloc));

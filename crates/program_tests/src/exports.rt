@@ -9,7 +9,7 @@ use crate::troubled_disks::{AMPLE, Trouble};
 use disk_trait::{Disk, MemoryDisk};
 use plist_state::World;
 use prevalence_store::{Mode, Store};
-use sessions::{Ended, Wanted, serve, serve_wanted};
+use sessions::{Ended, SessionOptions, serve, serve_wanted};
 use std::alloc::{AllocError, Global};
 use std::test::Fail;
 use user_macros::{MacroFunctions, Macros, NoFunctions};
@@ -36,7 +36,7 @@ fn taken_in<D: Disk, M: MacroFunctions>(
         → store.new.world ≡ Some world.now.0) }
 {
     let exported = all_forms(alloc, world, Content::World)?;
-    let wanted = Wanted {
+    let wanted = SessionOptions {
         mode: Mode::Current,
         snapshot_every: 0,
         snapshot_ratio: 0,

@@ -3,7 +3,7 @@ ghost use Rattle.std.specs.Prelude.{◌≡◌, ◌<◌, ◌-◌, ◌^◌, ℕ, L
 ghost use Rattle.std.specs.List.{AllByRecursion, flat_map};
 ghost use Rattle.feeding_laws.specs.Feeding.{AreAnsweredAgain, FeedsAgain, over, told_position};
 ghost use Rattle.message_frames.specs.Frames.{IsFrame, Sent, frame_bytes};
-ghost use Rattle.message_session.specs.Sessions.{text_limit};
+ghost use Rattle.message_session.specs.MessageSessions.{text_limit};
 ghost use Rattle.plist_state.specs.State.{WorldState};
 ghost use Rattle.messages.specs.Position.{position};
 

@@ -3,7 +3,7 @@
 use crate::asked::{Ask, left_after};
 use crate::lines::Trouble;
 use prevalence_store::{Mode, Step};
-use sessions::Wanted;
+use sessions::SessionOptions;
 use std::alloc::Global;
 use std::test::Fail;
 
@@ -65,8 +65,8 @@ const CASES: &[Case] = &[
 ];
 
 /// A session that is strict or not, with groups or without.
-fn wanted(strict: bool, group: bool, every: u64) -> Wanted {
-    Wanted {
+fn wanted(strict: bool, group: bool, every: u64) -> SessionOptions {
+    SessionOptions {
         mode: Mode::Current,
         snapshot_every: every,
         snapshot_ratio: 0,

@@ -3,14 +3,14 @@ ghost use Rattle.std.specs.Prelude.{◌≡◌, ◌≤◌, ◌<◌, ◌-◌, ◌^
 ghost use Rattle.disk_trait.specs.Disk.{Image, IsHonest};
 ghost use Rattle.plist_state.specs.State.{WorldState};
 ghost use Rattle.sessions.specs.Account.{first_account};
-ghost use Rattle.session_ledger.specs.OutgoingLines.{Went, calls_in, disk_at};
+ghost use Rattle.session_ledger.specs.OutgoingLines.{WentOut, calls_in, disk_at};
 ghost use Rattle.store_laws.specs.Batches.{MeansCalls};
 
 use crate::again::AMPLE;
 use disk_trait::{Disk, MemoryDisk};
 use prevalence_store::{Mode, Store};
 use session_ledger::{serve_recorded, what_went_out_is_there};
-use sessions::{Ended, Wanted};
+use sessions::{Ended, SessionOptions};
 use std::alloc::Global;
 use std::io::{Read, Write};
 use std::test::Fail;
@@ -27,7 +27,7 @@ fn there_by_then<D: Disk, M: MacroFunctions, I: Read, O: Write>(
 ) -> Ended
     requires is_open { IsSome store.old.world }
     ensures { (world : WorldState) → store.old.world ≡ Some world → IsHonest (D.state store.old.disk)
-        → (went : Went M.Meaning.functions D.state
+        → (went : WentOut M.Meaning.functions D.state
         (first_account world Mode.Current (I.remaining reader.old) store.old.disk) store.new
         (O.contents output.old) (O.contents output.new))
         × ((k : ℕ) → k ≤ length went.out.sent → (image : Image)
@@ -36,7 +36,7 @@ fn there_by_then<D: Disk, M: MacroFunctions, I: Read, O: Write>(
         → MeansCalls M.Meaning.functions world (calls_in M.Meaning.functions D.state
         (first_account world Mode.Current (I.remaining reader.old) store.old.disk) store.new went) k image) }
 {
-    let wanted = Wanted {
+    let wanted = SessionOptions {
         mode: Mode::Current,
         snapshot_every: 0,
         snapshot_ratio: 0,

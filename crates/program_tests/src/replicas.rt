@@ -7,7 +7,7 @@ ghost use Rattle.store_laws.specs.Outcomes.{IsByInput};
 use crate::troubled_disks::{AMPLE, Trouble};
 use disk_trait::{Disk, MemoryDisk};
 use prevalence_store::{Mode, Store};
-use sessions::{Ended, Wanted, serve_wanted};
+use sessions::{Ended, SessionOptions, serve_wanted};
 use std::alloc::Global;
 use std::test::Fail;
 use store_laws::{groups_change_nothing, one_outcome};
@@ -34,14 +34,14 @@ fn answered_twice<D: Disk, E: Disk, M: MacroFunctions>(
     ensures worlds { IfSome result (λ both. (w : WorldState) → one.old.world ≡ Some w
         → other.old.world ≡ Some w → other.new.world ≡ one.new.world) }
 {
-    let plain = Wanted {
+    let plain = SessionOptions {
         mode: Mode::Current,
         snapshot_every: 0,
         snapshot_ratio: 0,
         strict: false,
         group: false,
     };
-    let grouped = Wanted {
+    let grouped = SessionOptions {
         mode: Mode::Current,
         snapshot_every: 1,
         snapshot_ratio: 0,
@@ -83,14 +83,14 @@ fn stopped_twice<D: Disk, E: Disk, M: MacroFunctions>(
     ensures worlds { IfSome result (λ both. (w : WorldState) → one.old.world ≡ Some w
         → other.old.world ≡ Some w → other.new.world ≡ one.new.world) }
 {
-    let grouped = Wanted {
+    let grouped = SessionOptions {
         mode: Mode::Current,
         snapshot_every: 0,
         snapshot_ratio: 0,
         strict: true,
         group: true,
     };
-    let plain = Wanted {
+    let plain = SessionOptions {
         mode: Mode::Current,
         snapshot_every: 0,
         snapshot_ratio: 0,

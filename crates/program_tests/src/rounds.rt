@@ -3,7 +3,7 @@ ghost use Rattle.std.specs.Prelude.{◌≡◌, ◌<◌, ◌-◌, ◌^◌, [], �
 ghost use Rattle.disk_trait.specs.Disk.{IsHonest};
 ghost use Rattle.plist_state.specs.State.{WorldState};
 ghost use Rattle.prevalence_store.specs.Theorem.{Keeps};
-ghost use Rattle.store_laws.specs.Rounds.{HasCome, after_rounds, place_at};
+ghost use Rattle.store_laws.specs.Rounds.{HasComeToPlace, after_rounds, place_at};
 
 use crate::again::AMPLE;
 use disk_trait::{Disk, MemoryDisk};
@@ -25,7 +25,7 @@ fn answer_twice<D: Disk, M: MacroFunctions>(
 ) -> Option<Replies>
     ensures { IfSome result (λ _. (w : WorldState) → store.old.world ≡ Some w
         → IsHonest (D.state store.old.disk) → Keeps M.Meaning.functions (D.state store.old.disk) w
-        → HasCome M.Meaning.functions D.state store.new (after_rounds M.Meaning.functions (place_at last w) (first.now ∷ second.now ∷ []))) }
+        → HasComeToPlace M.Meaning.functions D.state store.new (after_rounds M.Meaning.functions (place_at last w) (first.now ∷ second.now ∷ []))) }
 {
     let Ok(replies) = answer_requests(store, last, first) else {
         return None;

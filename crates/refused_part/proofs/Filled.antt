@@ -17,7 +17,7 @@ use Rattle.lisp_object.specs.Datum.{object_of, is_proper, is_list}
 use Rattle.lisp_object.proofs.Objects.{object_of-List, object_of-dotted}
 use Rattle.lisp_object.proofs.Properness.{is_proper-List, is_proper-dotted}
 use Rattle.lisp_object.proofs.ProperLists.{proper_list_items}
-use Rattle.refused_part.specs.Places.{HasPart, layer_items, items_inside, with_item, with_part}
+use Rattle.refused_part.specs.PartPlaces.{HasPart, layer_items, items_inside, with_item, with_part}
 use Rattle.refused_part.proofs.Items.{items_inside-List}
 
 changed_pairs : (change : Object → Object) (items : List Datum) (i : ℕ) (x z : Datum) (end : Object) → slice_get items i ≡ Some x → object_of z ≡ change (object_of x)

@@ -5,7 +5,7 @@ use Rattle.lisp_object.specs.Object.{AllAtoms, list_of}
 use Rattle.lisp_object.specs.declared.datum.Datum.{Datum}
 use Rattle.package_table.specs.Table.{Table, AreSoundPackages}
 use Rattle.form_eval.specs.Laws.{FitsTable}
-use Rattle.refused_part.specs.Places.{both, no_form, quotation, quote_of_none}
+use Rattle.refused_part.specs.PartPlaces.{both, no_form, quotation, quote_of_none}
 use Rattle.refused_part.specs.Search.{MayTry}
 use Rattle.refused_part.proofs.Fitting.{no_form_fits, none_fits, both_fit, quotation_fits, call_fits}
 

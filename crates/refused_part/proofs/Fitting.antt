@@ -7,7 +7,7 @@ use Rattle.package_table.specs.Table.{Name, Table, common_lisp, common_lisp_name
 use Rattle.package_table.proofs.FirstNames.{lisp_present}
 use Rattle.package_table.proofs.Found.{present_found}
 use Rattle.form_eval.specs.Laws.{FitsTable}
-use Rattle.refused_part.specs.Places.{both, no_form, quotation, quote_of_none}
+use Rattle.refused_part.specs.PartPlaces.{both, no_form, quotation, quote_of_none}
 
 module _ (t : Table) (sound : AreSoundPackages t) where
   listed_fits : (n : Name) → list_any (bytes_eq n) common_lisp_names ≡ true → FitsTable t (symbol common_lisp n)

@@ -4,7 +4,7 @@ use Rattle.lisp_object.specs.declared.datum.Datum
 use Rattle.lisp_object.specs.declared.datum.Datum.{Datum, out-Datum, roll-Datum, out-roll-Datum}
 use Rattle.lisp_object.specs.declared.datum.Datum.TheOpen.{Datum-F}
 use Rattle.lisp_object.specs.declared.datum.Datum.TheVariants.{rolls-Integer, rolls-Rational, rolls-Char, rolls-Text, rolls-Symbol, rolls-Uninterned, rolls-List, rolls-Vector}
-use Rattle.refused_part.specs.Places.{layer_items, items_inside}
+use Rattle.refused_part.specs.PartPlaces.{layer_items, items_inside}
 
 rolled : (d : Datum) (layer : Datum-F Datum) → roll-Datum layer ≡ d → items_inside d ≡ layer_items layer
 rolled d layer is = ap items_inside (sym is) ∙ ap layer_items (out-roll-Datum layer)

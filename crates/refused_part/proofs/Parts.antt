@@ -14,7 +14,7 @@ use Rattle.lisp_object.specs.Datum.{object_of, is_proper}
 use Rattle.lisp_object.proofs.Objects.{object_of-List, object_of-dotted}
 use Rattle.package_table.specs.Table.{Table}
 use Rattle.form_eval.specs.Laws.{FitsTable}
-use Rattle.refused_part.specs.Places.{HasPart, changed_at, layer_items, items_inside, with_part}
+use Rattle.refused_part.specs.PartPlaces.{HasPart, changed_at, layer_items, items_inside, with_part}
 use Rattle.refused_part.specs.Search.{MayTry}
 use Rattle.refused_part.proofs.Filled.{item_proper}
 

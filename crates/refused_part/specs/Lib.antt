@@ -1,4 +1,4 @@
 pub mod NearNames
 pub mod Part
-pub mod Places
+pub mod PartPlaces
 pub mod Search

@@ -8,7 +8,7 @@ use Rattle.package_table.specs.Table.{Name}
 use Rattle.plist_state.specs.State.{WorldState}
 use Rattle.lisp_operators.specs.Evaluation.{Evaluation}
 use Rattle.form_eval.specs.Acceptance.{accept}
-use Rattle.refused_part.specs.Places.{HasPart, both, no_form, quote_of_none, with_part}
+use Rattle.refused_part.specs.PartPlaces.{HasPart, both, no_form, quote_of_none, with_part}
 
 -- it is refused with this number
 abbrev pub is_refused_with : ℕ → Evaluation Object → Bool

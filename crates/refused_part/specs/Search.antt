@@ -7,7 +7,7 @@ use Rattle.package_table.specs.Table.{Name, Table}
 use Rattle.plist_state.specs.State.{WorldState}
 use Rattle.form_eval.specs.Laws.{FitsTable}
 use Rattle.refused_part.specs.Part.{is_refused_at}
-use Rattle.refused_part.specs.Places.{HasPart}
+use Rattle.refused_part.specs.PartPlaces.{HasPart}
 use Rattle.refused_part.specs.declared.placed.PlacedPart.{PlacedPart}
 
 -- a proper datum whose symbols fit

@@ -4,7 +4,7 @@ ghost use Rattle.std.specs.Prelude.{◌≡◌, ◌+◌, ◌<◌, ◌++◌, ◌�
 ghost use Rattle.lisp_object.specs.declared.datum.Datum.{Datum};
 ghost use Rattle.lisp_object.specs.Datum.{object_of, is_proper};
 ghost use Rattle.lisp_object.specs.Object.{Object};
-ghost use Rattle.refused_part.specs.Places.{HasPart, items_inside, with_item, with_part};
+ghost use Rattle.refused_part.specs.PartPlaces.{HasPart, items_inside, with_item, with_part};
 
 use lisp_object::{Boxed, Datum, Items};
 use std::alloc::{AllocError, Global};

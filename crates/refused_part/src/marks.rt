@@ -3,7 +3,7 @@ ghost use Rattle.std.specs.Prelude.{◌≡◌, ◌∷◌, [], true, codes, IfOk}
 ghost use Rattle.lisp_object.specs.Datum.{object_of, is_proper};
 ghost use Rattle.lisp_object.specs.Object.{list_of};
 ghost use Rattle.package_table.specs.Table.{common_lisp};
-ghost use Rattle.refused_part.specs.Places.{both, no_form, quotation, quote_of_none};
+ghost use Rattle.refused_part.specs.PartPlaces.{both, no_form, quotation, quote_of_none};
 
 use lisp_object::{Bytes, Datum, Items};
 use package_table::standardized::COMMON_LISP;

@@ -3,7 +3,7 @@ ghost use Rattle.std.specs.Prelude.{◌≡◌, true, IfOk};
 ghost use Rattle.lisp_object.specs.Datum.{object_of};
 ghost use Rattle.lisp_object.specs.declared.refusal.TheConstants.{ARGUMENT_COUNT, NOT_A_FORM};
 ghost use Rattle.refused_part.specs.Part.{is_evaluated, is_refused_at, is_refused_first, is_refused_form};
-ghost use Rattle.refused_part.specs.Places.{both, no_form, quote_of_none, with_part};
+ghost use Rattle.refused_part.specs.PartPlaces.{both, no_form, quote_of_none, with_part};
 ghost use Rattle.refused_part.specs.Search.{MayTry, IsPlacedIn};
 
 use crate::filling::filled;

@@ -8,9 +8,9 @@ use Rattle.sessions.specs.Account.{Account, AreStored, AreUnderWay, call_of, wit
 use Rattle.prevalence_store.specs.calls.Store.{StoreView}
 use Rattle.sessions.specs.Streams.{Writes, WritesPart}
 use Rattle.session_ledger.specs.Ledger.{Agrees, IsAccountOf, account_from, account_past, named_first}
-use Rattle.session_ledger.specs.OutgoingLines.{Outgoing, Went, calls_in, disk_at, handings_of, out_of}
+use Rattle.session_ledger.specs.OutgoingLines.{Outgoing, WentOut, calls_in, disk_at, handings_of, out_of}
 use Rattle.store_laws.specs.Batches.{MeansCalls}
-use Rattle.store_laws.specs.Sessions.{AreCalls, AreHanded, Handing, account_after, call_since, calls_of}
+use Rattle.store_laws.specs.SessionLines.{AreCalls, AreHanded, Handing, account_after, call_since, calls_of}
 use Rattle.user_macros.specs.Functions.{Functions}
 
 -- ---- one time more
@@ -106,7 +106,7 @@ module _ (functions : Functions) {D : Type 0} (R : Type 0) (state : D → State)
   -- what went out in all
   pub went_so : (first : Option (Account D)) (begun : Account D) (closed : StoreView D R) (held written : Option (List ℕ)) (past : List (StoreView D R × ℕ)) → first ≡ Some begun
       → IsAccountOf functions state first held written past → ((kept : Account D) → account_from first past ≡ Some kept → AreUnderWay functions state kept closed)
-      → Went functions state begun closed held written
+      → WentOut functions state begun closed held written
   went_so first begun closed held written past is kept since =
       let of = kept begun is in
       record {
@@ -153,7 +153,7 @@ module _ (functions : Functions) {D : Type 0} (R : Type 0) (state : D → State)
       }
 
   -- a crash from then on
-  pub there_by_then : (first : Account D) (closed : StoreView D R) (held written : Option (List ℕ)) (went : Went functions state first closed held written)
+  pub there_by_then : (first : Account D) (closed : StoreView D R) (held written : Option (List ℕ)) (went : WentOut functions state first closed held written)
       → AreCalls functions state first (calls_in functions state first closed went) → (k : ℕ) → k ≤ length went.out.sent
       → (image : Image) → (state closed.disk).left_since (state (disk_at first went.out.sent k)).moment image
       → MeansCalls functions first.now (calls_in functions state first closed went) k image

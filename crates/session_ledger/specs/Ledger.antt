@@ -5,7 +5,7 @@ use Rattle.std.specs.Option.{option_map}
 use Rattle.disk_trait.specs.Disk.{State}
 use Rattle.sessions.specs.Account.{Account, with_forms}
 use Rattle.prevalence_store.specs.calls.Store.{StoreView, store_view_code}
-use Rattle.store_laws.specs.Sessions.{account_after}
+use Rattle.store_laws.specs.SessionLines.{account_after}
 use Rattle.session_ledger.specs.OutgoingLines.{GoesOut, handings_of}
 use Rattle.user_macros.specs.Functions.{Functions}
 
@@ -25,12 +25,12 @@ ledger_code {D} {R} {O} disk macros output =
     (λ p. record { output = p.0; name = p.1.0; past = p.1.1 })
     (λ _. refl)
 
--- the account after them
+-- the account after lines of so many forms were handed on, one time after the other
 abbrev pub account_past : {D R : Type 0} → Account D → List (StoreView D R × ℕ) → Account D
 account_past account [] = account
 account_past account (one ∷ more) = account_past (with_forms one.1 one.0 account) more
 
--- the account after these steps, where it was begun
+-- the account after these steps; None, if none was kept at the beginning
 abbrev pub account_from : {D R : Type 0} → Option (Account D) → List (StoreView D R × ℕ) → Option (Account D)
 account_from {D} first past = option_map (λ (account : Account D). account_past account past) first
 
@@ -39,15 +39,15 @@ account_from {D} first past = option_map (λ (account : Account D). account_past
 abbrev pub named_first : {D : Type 0} → Option (Account D) → ℕ → Option (Account D)
 named_first {D} first name = option_map (λ (account : Account D). record account { forms = name }) first
 
--- an account that the output keeps itself is the same
+-- an account that the output keeps itself is the same as the one of the ledger
 abbrev pub Agrees : {D : Type 0} → (theirs ours : Option (Account D)) → Type 0
 Agrees {D} theirs ours = (kept : Account D) → theirs ≡ Some kept → ours ≡ Some kept
 
 -- the account comes of lines that were handed on, each as a recipient asks, and they are what the output got
-pub record IsOf (functions : Functions) {D R : Type 0} (state : D → State) (first : Account D) (held written : Option (List ℕ)) (past : List (StoreView D R × ℕ)) : Type 0 where
+pub record IsAccountOfLines (functions : Functions) {D R : Type 0} (state : D → State) (first : Account D) (held written : Option (List ℕ)) (past : List (StoreView D R × ℕ)) : Type 0 where
   pub out : GoesOut functions R state first held written
   pub account_is : account_after first (handings_of out.sent) ≡ account_past first past
 
 -- the account of a session stands at each of these steps
 abbrev pub IsAccountOf : (functions : Functions) {D R : Type 0} (state : D → State) → Option (Account D) → (held written : Option (List ℕ)) → List (StoreView D R × ℕ) → Type 0
-IsAccountOf functions {D} state first held written past = (begun : Account D) → first ≡ Some begun → IsOf functions state begun held written past
+IsAccountOf functions {D} state first held written past = (begun : Account D) → first ≡ Some begun → IsAccountOfLines functions state begun held written past

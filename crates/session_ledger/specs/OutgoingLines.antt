@@ -5,7 +5,7 @@ use Rattle.prevalence_store.specs.Theorem.{Call}
 use Rattle.sessions.specs.Account.{Account, AreUnderWay}
 use Rattle.prevalence_store.specs.calls.Store.{StoreView}
 use Rattle.sessions.specs.Streams.{Writes}
-use Rattle.store_laws.specs.Sessions.{AreHanded, Handing, account_after, call_since, calls_of}
+use Rattle.store_laws.specs.SessionLines.{AreHanded, Handing, account_after, call_since, calls_of}
 use Rattle.user_macros.specs.Functions.{Functions}
 
 -- Lines that were handed to the output, and the part of them, from their front, that went out: all of them, if the output did not fail.
@@ -15,7 +15,7 @@ pub record Outgoing (D R : Type 0) : Type 0 where
   pub rest : List ℕ
   pub parts : handing.lines ≡ out ++ rest
 
--- the lines, one time after the other
+-- what was handed to the output, one time after the other, whether it went out or not
 abbrev pub handings_of : {D R : Type 0} → List (Outgoing D R) → List (Handing D R)
 handings_of [] = []
 handings_of (one ∷ more) = one.handing ∷ handings_of more
@@ -37,13 +37,13 @@ pub record GoesOut (functions : Functions) {D : Type 0} (R : Type 0) (state : D 
   pub output : Writes held written (out_of sent)
 
 -- What went out of a session that left this store. What was done since the last time has acknowledged nothing.
-pub record Went (functions : Functions) {D R : Type 0} (state : D → State) (first : Account D) (closed : StoreView D R) (held written : Option (List ℕ)) : Type 0 where
+pub record WentOut (functions : Functions) {D R : Type 0} (state : D → State) (first : Account D) (closed : StoreView D R) (held written : Option (List ℕ)) : Type 0 where
   pub out : GoesOut functions R state first held written
   pub since : AreUnderWay functions state (account_after first (handings_of out.sent)) closed
 
 -- the session as calls of the store: one for each time that lines were handed on, and a last one
 abbrev pub calls_in : (functions : Functions) {D R : Type 0} (state : D → State) (first : Account D) (closed : StoreView D R) {held written : Option (List ℕ)}
-    → Went functions state first closed held written → List (Call D)
+    → WentOut functions state first closed held written → List (Call D)
 calls_in functions state first closed went =
     calls_of functions state first (handings_of went.out.sent) went.out.handed
     ++ call_since functions state (account_after first (handings_of went.out.sent)) closed went.since ∷ []

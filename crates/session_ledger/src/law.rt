@@ -4,7 +4,7 @@ ghost use Rattle.disk_trait.specs.Disk.{Image, IsHonest};
 ghost use Rattle.prevalence_store.specs.Theorem.{Keeps};
 ghost use Rattle.sessions.specs.Account.{Account};
 ghost use Rattle.prevalence_store.specs.calls.Store.{StoreView};
-ghost use Rattle.session_ledger.specs.OutgoingLines.{Went, calls_in, disk_at};
+ghost use Rattle.session_ledger.specs.OutgoingLines.{WentOut, calls_in, disk_at};
 ghost use Rattle.store_laws.specs.Batches.{MeansCalls};
 ghost use Rattle.user_macros.specs.Functions.{Functions};
 
@@ -16,7 +16,7 @@ use store_laws::sessions;
 pub fn what_went_out_is_there<D: Disk, R>()
     ensures { (functions : Functions) (first : Account D) (closed : StoreView D R)
         → (held written : Option (List ℕ)) → IsHonest (D.state first.disk) → Keeps functions (D.state first.disk) first.now
-        → (went : Went functions D.state first closed held written)
+        → (went : WentOut functions D.state first closed held written)
         → (k : ℕ) → k ≤ length went.out.sent
         → (image : Image)
         → (D.state closed.disk).left_since (D.state (disk_at first went.out.sent k)).moment image

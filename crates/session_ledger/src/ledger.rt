@@ -4,13 +4,13 @@ ghost use Rattle.plist_state.specs.State.{WorldState};
 ghost use Rattle.sessions.specs.Account.{Account, AreUnderWay, first_account};
 ghost use Rattle.sessions.specs.Serve.{ServesWanted};
 ghost use Rattle.session_ledger.specs.Ledger.{Agrees, account_from, named_first};
-ghost use Rattle.session_ledger.specs.OutgoingLines.{Went};
+ghost use Rattle.session_ledger.specs.OutgoingLines.{WentOut};
 
 use crate::proof_log::ProofLog;
 use disk_trait::Disk;
 use plist_state::World;
 use prevalence_store::{Store, WholeMacros};
-use sessions::{Ended, OutputFault, Recipient, SessionForm, Wanted, serve_wanted};
+use sessions::{Ended, OutputFault, Recipient, SessionForm, SessionOptions, serve_wanted};
 use std::io::Read;
 use std::marker::{Brand, Model, PhantomData};
 use store_laws::sessions;
@@ -101,7 +101,7 @@ fn serve_from<D, M, I, O, B>(
     store: &mut Store<D, M>,
     input: &mut I,
     output: &mut O,
-    wanted: Wanted,
+    wanted: SessionOptions,
 ) -> Ended
 where
     D: Disk,
@@ -122,7 +122,7 @@ where
         → ServesWanted M.Meaning.functions D.state wanted store.old store.new world
         (I.remaining input.old) (I.remaining input.new) (O.contents output.old) (O.contents output.new) result }
     ensures went { (world : WorldState) → store.old.world ≡ Some world
-        → Went M.Meaning.functions D.state
+        → WentOut M.Meaning.functions D.state
         (first_account world wanted.mode (I.remaining input.old) store.old.disk) store.new
         (O.contents output.old) (O.contents output.new) }
 
@@ -157,7 +157,7 @@ pub fn serve_recorded<D, M, I, O>(
     store: &mut Store<D, M>,
     input: &mut I,
     output: &mut O,
-    wanted: Wanted,
+    wanted: SessionOptions,
 ) -> Ended
 where
     D: Disk,
@@ -172,7 +172,7 @@ where
         → ServesWanted M.Meaning.functions D.state wanted store.old store.new world
         (I.remaining input.old) (I.remaining input.new) (O.contents output.old) (O.contents output.new) result }
     ensures went { (world : WorldState) → store.old.world ≡ Some world
-        → Went M.Meaning.functions D.state
+        → WentOut M.Meaning.functions D.state
         (first_account world wanted.mode (I.remaining input.old) store.old.disk) store.new
         (O.contents output.old) (O.contents output.new) }
     ensures under_way { (kept : Account D) → O.account output.new ≡ Some kept

@@ -16,12 +16,12 @@ use Rattle.sessions.specs.declared.ending.Ending.{Ending}
 use Rattle.sessions.specs.declared.ending.Ending.TheVariants.{End, Reader, Store}
 use Rattle.prevalence_store.specs.meaning.Acceptance.{read_in}
 use Rattle.user_macros.specs.Functions.{Functions}
-use Rattle.sessions.specs.Answers.{Progress, after_forms, first_progress, onward}
+use Rattle.sessions.specs.FormAnswers.{Progress, after_forms, first_progress, progress_onward}
 use Rattle.sessions.specs.steps.Input.{HasForm, IsPending}
-use Rattle.sessions.specs.Pace.{EndsInPace, Paces, fill_of}
+use Rattle.sessions.specs.Pace.{EndsInPace, PacesForms, fill_of}
 use Rattle.sessions.specs.Serve.{Advances, AreFormsAccepted, IsAfter, IsPlace, Serves, ServesInPace, StaysAnswered, StaysRefused, StopsStrict}
 use Rattle.prevalence_store.specs.calls.Store.{StoreView}
-use Rattle.sessions.specs.steps.Serve.{AnswersPiece, PieceComesTo, EndsAt, GoesOn, HasEndedAt, ServesStrict}
+use Rattle.sessions.specs.steps.Serve.{AnswersPiece, PieceComesTo, EndsAt, SessionGoesOn, HasEndedAt, ServesStrict}
 use Rattle.sessions.specs.steps.Course.{Course}
 use Rattle.sessions.specs.steps.Answer.{PassesForm}
 use Rattle.sessions.proofs.Pacing.{ends_after, paces_both}
@@ -37,7 +37,7 @@ module _ (functions : Functions) {D R : Type 0} (state : D → State) where
 
   -- the same forms, of a text that goes on
   pub extended : (strict : Bool) (course later : Course) (old new : StoreView D R) (w : WorldState) (mode : Mode) (text : List ℕ) (a b : Option (List ℕ)) (pending : Pending) (left more : List ℕ)
-      → GoesOn functions state strict course later old new w mode text a b pending left → GoesOn functions state strict course later old new w mode (text ++ more) a b pending (left ++ more)
+      → SessionGoesOn functions state strict course later old new w mode text a b pending left → SessionGoesOn functions state strict course later old new w mode (text ++ more) a b pending (left ++ more)
   extended strict course later old new w mode text a b pending left more goes = record {
     forms = goes.forms;
     far = longer goes.far more;
@@ -65,7 +65,7 @@ module _ (functions : Functions) {D R : Type 0} (state : D → State) where
 
   -- nothing was answered yet
   pub nothing_answered : ((d : D) → IsHonest (state d) → IsSoundDisk (state d)) → (strict : Bool) (course : Course) (old : StoreView D R) (w : WorldState) (mode : Mode) (text : List ℕ) (held : Option (List ℕ)) (pending : Pending)
-      → old.world ≡ Some w → IsPending functions w mode pending text → GoesOn functions state strict course course old old w mode text held held pending []
+      → old.world ≡ Some w → IsPending functions w mode pending text → SessionGoesOn functions state strict course course old old w mode text held held pending []
   nothing_answered sound strict course old w mode text held pending known is = record {
     forms = 0;
     far = first_progress w text;
@@ -86,25 +86,25 @@ module _ (functions : Functions) {D R : Type 0} (state : D → State) where
 
   -- what was answered of what was fed of a piece, and what is left of it
   pub answered_within : (strict : Bool) (course later : Course) (old new : StoreView D R) (w : WorldState) (mode : Mode) (a b : Option (List ℕ)) (pending : Pending) (bytes piece left : List ℕ) (n : ℕ)
-      → GoesOn functions state strict course later old new w mode (bytes ++ take n piece) a b pending left → GoesOn functions state strict course later old new w mode (bytes ++ piece) a b pending (left ++ drop n piece)
+      → SessionGoesOn functions state strict course later old new w mode (bytes ++ take n piece) a b pending left → SessionGoesOn functions state strict course later old new w mode (bytes ++ piece) a b pending (left ++ drop n piece)
   answered_within strict course later old new w mode a b pending bytes piece left n goes =
-      subst (λ t. GoesOn functions state strict course later old new w mode t a b pending (left ++ drop n piece)) (piece_whole bytes piece n)
+      subst (λ t. SessionGoesOn functions state strict course later old new w mode t a b pending (left ++ drop n piece)) (piece_whole bytes piece n)
       (extended strict course later old new w mode (bytes ++ take n piece) a b pending left (drop n piece) goes)
 
   -- a form that a piece decides was answered, and so many bytes of the piece were taken
   pub form_answered : (w : WorldState) (mode : Mode) (pending : Pending) (bytes piece : List ℕ) (n count : ℕ) (x : Object) (own : List ℕ) (left : Bool)
       → (has : HasForm functions w mode pending (bytes ++ take n piece) x own left) → n ≤ length piece → count + cond left 1 0 ≡ n → (wanted : SessionOptions) → wanted.mode ≡ mode → (course later : Course) (old new : StoreView D R)
       (a b : Option (List ℕ)) (refusals : List ℕ) → PassesForm functions state course later old new w wanted (bytes ++ take n piece) a b has.start has.next refusals → (wanted.strict ≡ true → refusals ≡ [])
-      → GoesOn functions state wanted.strict course later old new w mode (bytes ++ piece) a b pending (drop count piece)
+      → SessionGoesOn functions state wanted.strict course later old new w mode (bytes ++ piece) a b pending (drop count piece)
   form_answered w mode pending bytes piece n count x own left has within taken wanted same_mode course later old new a b refusals passes accepted =
       let next = next_is functions w mode pending (bytes ++ take n piece) x own left has bytes piece n count refl within taken in
-      subst (λ t. GoesOn functions state wanted.strict course later old new w mode (bytes ++ piece) a b pending t) (piece_left bytes piece n has.next count next (omega arith) within)
+      subst (λ t. SessionGoesOn functions state wanted.strict course later old new w mode (bytes ++ piece) a b pending t) (piece_left bytes piece n has.next count next (omega arith) within)
       (answered_within wanted.strict course later old new w mode a b pending bytes piece (drop has.next (bytes ++ take n piece)) n
       (after_form functions w mode pending (bytes ++ take n piece) x own left has state wanted same_mode course later old new a b refusals passes accepted))
 
   -- what is pending after it
   pub pending_again : (strict : Bool) (course later : Course) (old new : StoreView D R) (w : WorldState) (mode : Mode) (text : List ℕ) (a b : Option (List ℕ)) (pending : Pending) (left : List ℕ)
-      → GoesOn functions state strict course later old new w mode text a b pending left → (v : WorldState) → new.world ≡ Some v → (bytes : List ℕ) × IsPending functions v mode pending bytes
+      → SessionGoesOn functions state strict course later old new w mode text a b pending left → (v : WorldState) → new.world ≡ Some v → (bytes : List ℕ) × IsPending functions v mode pending bytes
   pending_again strict course later old new w mode text a b pending left goes v known =
       let same : goes.far.world ≡ v = let left_is = goes.advances.after.left in cc in
       (goes.bytes, subst (λ u. IsPending functions u mode pending goes.bytes) same goes.is_pending)
@@ -113,7 +113,7 @@ module _ (functions : Functions) {D R : Type 0} (state : D → State) where
 
   module _ (sound : (d : D) → IsHonest (state d) → IsSoundDisk (state d)) (wanted : SessionOptions) (course later last : Course) (old mid new : StoreView D R) (w : WorldState) (mode : Mode) (a b c : Option (List ℕ)) (pending : Pending)
       (honest : (state mid.disk).honest ≡ (state old.disk).honest) where
-    module _ (text : List ℕ) (left : List ℕ) (first : GoesOn functions state wanted.strict course later old mid w mode text a b pending left) where
+    module _ (text : List ℕ) (left : List ℕ) (first : SessionGoesOn functions state wanted.strict course later old mid w mode text a b pending left) where
       abbrev p : Progress
       p = first.far
 
@@ -124,19 +124,19 @@ module _ (functions : Functions) {D R : Type 0} (state : D → State) where
       none_of refusals second is = ap (λ l. l ++ refusals) (first.accepted is) ∙ second is
 
       all_of : (forms lines : ℕ) (far answered : Progress) → (wanted.strict ≡ true → AreFormsAccepted forms lines far answered) → wanted.strict ≡ true
-          → AreFormsAccepted (forms + first.forms) (lines + first.forms) (onward p far) (onward p answered)
+          → AreFormsAccepted (forms + first.forms) (lines + first.forms) (progress_onward p far) (progress_onward p answered)
       all_of forms lines far answered second is =
           (none_of answered.refused (λ strict. (second strict).0) is, λ more. none_of far.refused (λ strict. (second strict).1 (omega (arith, more))) is)
 
-      goes_on_both : (after : Pending) (others : List ℕ) → GoesOn functions state wanted.strict later last mid new p.world mode rest b c after others
-          → GoesOn functions state wanted.strict course last old new w mode text a c after others
+      goes_on_both : (after : Pending) (others : List ℕ) → SessionGoesOn functions state wanted.strict later last mid new p.world mode rest b c after others
+          → SessionGoesOn functions state wanted.strict course last old new w mode text a c after others
       goes_on_both after others second = record {
         forms = second.forms + first.forms;
-        far = onward p second.far;
+        far = progress_onward p second.far;
         advances = advance_both functions state sound old mid new w mode text a b c first.forms p first.advances honest second.forms (second.forms + first.forms) second.far refl
             (subst (λ t. Advances functions state mid new p.world mode t b c second.forms second.far) (sym first.rest) second.advances);
         paced = paces_both functions old.limit w p.world p.taken second.far.taken course.pace later.pace last.pace (fill_of old) (fill_of mid) (fill_of new) first.advances.after.records first.paced
-            (subst (λ n. Paces functions n p.world second.far.taken later.pace last.pace (fill_of mid) (fill_of new)) first.advances.after.limit second.paced);
+            (subst (λ n. PacesForms functions n p.world second.far.taken later.pace last.pace (fill_of mid) (fill_of new)) first.advances.after.limit second.paced);
         comes = record {
           forms_are = let one = first.comes.forms_are in let two = second.comes.forms_are in omega arith;
           bytes_are = let one = first.comes.bytes_are in let two = second.comes.bytes_are in let same = ap length first.rest in omega arith;
@@ -168,14 +168,14 @@ module _ (functions : Functions) {D R : Type 0} (state : D → State) where
           → StopsStrict functions state old new w mode text a c course.pace course.forms course.bytes number place
       stops_both number place second is = record {
         forms = second.forms + first.forms;
-        far = onward p second.far;
+        far = progress_onward p second.far;
         advances = advance_both functions state sound old mid new w mode text a b c first.forms p first.advances honest second.forms (second.forms + first.forms) second.far refl second.advances;
         later = second.later;
         paced = paces_both functions old.limit w p.world p.taken second.far.taken course.pace later.pace second.later (fill_of old) (fill_of mid) (fill_of new) first.advances.after.records first.paced
-            (subst (λ n. Paces functions n p.world second.far.taken later.pace second.later (fill_of mid) (fill_of new)) first.advances.after.limit second.paced);
+            (subst (λ n. PacesForms functions n p.world second.far.taken later.pace second.later (fill_of mid) (fill_of new)) first.advances.after.limit second.paced);
         accepted = second.accepted + first.forms;
         one_more = let one = second.one_more in omega arith;
-        before = onward p second.before;
+        before = progress_onward p second.before;
         before_is = forms_onward functions second.accepted first.forms (second.accepted + first.forms) w mode text p second.before refl first.advances.far_is second.before_is;
         none_refused = none_of second.before.refused (λ _. second.none_refused) is;
         start = second.start;
@@ -211,11 +211,11 @@ module _ (functions : Functions) {D R : Type 0} (state : D → State) where
       ends_both_at (ways.Unaccepted number place) (is, second) = (is, stops_both number place second is)
       ends_both_at (ways.Store number) (second, no_input) = (strict_both (Store number) second, no_input)
 
-      answered_both : (forms : ℕ) (far : Progress) → StaysAnswered functions p.world mode p.rest forms far → StaysAnswered functions w mode text (forms + first.forms) (onward p far)
+      answered_both : (forms : ℕ) (far : Progress) → StaysAnswered functions p.world mode p.rest forms far → StaysAnswered functions w mode text (forms + first.forms) (progress_onward p far)
       answered_both forms far is more = forms_onward functions forms first.forms (forms + first.forms) w mode (text ++ more) (longer p more) (longer far more) refl (first.stays more) (is more)
 
       refused_both : (forms : ℕ) (far : Progress) (code : ℕ) → StaysRefused functions p.world mode p.rest forms far code
-          → StaysRefused functions w mode text (forms + first.forms) (onward p far) code
+          → StaysRefused functions w mode text (forms + first.forms) (progress_onward p far) code
       refused_both forms far code is = (
         is.0,
         λ more. (
@@ -260,7 +260,7 @@ module _ (functions : Functions) {D R : Type 0} (state : D → State) where
       ended_both ended second = serves_both ended (subst (λ t. HasEndedAt functions state wanted later mid new p.world mode t b c ended) (sym first.rest) second)
 
     -- what was answered, and what became of what was left
-    pub answers_both : (text left : List ℕ) (first : GoesOn functions state wanted.strict course later old mid w mode text a b pending left) (after : Pending) (result : Option Ended)
+    pub answers_both : (text left : List ℕ) (first : SessionGoesOn functions state wanted.strict course later old mid w mode text a b pending left) (after : Pending) (result : Option Ended)
         → AnswersPiece functions state wanted later last mid new first.far.world mode (first.bytes ++ left) b c after result → AnswersPiece functions state wanted course last old new w mode text a c after result
     unfolding extended
     answers_both text left first after None second = goes_on_both text left first after [] second
@@ -269,19 +269,19 @@ module _ (functions : Functions) {D R : Type 0} (state : D → State) where
         (subst (λ t. HasEndedAt functions state wanted later mid new first.far.world mode t b c ended) (append_assoc first.bytes left more) (second more))
 
     -- what was left, and what a piece of it came to
-    pub next_both : (text rest : List ℕ) (first : GoesOn functions state wanted.strict course later old mid w mode text a b pending rest) (after : Pending) (result : Result ℕ Ended)
+    pub next_both : (text rest : List ℕ) (first : SessionGoesOn functions state wanted.strict course later old mid w mode text a b pending rest) (after : Pending) (result : Result ℕ Ended)
         → PieceComesTo functions state wanted later last mid new first.far.world mode (first.bytes ++ rest) b c after rest result → PieceComesTo functions state wanted course last old new w mode text a c after rest result
     next_both text rest first after (Ok count) second = goes_on_both text rest first after (drop count rest) second
     next_both text rest first after (Err ended) second = answers_both text rest first after (Some ended) second
 
     -- more of the text, and what it came to
-    pub more_both : (text more : List ℕ) (first : GoesOn functions state wanted.strict course later old mid w mode text a b pending []) (after : Pending) (result : Option Ended)
+    pub more_both : (text more : List ℕ) (first : SessionGoesOn functions state wanted.strict course later old mid w mode text a b pending []) (after : Pending) (result : Option Ended)
         → AnswersPiece functions state wanted later last mid new first.far.world mode (first.bytes ++ more) b c after result → AnswersPiece functions state wanted course last old new w mode (text ++ more) a c after result
     unfolding extended
     more_both text more first after result second = answers_both (text ++ more) more (extended wanted.strict course later old mid w mode text a b pending [] more first) after result second
 
     -- the end of the input, and what it came to
-    pub end_both : (text : List ℕ) (first : GoesOn functions state wanted.strict course later old mid w mode text a b pending []) (ended : Ended)
+    pub end_both : (text : List ℕ) (first : SessionGoesOn functions state wanted.strict course later old mid w mode text a b pending []) (ended : Ended)
         → EndsAt functions state wanted later mid new first.far.world mode first.bytes b c ended → EndsAt functions state wanted course old new w mode text a c ended
     end_both text first ended second =
         ends_both_at text [] first ended (subst (λ t. EndsAt functions state wanted later mid new first.far.world mode t b c ended) (sym (first.rest ∙ append-nil first.bytes)) second)
@@ -296,7 +296,7 @@ module _ (functions : Functions) {D R : Type 0} (state : D → State) where
 
   -- a read failed after it
   pub unread_after : (wanted : SessionOptions) (course later : Course) (old new : StoreView D R) (w : WorldState) (mode : Mode) (text : List ℕ) (a b : Option (List ℕ)) (pending : Pending)
-      → GoesOn functions state wanted.strict course later old new w mode text a b pending []
+      → SessionGoesOn functions state wanted.strict course later old new w mode text a b pending []
       → (served : ServesStrict functions state wanted course old new w mode text a b (Store INPUT)) × StaysAnswered functions w mode text served.0.forms served.0.far
   unread_after wanted course later old new w mode text a b pending goes =
       let far : Progress = goes.far in (

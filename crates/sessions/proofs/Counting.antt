@@ -4,7 +4,7 @@ use Rattle.std.specs.List.{flat_map}
 use Rattle.std.proofs.lemmas.List.Sums.{sum_by-append}
 use Rattle.gate_log.specs.Layout.{LogRecord, open_record}
 use Rattle.plist_state.specs.State.{WorldState}
-use Rattle.sessions.specs.Pace.{Fill, HasHalfGrown, IsDue, IsDueByCount, Pace, Paces, fill_with_record}
+use Rattle.sessions.specs.Pace.{Fill, HasHalfGrown, IsDue, IsDueByCount, Pace, PacesForms, fill_with_record}
 use Rattle.sessions.specs.Serve.{room_of}
 use Rattle.prevalence_store.specs.meaning.Acceptance.{Acceptance, accepts, after, mode_of}
 use Rattle.sessions.specs.steps.Schedule.{CountsAll, IsBeforeDue, IsBeforeGrown}
@@ -98,7 +98,7 @@ module _ (functions : Functions) (limit : ℕ) where
   pub all_paced : (w v : WorldState) (es : List LogRecord) (pace later : Pace) (fill now : Fill) → after functions w es ≡ Some v → CountsAll (length es) pace later
       → (0 < length es → HasHalfGrown pace.ratio now.size now.first_size → ⊥) → (0 < length es → fill.size + room_of es ≤ limit)
       → now.generation ≡ fill.generation → now.record_count ≡ fill.record_count + length es → now.size ≡ fill.size + room_of es → now.first_size ≡ fill.first_size
-      → Paces functions limit w es pace later fill now
+      → PacesForms functions limit w es pace later fill now
   all_paced w v [] pace later fill now there counts small fits generation records size start =
       let many : now.record_count ≡ fill.record_count = omega (arith, records) in
       let bytes : now.size ≡ fill.size = omega (arith, size) in

@@ -18,11 +18,11 @@ use Rattle.sessions.specs.declared.answer.Answered.{Answered}
 use Rattle.sessions.specs.declared.answer.Answered.TheVariants.{Accepted, Refused}
 use Rattle.sessions.specs.declared.input.Pending.{Pending}
 use Rattle.prevalence_store.specs.meaning.Acceptance.{read_in, setting_in}
-use Rattle.sessions.specs.Answers.{Progress, after_forms, first_progress}
-use Rattle.sessions.specs.Pace.{Paces, fill_of}
+use Rattle.sessions.specs.FormAnswers.{Progress, after_forms, first_progress}
+use Rattle.sessions.specs.Pace.{PacesForms, fill_of}
 use Rattle.sessions.specs.Serve.{IsRefusedFrom, IsFormUnaccepted, ServesInPace, StaysAnswered, StopsStrict}
 use Rattle.prevalence_store.specs.calls.Store.{StoreView}
-use Rattle.sessions.specs.steps.Answer.{AnswersFault, AnswersForm, AnswersRead, BeginsWith, PassesForm, StopsInForm, TellsForm}
+use Rattle.sessions.specs.steps.Answer.{AnswersFault, AnswersForm, AnswersRead, BeginsWithForm, PassesForm, StopsInForm, TellsForm}
 use Rattle.sessions.specs.steps.Course.{Course, pass}
 use Rattle.sessions.specs.steps.Input.{HasRefusal}
 use Rattle.sessions.specs.steps.Serve.{AnswersPiece, EndsAt, HasEndedAt, ended_at}
@@ -255,7 +255,7 @@ module _ (functions : Functions) {D R : Type 0} (state : D → State) where
     record {
       far = is.0;
       advances = is.1;
-      paced = subst (λ (k : Course). Paces functions old.limit w is.0.taken course.pace k.pace (fill_of old) (fill_of new)) (sym passed) is.2;
+      paced = subst (λ (k : Course). PacesForms functions old.limit w is.0.taken course.pace k.pace (fill_of old) (fill_of new)) (sym passed) is.2;
       forms = ap (λ (k : Course). k.forms) passed ∙ ap (λ n. n + 1) forms;
       bytes = ap (λ (k : Course). k.bytes) passed ∙ ap (λ n. n + next) bytes;
       refused_are = refl;
@@ -266,7 +266,7 @@ module _ (functions : Functions) {D R : Type 0} (state : D → State) where
   -- it was refused where it begins
   pub refused_there : (course later : Course) (old new : StoreView D R) (w : WorldState) (wanted : SessionOptions) (text : List ℕ) (a b : Option (List ℕ)) (x : Object) (own : List ℕ) (start next number : ℕ) (far : Progress) (place : Place)
       → wanted.strict ≡ true → (passes : PassesForm functions state course later old new w wanted text a b start next far.refused) → TellsForm functions w wanted.mode text far (Refused number)
-      → (n : ℕ) (begins : BeginsWith functions w wanted.mode text x own n) → begins.start ≡ start → place.forms ≡ course.forms → place.start ≡ course.bytes + start → place.at ≡ course.bytes + start
+      → (n : ℕ) (begins : BeginsWithForm functions w wanted.mode text x own n) → begins.start ≡ start → place.forms ≡ course.forms → place.start ≡ course.bytes + start → place.at ≡ course.bytes + start
       → AnswersRead functions state course later old new w wanted text a b start next (Err (ways.Unaccepted number place))
   refused_there course later old new w wanted text a b x own start next number far place strict passes tells n begins start_is forms_is first_is at_is =
       let told = tells.1 in

@@ -11,7 +11,7 @@ use Rattle.session_words.specs.declared.mode.Mode.{Mode}
 use Rattle.sessions.specs.declared.ending.Ending.{Ending}
 use Rattle.sessions.specs.declared.ending.Ending.TheVariants.{End, Reader, Store}
 use Rattle.prevalence_store.specs.meaning.Acceptance.{read_in}
-use Rattle.sessions.specs.Answers.{Progress, after_forms, first_progress, last_line, one_form, onward, refusal_line}
+use Rattle.sessions.specs.FormAnswers.{Progress, after_forms, first_progress, last_line, one_form, progress_onward, refusal_line}
 use Rattle.sessions.specs.Serve.{Ends, IsAfter, Serves}
 use Rattle.prevalence_store.specs.calls.Store.{StoreView, Describes}
 use Rattle.sessions.specs.Streams.{Writes, WritesPart}
@@ -75,7 +75,7 @@ module _ (functions : Functions) where
 
   -- the world of the text's first form
   pub after_one_form : (w : WorldState) (mode : Mode) (text : List ℕ) (p : Progress) → one_form functions w mode text (read_in functions w mode text) ≡ Some p → after_forms functions 1 w mode text ≡ Some p
-  after_one_form w mode text p is = ap (option_map (onward (first_progress w text))) is
+  after_one_form w mode text p is = ap (option_map (progress_onward (first_progress w text))) is
 
   module _ {D R : Type 0} (state : D → State) (sound : (d : D) → IsHonest (state d) → IsSoundDisk (state d)) (old new : StoreView D R) (w : WorldState) (mode : Mode) (text : List ℕ) (held written : Option (List ℕ))
       (known : old.world ≡ Some w) where

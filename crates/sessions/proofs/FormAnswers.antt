@@ -23,7 +23,7 @@ use Rattle.sessions.specs.declared.ending.Ending.TheVariants.{Store}
 use Rattle.prevalence_store.specs.meaning.Acceptance.{after, between, accepted_record, read_in, records_of, transaction_value}
 use Rattle.prevalence_store.specs.steps.Failure.{failure_number}
 use Rattle.prevalence_store.specs.calls.Execute.{Stores, SurvivesAs}
-use Rattle.sessions.specs.Answers.{Progress, after_forms, first_progress, form_progress, last_line, one_form, refusal_line, value_line}
+use Rattle.sessions.specs.FormAnswers.{Progress, after_forms, first_progress, form_progress, last_line, one_form, refusal_line, value_line}
 use Rattle.sessions.specs.Pace.{fill_of}
 use Rattle.sessions.specs.Serve.{Ends, IsAfter, IsOver}
 use Rattle.prevalence_store.specs.calls.Store.{StoreView}

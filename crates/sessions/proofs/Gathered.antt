@@ -17,9 +17,9 @@ use Rattle.session_words.specs.declared.wanted.SessionOptions.{SessionOptions}
 use Rattle.sessions.specs.declared.gather.GatheredForms.{GatheredForms}
 use Rattle.sessions.specs.declared.group.Grouped.TheVariants as grouped
 use Rattle.prevalence_store.specs.meaning.Acceptance.{after, between, read_in, transaction_value}
-use Rattle.sessions.specs.Answers.{Progress, after_forms, first_progress, form_progress, last_line, one_form, onward}
+use Rattle.sessions.specs.FormAnswers.{Progress, after_forms, first_progress, form_progress, last_line, one_form, progress_onward}
 use Rattle.prevalence_store.specs.calls.ExecuteAll.{LogsAll}
-use Rattle.sessions.specs.Pace.{Paces, fill_of}
+use Rattle.sessions.specs.Pace.{PacesForms, fill_of}
 use Rattle.sessions.specs.Serve.{IsAfter, room_of}
 use Rattle.prevalence_store.specs.calls.Store.{StoreView}
 use Rattle.sessions.specs.Streams.{Writes, WritesPart}
@@ -73,7 +73,7 @@ module _ (functions : Functions) where
   some_of_one w mode text (refused number at) s is = absurd (cc)
 
   -- one form more, as what comes of it
-  one_more_is : (p far : Progress) (one : Option Progress) → option_map (onward p) one ≡ Some far → (s : Progress) × (one ≡ Some s) × (onward p s ≡ far)
+  one_more_is : (p far : Progress) (one : Option Progress) → option_map (progress_onward p) one ≡ Some far → (s : Progress) × (one ≡ Some s) × (progress_onward p s ≡ far)
   one_more_is p far None is = absurd (cc)
   one_more_is p far (Some s) is = (s, refl, cc)
 
@@ -171,7 +171,7 @@ module _ (functions : Functions) where
     }
 
     all_in_pace : (far : Progress) → LogsAll state old new far.taken far.world → after functions w far.taken ≡ Some far.world → (course later : Course) → CountsAll (length far.taken) course.pace later.pace
-        → (room : ℕ) → IsBeforeGrown course.pace.ratio (fill_of old) room → room_of far.taken ≤ room → Paces functions old.limit w far.taken course.pace later.pace (fill_of old) (fill_of new)
+        → (room : ℕ) → IsBeforeGrown course.pace.ratio (fill_of old) room → room_of far.taken ≤ room → PacesForms functions old.limit w far.taken course.pace later.pace (fill_of old) (fill_of new)
     all_in_pace far logs again course later counts room before within =
         let size = logs.size ∙ ap (λ n. old.size + n) (room_is far.taken) in
         all_paced functions old.limit w far.world far.taken course.pace later.pace (fill_of old) (fill_of new) again counts

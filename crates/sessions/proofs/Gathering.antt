@@ -20,12 +20,12 @@ use Rattle.sessions.specs.declared.gather.GatheredForms.{GatheredForms}
 use Rattle.sessions.specs.declared.gather.GroupLimit.{GroupLimit}
 use Rattle.sessions.specs.declared.input.Pending.{Pending}
 use Rattle.prevalence_store.specs.meaning.Acceptance.{acceptance_of, after, between, read_in, records_of, transaction_value}
-use Rattle.sessions.specs.Answers.{Progress, after_forms, first_progress, form_progress, one_form, onward}
-use Rattle.sessions.specs.steps.Answer.{BeginsWith}
+use Rattle.sessions.specs.FormAnswers.{Progress, after_forms, first_progress, form_progress, one_form, progress_onward}
+use Rattle.sessions.specs.steps.Answer.{BeginsWithForm}
 use Rattle.form_eval.specs.Laws.{MayEvaluate}
 use Rattle.prevalence_store.specs.steps.Batch.{entries_in, IsEmpty}
 use Rattle.sessions.specs.steps.Input.{HasForm}
-use Rattle.sessions.specs.steps.Gather.{BeginsWhole, HoldsNone, IsFormAdded, AreWithinLimit, AreFormsGathered, AddsNextForm}
+use Rattle.sessions.specs.steps.Gather.{BeginsWhole, HoldsNoForm, IsFormAdded, AreWithinLimit, AreFormsGathered, AddsNextForm}
 use Rattle.prevalence_store.proofs.calls.Executing.{form_places, own_whole}
 use Rattle.sessions.proofs.Progressing.{forms_onward}
 use Rattle.sessions.proofs.Endings.{after_one_form}
@@ -45,7 +45,7 @@ module _ (functions : Functions) (mode : Mode) (w : WorldState) (text : List ℕ
   reads_alone : read_in functions w mode text ≡ form x begins.start begins.stop next
   reads_alone = ap (read_in functions w mode) (sym (append-nil text)) ∙ begins.reads []
 
-  begins_with : BeginsWith functions w mode text x own next
+  begins_with : BeginsWithForm functions w mode text x own next
   begins_with = record { start = begins.start; stop = begins.stop; reads = reads_alone; is_own = begins.is_own }
 
   own_longer : (more : List ℕ) → between begins.start begins.stop (text ++ more) ≡ own
@@ -92,7 +92,7 @@ piece_begins functions w mode pending piece n x own left some within has next is
 
 module _ (functions : Functions) (wanted : SessionOptions) (w : WorldState) (text : List ℕ) where
   -- before the first form
-  pub none_gathered : (none : GatheredForms) → HoldsNone none → AreFormsGathered functions wanted w text w [] none
+  pub none_gathered : (none : GatheredForms) → HoldsNoForm none → AreFormsGathered functions wanted w text w [] none
   none_gathered none is = record {
     far = first_progress w text;
     stays = λ more. ap (λ n. after_forms functions n w wanted.mode (text ++ more)) is.forms;
@@ -121,7 +121,7 @@ module _ (functions : Functions) (wanted : SessionOptions) (w : WorldState) (tex
       let here : p.rest ≡ piece = is.rest ∙ piece_is in
       let again = one_again functions wanted.mode u piece after_it.object after_it.own count begins given added.valued in
       record {
-        far = onward p q;
+        far = progress_onward p q;
         stays = λ more.
             forms_onward functions 1 old.forms new.forms w wanted.mode (text ++ more) (longer p more) (longer q more) (omega (arith, added.forms)) (is.stays more)
             (subst (λ (s : WorldState). after_forms functions 1 s wanted.mode (p.rest ++ more) ≡ Some (longer q more)) is.left
@@ -140,7 +140,7 @@ module _ (functions : Functions) (wanted : SessionOptions) (w : WorldState) (tex
       }
 
   -- the first form
-  pub first_gathered : (v : WorldState) (had has : Batch) (none new : GatheredForms) (x : Object) (own : List ℕ) (next : ℕ) → IsEmpty had → HoldsNone none
+  pub first_gathered : (v : WorldState) (had has : Batch) (none new : GatheredForms) (x : Object) (own : List ℕ) (next : ℕ) → IsEmpty had → HoldsNoForm none
       → BeginsWhole functions w wanted.mode text x own next → IsFormAdded functions wanted x own next w v had has none new → AreFormsGathered functions wanted w text v (entries_in has) new
   first_gathered v had has none new x own next empty is begins added =
       more_gathered w v had has none new text next (subst (λ (es : List LogRecord). AreFormsGathered functions wanted w text w es none) (sym (none_in had empty)) (none_gathered none is)) (ap (λ n. drop n text) is.bytes)

@@ -14,7 +14,7 @@ use Rattle.prevalence_store.specs.meaning.Acceptance.{after, accepted_record}
 use Rattle.prevalence_store.specs.calls.Store.{StoreView}
 use Rattle.prevalence_store.specs.steps.Batch.{FailsBatch, StoresBatch}
 use Rattle.sessions.specs.steps.Gather.{AreWholeFormsTaken, BeginsWhole, FailsForms, AreFormsGathered, MayBeTaken, TakesForms, TakesGroup}
-use Rattle.prevalence_store.specs.steps.Together.{IsMade, IsNotMade}
+use Rattle.prevalence_store.specs.steps.Together.{IsTurnLogged, IsTurnNotLogged}
 use Rattle.user_macros.specs.Functions.{Functions}
 
 -- ---- a form that was read, and those that stand whole after it
@@ -32,7 +32,7 @@ module _ (functions : Functions) (turn : WholeForms) (w : WorldState) where
 
   module _ {D R : Type 0} (state : D → State) (old new : StoreView D R) (text : List ℕ)
       (begins : BeginsWhole functions w turn.wanted.mode text (object_of turn.first.now.read.datum) turn.first.now.own.items turn.first.now.next) (goes_on : drop turn.first.now.next text ≡ turn.rest.now) where
-    forms_logged : (made : Option GatheredForms) → IsMade functions state old new w (λ left records. AreWholeFormsTaken functions turn w left records made) → TakesGroup functions turn.wanted state old new w text (Ok made)
+    forms_logged : (made : Option GatheredForms) → IsTurnLogged functions state old new w (λ left records. AreWholeFormsTaken functions turn w left records made) → TakesGroup functions turn.wanted state old new w text (Ok made)
     forms_logged None logged = logged.stores.logs.nothing (ap length (logged.makes.none refl).1)
     forms_logged (Some gathered) logged = record { left = logged.left; records = logged.records; makes = logged.makes.gathers text begins goes_on; stores = logged.stores }
 
@@ -41,7 +41,7 @@ module _ (functions : Functions) (turn : WholeForms) (w : WorldState) where
     forms_failed left records None taken fails = absurd (omega (arith, fails.some, ap length (taken.none refl).1))
     forms_failed left records (Some gathered) taken fails = record { left = left; records = records; makes = (gathered, taken.counts.some, taken.gathers text begins goes_on); fails = fails }
 
-    forms_unlogged : (cause : Unlogged) → IsNotMade functions state old new w (λ left records. (made : Option GatheredForms) × AreWholeFormsTaken functions turn w left records made) cause
+    forms_unlogged : (cause : Unlogged) → IsTurnNotLogged functions state old new w (λ left records. (made : Option GatheredForms) × AreWholeFormsTaken functions turn w left records made) cause
         → TakesGroup functions turn.wanted state old new w text (Err cause)
     forms_unlogged OutOfMemory unmade = unmade.unchanged refl
     forms_unlogged Full unmade = unmade.unchanged refl
@@ -49,8 +49,8 @@ module _ (functions : Functions) (turn : WholeForms) (w : WorldState) where
         let stopped = unmade.stopped refl in
         forms_failed stopped.left stopped.records stopped.makes.0 stopped.makes.1 stopped.fails
 
-    pub forms_taken : (result : Result (Option GatheredForms) Unlogged) → IfOk result (λ made. IsMade functions state old new w (λ left records. AreWholeFormsTaken functions turn w left records made))
-        → IfErr result (IsNotMade functions state old new w (λ left records. (made : Option GatheredForms) × AreWholeFormsTaken functions turn w left records made)) → TakesGroup functions turn.wanted state old new w text result
+    pub forms_taken : (result : Result (Option GatheredForms) Unlogged) → IfOk result (λ made. IsTurnLogged functions state old new w (λ left records. AreWholeFormsTaken functions turn w left records made))
+        → IfErr result (IsTurnNotLogged functions state old new w (λ left records. (made : Option GatheredForms) × AreWholeFormsTaken functions turn w left records made)) → TakesGroup functions turn.wanted state old new w text result
     forms_taken (Ok made) logged unmade = forms_logged made logged
     forms_taken (Err cause) logged unmade = forms_unlogged cause unmade
 

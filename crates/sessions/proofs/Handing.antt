@@ -23,12 +23,12 @@ use Rattle.prevalence_store.specs.calls.Store.{StoreView}
 use Rattle.sessions.specs.Streams.{Writes}
 use Rattle.prevalence_store.specs.meaning.Acceptance.{after, accepted_record, read_in}
 use Rattle.prevalence_store.specs.meaning.Files.{MeansWorld}
-use Rattle.sessions.specs.Answers.{Progress, after_forms, first_progress, last_line, onward, refusal_line}
+use Rattle.sessions.specs.FormAnswers.{Progress, after_forms, first_progress, last_line, progress_onward, refusal_line}
 use Rattle.sessions.specs.steps.Answer.{LeavesRecord, TriesForm, was_logged}
 use Rattle.sessions.specs.steps.Course.{Course}
 use Rattle.sessions.specs.steps.Gather.{FailsForms, TakesForms}
-use Rattle.sessions.specs.steps.Schedule.{Renewing, RenewsAfterForm, RenewsIfDue}
-use Rattle.sessions.specs.steps.Serve.{GoesOn}
+use Rattle.sessions.specs.steps.Schedule.{RenewsOrIsRefused, RenewsAfterForm, RenewsIfDue}
+use Rattle.sessions.specs.steps.Serve.{SessionGoesOn}
 use Rattle.sessions.specs.steps.Standing.{AcknowledgesNone, IsLaterAccount, HandsOn, IsAtRest, StandsAfterLines, StandsBefore, StandsBeforeAll}
 use Rattle.prevalence_store.proofs.Surviving.{all_or_none_of_one, both_survive, none_taken, unchanged_survives}
 use Rattle.sessions.proofs.Progressing.{forms_onward}
@@ -134,7 +134,7 @@ module _ (functions : Functions) {D R : Type 0} (state : D → State) (sound : (
 
   -- after forms that were answered, before what is left
   module _ (strict : Bool) (course later : Course) (old new : StoreView D R) (w : WorldState) (mode : Mode) (text : List ℕ) (a b : Option (List ℕ)) (pending : Pending) (left : List ℕ) (told now : Option (Account D))
-      (goes : GoesOn functions state strict course later old new w mode text a b pending left) (hands : HandsOn functions state course.forms later.forms told now new) where
+      (goes : SessionGoesOn functions state strict course later old new w mode text a b pending left) (hands : HandsOn functions state course.forms later.forms told now new) where
     on_from : (before kept : Account D) → IsLaterAccount course.forms later.forms before kept → IsAtRest functions state kept new goes.far.world → (s : StandsAfterLines functions state before old w mode text)
         → (t : StandsAfterLines functions state kept new goes.far.world mode (goes.bytes ++ left)) × (t.text ≡ s.text)
     on_from before kept follows rest s =
@@ -142,7 +142,7 @@ module _ (functions : Functions) {D R : Type 0} (state : D → State) (sound : (
           record {
             text = s.text;
             of_input = λ all has. s.of_input all (sym follows.input ∙ has);
-            far = onward s.far goes.far;
+            far = progress_onward s.far goes.far;
             stays = λ more. (λ i. after_forms functions kept.forms (follows.first i) (follows.mode i) (s.text ++ more))
                 ∙ forms_onward functions goes.forms before.forms kept.forms before.first before.mode (s.text ++ more) (longer s.far more) (longer goes.far more) count (s.stays more)
                 ((λ i. after_forms functions goes.forms (s.world_is i) (s.mode_is i) (s.rest_is i ++ more)) ∙ goes.stays more);
@@ -327,7 +327,7 @@ module _ (functions : Functions) {D R : Type 0} (state : D → State) (sound : (
       acknowledges_none told old new w fault.makes.2.far.taken known (λ kept is. (stands kept is).at_rest) (far_failed functions wanted state old new w text fault).survives (far_failed functions wanted state old new w text fault).all_or_none
 
   -- a snapshot that was refused
-  pub no_renewal : (old new : StoreView D R) (w : WorldState) (number : ℕ) → Renewing functions state old new w (Err number) → SurvivesAs functions state old new w [] 0
+  pub no_renewal : (old new : StoreView D R) (w : WorldState) (number : ℕ) → RenewsOrIsRefused functions state old new w (Err number) → SurvivesAs functions state old new w [] 0
   no_renewal old new w number (inl none) = none.survives
   no_renewal old new w number (inr (inl fault)) = fault.survives
   no_renewal old new w number (inr (inr memory)) = memory.survives

@@ -9,7 +9,7 @@ use Rattle.sessions.specs.declared.ending.Ended.{Ended}
 use Rattle.sessions.specs.declared.ending.Ended.TheVariants as ways
 use Rattle.sessions.specs.declared.ending.Ending.{Ending}
 use Rattle.sessions.specs.declared.ending.Ending.TheVariants.{End, Reader, Store}
-use Rattle.sessions.specs.Answers.{Progress}
+use Rattle.sessions.specs.FormAnswers.{Progress}
 use Rattle.sessions.specs.Serve.{Ends, ServesWanted}
 use Rattle.prevalence_store.specs.calls.Store.{StoreView}
 

@@ -10,8 +10,8 @@ use Rattle.sessions.specs.declared.ending.Ending.{Ending}
 use Rattle.sessions.specs.declared.ending.Ending.TheVariants.{End, Reader, Store}
 use Rattle.prevalence_store.specs.meaning.Acceptance.{after, read_in}
 use Rattle.user_macros.specs.Functions.{Functions}
-use Rattle.sessions.specs.Answers.{Progress, after_forms, first_progress, onward}
-use Rattle.sessions.specs.Pace.{CountsLoggedForm, EndsInPace, Fill, HasMadeRoom, IsOverIn, IsFillAfterForms, IsFillAfterRecord, LogsWithRoom, Pace, Paces, IsFillAfterForm, fill_of_new_half, fill_of}
+use Rattle.sessions.specs.FormAnswers.{Progress, after_forms, first_progress, progress_onward}
+use Rattle.sessions.specs.Pace.{CountsLoggedForm, EndsInPace, Fill, HasMadeRoom, IsOverIn, IsFillAfterForms, IsFillAfterRecord, LogsWithRoom, Pace, PacesForms, IsFillAfterForm, fill_of_new_half, fill_of}
 use Rattle.prevalence_store.specs.calls.Store.{StoreView}
 use Rattle.sessions.specs.steps.Answer.{AnswersFault, LeavesRecord, LogsAtOnce}
 use Rattle.prevalence_store.proofs.Surviving.{after-append}
@@ -19,32 +19,32 @@ use Rattle.sessions.specs.Serve.{ServesInPace}
 use Rattle.sessions.proofs.Endings.{after_one_form, done, fault_answered, no_memory, nothing}
 
 module _ (functions : Functions) (limit : ℕ) where
-  pub none_paced : (w : WorldState) (pace : Pace) (taken : List LogRecord) (fill now : Fill) → taken ≡ [] → now ≡ fill → Paces functions limit w taken pace pace fill now
-  none_paced w pace taken fill now none same = subst (λ xs. Paces functions limit w xs pace pace fill now) (sym none) (refl, same)
+  pub none_paced : (w : WorldState) (pace : Pace) (taken : List LogRecord) (fill now : Fill) → taken ≡ [] → now ≡ fill → PacesForms functions limit w taken pace pace fill now
+  none_paced w pace taken fill now none same = subst (λ xs. PacesForms functions limit w xs pace pace fill now) (sym none) (refl, same)
 
   -- one form that was logged, and what follows it
   pub one_paced : (w given : WorldState) (entry : LogRecord) (pace later : Pace) (fill logged now : Fill) (taken : List LogRecord) → taken ≡ entry ∷ [] → after functions w taken ≡ Some given
-      → LogsWithRoom limit w entry fill logged → CountsLoggedForm pace later → IsFillAfterForm limit pace given logged now → Paces functions limit w taken pace later fill now
+      → LogsWithRoom limit w entry fill logged → CountsLoggedForm pace later → IsFillAfterForm limit pace given logged now → PacesForms functions limit w taken pace later fill now
   one_paced w given entry pace later fill logged now taken is given_is logs counts followed =
-      subst (λ xs. Paces functions limit w xs pace later fill now) (sym is)
+      subst (λ xs. PacesForms functions limit w xs pace later fill now) (sym is)
       (given, later, now, record { given_is = ap (after functions w) (sym is) ∙ given_is; logged = logged; logs = logs; counts = counts; followed = followed }, (refl, refl))
 
   -- ---- some forms, and some more
 
   pub paces_both : (w v : WorldState) (xs ys : List LogRecord) (p q r : Pace) (f g h : Fill) → after functions w xs ≡ Some v
-      → Paces functions limit w xs p q f g → Paces functions limit v ys q r g h → Paces functions limit w (xs ++ ys) p r f h
+      → PacesForms functions limit w xs p q f g → PacesForms functions limit v ys q r g h → PacesForms functions limit w (xs ++ ys) p r f h
   paces_both w v [] ys p q r f g h here one two =
       let same : v ≡ w = cc in
-      subst (λ u. Paces functions limit u ys p r f h) same
-      (subst (λ x. Paces functions limit v ys x r f h) one.0 (subst (λ x. Paces functions limit v ys q r x h) one.1 two))
+      subst (λ u. PacesForms functions limit u ys p r f h) same
+      (subst (λ x. PacesForms functions limit v ys x r f h) one.0 (subst (λ x. PacesForms functions limit v ys q r x h) one.1 two))
   paces_both w v (x ∷ xs) ys p q r f g h here one two =
       (one.0, one.1, one.2, one.3, paces_both one.0 v xs ys one.1 q r one.2 g h (sym (after-append functions w one.0 (x ∷ []) xs one.3.given_is) ∙ here) one.4 two)
 
-  module _ (w : WorldState) (mode : Mode) (pr : Progress) (p q : Pace) (f g : Fill) (here : after functions w pr.taken ≡ Some pr.world) (first : Paces functions limit w pr.taken p q f g) where
-    paced_after : (far : Progress) (now : Fill) → IsFillAfterForms functions limit pr.world q g far.taken now → IsFillAfterForms functions limit w p f (onward pr far).taken now
+  module _ (w : WorldState) (mode : Mode) (pr : Progress) (p q : Pace) (f g : Fill) (here : after functions w pr.taken ≡ Some pr.world) (first : PacesForms functions limit w pr.taken p q f g) where
+    paced_after : (far : Progress) (now : Fill) → IsFillAfterForms functions limit pr.world q g far.taken now → IsFillAfterForms functions limit w p f (progress_onward pr far).taken now
     paced_after far now is = (is.0, paces_both w pr.world pr.taken far.taken p q is.0 f g now here first is.1)
 
-    unfoldable unfollowed_after : (far : Progress) (now : Fill) → IsFillAfterRecord functions limit pr.world q g far.taken now → IsFillAfterRecord functions limit w p f (onward pr far).taken now
+    unfoldable unfollowed_after : (far : Progress) (now : Fill) → IsFillAfterRecord functions limit pr.world q g far.taken now → IsFillAfterRecord functions limit w p f (progress_onward pr far).taken now
     unfollowed_after far now is = record {
       earlier = pr.taken ++ is.earlier;
       last = is.last;
@@ -57,7 +57,7 @@ module _ (functions : Functions) (limit : ℕ) where
       logs = is.logs;
     }
 
-    room_after : (far : Progress) (now : Fill) → HasMadeRoom functions limit pr.world q g mode far now → HasMadeRoom functions limit w p f mode (onward pr far) now
+    room_after : (far : Progress) (now : Fill) → HasMadeRoom functions limit pr.world q g mode far now → HasMadeRoom functions limit w p f mode (progress_onward pr far) now
     room_after far now is = record {
       later = is.later;
       before = is.before;
@@ -68,7 +68,7 @@ module _ (functions : Functions) (limit : ℕ) where
 
     pub ends_after : (m forms : ℕ) (far : Progress) (lines : ℕ) (answered : Progress) (now : Fill) (ending : Ending)
         → EndsInPace functions limit pr.world q g mode forms far lines answered now ending
-        → EndsInPace functions limit w p f mode (forms + m) (onward pr far) (lines + m) (onward pr answered) now ending
+        → EndsInPace functions limit w p f mode (forms + m) (progress_onward pr far) (lines + m) (progress_onward pr answered) now ending
     unfolding unfollowed_after
     ends_after m forms far lines answered now End is = paced_after far now is
     ends_after m forms far lines answered now (Reader number) is = paced_after far now is
@@ -81,7 +81,7 @@ module _ (functions : Functions) (limit : ℕ) where
       before = before_both is.before;
     }))) where
       before_both : IsFillAfterForms functions limit pr.world q g answered.taken now ⊎ HasMadeRoom functions limit pr.world q g mode answered now
-          → IsFillAfterForms functions limit w p f (onward pr answered).taken now ⊎ HasMadeRoom functions limit w p f mode (onward pr answered) now
+          → IsFillAfterForms functions limit w p f (progress_onward pr answered).taken now ⊎ HasMadeRoom functions limit w p f mode (progress_onward pr answered) now
       before_both (inl paced) = inl (paced_after answered now paced)
       before_both (inr made) = inr (room_after answered now made)
 

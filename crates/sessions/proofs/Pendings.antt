@@ -30,7 +30,7 @@ use Rattle.session_words.specs.declared.mode.Mode.{Mode}
 use Rattle.prevalence_store.specs.meaning.Acceptance.{between, form_limits, read_in, setting_in}
 use Rattle.user_macros.specs.Functions.{Functions}
 use Rattle.sessions.specs.steps.Input.{HasForm, HasRefusal, IsLastForm, IsPending}
-use Rattle.sessions.specs.steps.Answer.{BeginsWith}
+use Rattle.sessions.specs.steps.Answer.{BeginsWithForm}
 use Rattle.prevalence_store.proofs.calls.Executing.{form_places, own_whole}
 use Rattle.prevalence_store.proofs.steps.Fitting.{fits_in, is_form}
 
@@ -207,7 +207,7 @@ module _ (functions : Functions) (w : WorldState) (mode : Mode) (old : Pending) 
 
 -- ---- the form that a text begins with
 
-module _ (functions : Functions) (w : WorldState) (mode : Mode) (text : List ℕ) (x : Object) (own : List ℕ) (next : ℕ) (begins : BeginsWith functions w mode text x own next) where
+module _ (functions : Functions) (w : WorldState) (mode : Mode) (text : List ℕ) (x : Object) (own : List ℕ) (next : ℕ) (begins : BeginsWithForm functions w mode text x own next) where
   pub begins_whole : read_in functions w mode own ≡ form x 0 (length own) (length own)
   begins_whole = subst (λ t. read_in functions w mode t ≡ form x 0 (length t) (length t)) (sym begins.is_own)
       (own_whole functions w mode text x begins.start begins.stop next begins.reads)
@@ -218,7 +218,7 @@ module _ (functions : Functions) (w : WorldState) (mode : Mode) (text : List ℕ
 -- it may be evaluated there
 pub may_evaluate : (functions : Functions) (w : WorldState) (mode : Mode) (read : ReadForm) (own : List ℕ) → is_proper read.datum ≡ true → object.IsSound (object_of read.datum)
     → (read.known ≡ true → are_there w.packages (object_of read.datum) ≡ true)
-    → (text : List ℕ) × ((next : ℕ) × BeginsWith functions w mode text (object_of read.datum) own next) → IsSoundWorldState w → MayEvaluate w.packages read
+    → (text : List ℕ) × ((next : ℕ) × BeginsWithForm functions w mode text (object_of read.datum) own next) → IsSoundWorldState w → MayEvaluate w.packages read
 may_evaluate functions w mode read own proper sound all_there b present = record {
   proper = proper;
   form = is_form w.packages (object_of read.datum) sound (begins_fits functions w mode b.0 (object_of read.datum) own b.1.0 b.1.1 present);

@@ -13,15 +13,15 @@ use Rattle.session_words.specs.declared.mode.Mode.{Mode}
 use Rattle.sessions.specs.declared.ending.Ending.TheVariants.{End}
 use Rattle.prevalence_store.specs.meaning.Acceptance.{between, read_in, setting_in, transaction_value}
 use Rattle.user_macros.specs.Functions.{Functions}
-use Rattle.sessions.specs.Answers.{Progress, after_forms, form_progress, one_form}
+use Rattle.sessions.specs.FormAnswers.{Progress, after_forms, form_progress, one_form}
 use Rattle.sessions.specs.steps.Gather.{BeginsWhole}
 use Rattle.sessions.specs.steps.Input.{HasForm, IsLastForm, IsPending}
 use Rattle.sessions.specs.Serve.{Advances}
 use Rattle.prevalence_store.specs.calls.Store.{StoreView}
-use Rattle.sessions.specs.steps.Serve.{GoesOn, PassesBytes, ServesStrict}
+use Rattle.sessions.specs.steps.Serve.{SessionGoesOn, PassesBytes, ServesStrict}
 use Rattle.session_words.specs.declared.wanted.SessionOptions.{SessionOptions}
 use Rattle.sessions.specs.steps.Course.{Course}
-use Rattle.sessions.specs.steps.Answer.{BeginsWith, PassesForm}
+use Rattle.sessions.specs.steps.Answer.{BeginsWithForm, PassesForm}
 use Rattle.prevalence_store.proofs.calls.Executing.{form_places}
 use Rattle.sessions.specs.Streams.{Writes}
 use Rattle.sessions.proofs.Pendings.{reads_none}
@@ -83,7 +83,7 @@ moves_further before after many count more moves within = (within, omega (arith,
   by_first (inr first) = inr first
 
 -- the own text of a form, as a slice of the same bytes
-pub begins_as : (functions : Functions) (w : WorldState) (mode : Mode) (text : List ℕ) (x : Object) (own slice : List ℕ) (next : ℕ) (begins : BeginsWith functions w mode text x own next) → slice ≡ own → BeginsWith functions w mode text x slice next
+pub begins_as : (functions : Functions) (w : WorldState) (mode : Mode) (text : List ℕ) (x : Object) (own slice : List ℕ) (next : ℕ) (begins : BeginsWithForm functions w mode text x own next) → slice ≡ own → BeginsWithForm functions w mode text x slice next
 begins_as functions w mode text x own slice next begins same = record { start = begins.start; stop = begins.stop; reads = begins.reads; is_own = same ∙ begins.is_own }
 
 -- ---- a form that the bytes begin with, whatever follows them
@@ -105,7 +105,7 @@ module _ (functions : Functions) (w : WorldState) (mode : Mode) (pending : Pendi
   own_again : (more : List ℕ) → between has.start has.stop (text ++ more) ≡ between has.start has.stop text
   own_again more = between_more has.start has.stop text more (let a = stop_within.0 in omega arith) (let a = stop_within.1 in let b = next_within in omega arith)
 
-  pub form_begins : (slice more : List ℕ) → slice ≡ own → BeginsWith functions w mode (text ++ more) x slice has.next
+  pub form_begins : (slice more : List ℕ) → slice ≡ own → BeginsWithForm functions w mode (text ++ more) x slice has.next
   form_begins slice more same = record {
     start = has.start;
     stop = has.stop;
@@ -113,7 +113,7 @@ module _ (functions : Functions) (w : WorldState) (mode : Mode) (pending : Pendi
     is_own = same ∙ has.is_own ∙ sym (own_again more);
   }
 
-  pub form_begins_here : (slice : List ℕ) → slice ≡ own → BeginsWith functions w mode text x slice has.next
+  pub form_begins_here : (slice : List ℕ) → slice ≡ own → BeginsWithForm functions w mode text x slice has.next
   form_begins_here slice same = record { start = has.start; stop = has.stop; reads = reads_here; is_own = same ∙ has.is_own }
 
   -- where they begin
@@ -189,7 +189,7 @@ module _ (functions : Functions) (w : WorldState) (mode : Mode) (pending : Pendi
   module _ {D R : Type 0} (state : D → State) (wanted : SessionOptions) (same_mode : wanted.mode ≡ mode) (course later : Course) (old new : StoreView D R) (a b : Option (List ℕ)) where
     -- the form was answered, and what follows it is left
     pub after_form : (refusals : List ℕ) → PassesForm functions state course later old new w wanted text a b has.start has.next refusals → (wanted.strict ≡ true → refusals ≡ [])
-        → GoesOn functions state wanted.strict course later old new w mode text a b pending (drop has.next text)
+        → SessionGoesOn functions state wanted.strict course later old new w mode text a b pending (drop has.next text)
     after_form refusals passes accepted =
         let far : Progress = passes.far in
         let far_is = subst (λ (m : Mode). after_forms functions 1 w m text ≡ Some far) same_mode passes.advances.far_is in
@@ -211,7 +211,7 @@ module _ (functions : Functions) (w : WorldState) (mode : Mode) (pending : Pendi
 -- ---- the form that ends the input
 
 module _ (functions : Functions) (w : WorldState) (mode : Mode) (text : List ℕ) (x : Object) (own : List ℕ) (last : IsLastForm functions w mode text x own) where
-  pub last_begins : (slice : List ℕ) → slice ≡ own → BeginsWith functions w mode text x slice (length text)
+  pub last_begins : (slice : List ℕ) → slice ≡ own → BeginsWithForm functions w mode text x slice (length text)
   last_begins slice same = record { start = last.start; stop = last.stop; reads = last.reads; is_own = same ∙ last.is_own }
 
   pub last_start : (slice : List ℕ) (same : slice ≡ own) → (last_begins slice same).start ≡ last.start

@@ -11,7 +11,7 @@ use Rattle.session_words.specs.declared.mode.Mode.{Mode}
 use Rattle.prevalence_store.specs.meaning.Acceptance.{setting_in}
 use Rattle.sessions.specs.declared.input.Fed.TheVariants.{Form}
 use Rattle.sessions.specs.declared.input.PlacedForm.{PlacedForm}
-use Rattle.sessions.specs.steps.Input.{Feeds, HasForm, IsPending}
+use Rattle.sessions.specs.steps.Input.{FeedsInput, HasForm, IsPending}
 use Rattle.sessions.proofs.Pendings.{kept_count}
 
 module _ (functions : Functions) (w : WorldState) (mode : Mode) (old new : Pending) (bytes front : List ℕ) (x : Object) (pending : IsPending functions w mode old bytes) where
@@ -61,8 +61,8 @@ module _ (functions : Functions) (w : WorldState) (mode : Mode) (old new : Pendi
 pub piece_read : (functions : Functions) (w : WorldState) (mode : Mode) (self new : Pending) (bytes piece : List ℕ) (k count size : ℕ) (o : Option PlacedForm) (f : PlacedForm)
     → o ≡ Some f → count ≡ k → size ≡ length f.own.items → IsPending functions w mode self (bytes ++ take k piece)
     → ((functions : Functions) (bytes : List ℕ) → IsPending functions w mode self bytes
-    → IfSome o (λ f. Feeds functions w mode new (bytes ++ take (length f.own.items) (take (length piece - count) (drop count piece))) (Form f false)))
-    → Feeds functions w mode new (bytes ++ take (count + size) piece) (Form f false)
+    → IfSome o (λ f. FeedsInput functions w mode new (bytes ++ take (length f.own.items) (take (length piece - count) (drop count piece))) (Form f false)))
+    → FeedsInput functions w mode new (bytes ++ take (count + size) piece) (Form f false)
 piece_read functions w mode self new bytes piece k count size o f is same size_is pending feeds =
     let rest = take (length f.own.items) (drop count piece) in
     let all : take (length piece - count) (drop count piece) ≡ drop count piece =
@@ -70,6 +70,6 @@ piece_read functions w mode self new bytes piece k count size o f is same size_i
     let whole : (bytes ++ take k piece) ++ take (length f.own.items) (take (length piece - count) (drop count piece)) ≡ bytes ++ take (count + size) piece =
     ap (λ t. (bytes ++ take k piece) ++ take (length f.own.items) t) all ∙ append_assoc bytes (take k piece) rest
     ∙ ap (λ t. bytes ++ t) (ap (λ n. take n piece ++ rest) (sym same) ∙ sym (take-add count (length f.own.items) piece) ∙ ap (λ n. take (count + n) piece) (sym size_is)) in
-    subst (λ (t : List ℕ). Feeds functions w mode new t (Form f false)) whole
-    (subst (λ (o : Option PlacedForm). IfSome o (λ f. Feeds functions w mode new ((bytes ++ take k piece) ++ take (length f.own.items) (take (length piece - count) (drop count piece))) (Form f false))) is
+    subst (λ (t : List ℕ). FeedsInput functions w mode new t (Form f false)) whole
+    (subst (λ (o : Option PlacedForm). IfSome o (λ f. FeedsInput functions w mode new ((bytes ++ take k piece) ++ take (length f.own.items) (take (length piece - count) (drop count piece))) (Form f false))) is
     (feeds functions (bytes ++ take k piece) pending))

@@ -12,7 +12,7 @@ use Rattle.sessions.specs.declared.ending.Ending.TheVariants.{End, Reader, Store
 use Rattle.prevalence_store.specs.meaning.Acceptance.{after, read_in}
 use Rattle.prevalence_store.specs.calls.Execute.{SurvivesAs}
 use Rattle.prevalence_store.specs.calls.Store.{LeavesAlone, StoreView, Describes}
-use Rattle.sessions.specs.Answers.{Progress, after_forms, first_progress, last_line, one_form, one_form_more, onward}
+use Rattle.sessions.specs.FormAnswers.{Progress, after_forms, first_progress, last_line, one_form, one_form_more, progress_onward}
 use Rattle.sessions.specs.Serve.{Advances, Ends, IsAfter, IsHalfExtended, IsHalfRenewed, Serves, contents_after, half_after}
 use Rattle.sessions.specs.Streams.{Writes}
 use Rattle.plist_state.specs.State.{WorldState}
@@ -21,20 +21,20 @@ use Rattle.prevalence_store.proofs.calls.LeftAlone.{alone_both}
 use Rattle.prevalence_store.proofs.Surviving.{after-append, both_survive}
 use Rattle.user_macros.specs.Functions.{Functions}
 
-onward_onward : (p q r : Progress) → onward (onward p q) r ≡ onward p (onward q r)
+onward_onward : (p q r : Progress) → progress_onward (progress_onward p q) r ≡ progress_onward p (progress_onward q r)
 onward_onward p q r =
     λ i. record { world = r.world; rest = r.rest; taken = append_assoc p.taken q.taken r.taken i; lines = append_assoc p.lines q.lines r.lines i; refused = append_assoc p.refused q.refused r.refused i }
 
-pub onward_begun : (p : Progress) → onward p (first_progress p.world p.rest) ≡ p
+pub onward_begun : (p : Progress) → progress_onward p (first_progress p.world p.rest) ≡ p
 onward_begun p =
     λ i. record { world = p.world; rest = p.rest; taken = append-nil p.taken i; lines = append-nil p.lines i; refused = append-nil p.refused i }
 
 -- one form more of the rest is one form more of the whole
-more_onward : (p q r : Progress) (one : Option Progress) → option_map (onward q) one ≡ Some r → option_map (onward (onward p q)) one ≡ Some (onward p r)
+more_onward : (p q r : Progress) (one : Option Progress) → option_map (progress_onward q) one ≡ Some r → option_map (progress_onward (progress_onward p q)) one ≡ Some (progress_onward p r)
 more_onward p q r None is = absurd (cc)
 more_onward p q r (Some s) is =
-    let same : onward q s ≡ r = cc in
-    ap (λ o. Some o) (onward_onward p q s ∙ ap (onward p) same)
+    let same : progress_onward q s ≡ r = cc in
+    ap (λ o. Some o) (onward_onward p q s ∙ ap (progress_onward p) same)
 
 pub writes_both : (a b c : Option (List ℕ)) (front back : List ℕ) → Writes a b front → Writes b c back → Writes a c (front ++ back)
 writes_both a b c front back first second = λ held is.
@@ -151,7 +151,7 @@ module _ (functions : Functions) {D R : Type 0} (state : D → State) (sound : (
 
 module _ (functions : Functions) {D R : Type 0} (state : D → State) (sound : (d : D) → IsHonest (state d) → IsSoundDisk (state d)) (old mid new : StoreView D R) (w : WorldState) (p : Progress)
     (first : IsAfter functions state old mid w p) (honest : (state mid.disk).honest ≡ (state old.disk).honest) where
-  pub after_both : (q : Progress) → IsAfter functions state mid new p.world q → IsAfter functions state old new w (onward p q)
+  pub after_both : (q : Progress) → IsAfter functions state mid new p.world q → IsAfter functions state old new w (progress_onward p q)
   after_both q second = record {
     left = second.left;
     records = after-append functions w p.world p.taken q.taken first.records ∙ second.records;
@@ -170,11 +170,11 @@ module _ (functions : Functions) where
 
   -- so many forms of the rest, after others
   pub forms_onward : (n m k : ℕ) (w : WorldState) (mode : Mode) (text : List ℕ) (p q : Progress) → k ≡ n + m
-      → after_forms functions m w mode text ≡ Some p → after_forms functions n p.world mode p.rest ≡ Some q → after_forms functions k w mode text ≡ Some (onward p q)
+      → after_forms functions m w mode text ≡ Some p → after_forms functions n p.world mode p.rest ≡ Some q → after_forms functions k w mode text ≡ Some (progress_onward p q)
   forms_onward zero m k w mode text p q is here there =
       let count : k ≡ m = omega arith in
       let start : first_progress p.world p.rest ≡ q = cc in
-      ap (λ j. after_forms functions j w mode text) count ∙ here ∙ ap (λ o. Some o) (sym (onward_begun p) ∙ ap (onward p) start)
+      ap (λ j. after_forms functions j w mode text) count ∙ here ∙ ap (λ o. Some o) (sym (onward_begun p) ∙ ap (progress_onward p) start)
   forms_onward (suc n) m zero w mode text p q is here there = absurd (omega arith)
   forms_onward (suc n) m (suc k) w mode text p q is here there =
       let last = step_back mode (after_forms functions n p.world mode p.rest) q there in
@@ -200,7 +200,7 @@ module _ (functions : Functions) where
     survive_with taken n k is second = subst (λ j. SurvivesAs functions state old new w (p.taken ++ taken) j) (sym is) (survive_both taken n second)
 
     -- some forms, and some more
-    pub advance_both : (n k : ℕ) (q : Progress) → k ≡ n + m → Advances functions state mid new p.world mode p.rest b c n q → Advances functions state old new w mode text a c k (onward p q)
+    pub advance_both : (n k : ℕ) (q : Progress) → k ≡ n + m → Advances functions state mid new p.world mode p.rest b c n q → Advances functions state old new w mode text a c k (progress_onward p q)
     advance_both n k q is second = record {
       far_is = forms_onward n m k w mode text p q is first.far_is second.far_is;
       lines = writes_both a b c p.lines q.lines first.lines second.lines;
@@ -210,7 +210,7 @@ module _ (functions : Functions) where
 
     pub ends_both : (forms : ℕ) (far : Progress) (lines : ℕ) (answered : Progress) (part : List ℕ) (group : Bool) (ending : Ending)
         → after_forms functions lines p.world mode p.rest ≡ Some answered → Ends functions state mid new p.world mode p.rest b c forms far lines answered part group ending
-        → Ends functions state old new w mode text a c (forms + m) (onward p far) (lines + m) (onward p answered) part group ending
+        → Ends functions state old new w mode text a c (forms + m) (progress_onward p far) (lines + m) (progress_onward p answered) part group ending
     ends_both forms far lines answered part group End answered_is ends = record {
       all = let all = ends.all in omega arith;
       no_part = ends.no_part;
@@ -287,7 +287,7 @@ module _ (functions : Functions) where
       in_form = λ some.
           let is = unwritten.in_form (omega arith) in
           let rest = is.2 in (
-            onward p is.0,
+            progress_onward p is.0,
             forms_onward (lines + 1) m ((lines + m) + 1) w mode text p is.0 (omega arith) first.far_is is.1,
             (
               rest.0,
@@ -309,10 +309,10 @@ module _ (functions : Functions) where
     unfoldable pub serve_both : (group : Bool) (ending : Ending) → Serves functions state mid new p.world mode p.rest b c group ending → Serves functions state old new w mode text a c group ending
     serve_both group ending second = record {
       forms = second.forms + m;
-      far = onward p second.far;
+      far = progress_onward p second.far;
       far_is = forms_onward second.forms m (second.forms + m) w mode text p second.far refl first.far_is second.far_is;
       lines = second.lines + m;
-      answered = onward p second.answered;
+      answered = progress_onward p second.answered;
       answered_is = forms_onward second.lines m (second.lines + m) w mode text p second.answered refl first.far_is second.answered_is;
       at_most = let at_most = second.at_most in omega arith;
       in_turn = λ none. let in_turn = second.in_turn none in omega arith;

@@ -23,7 +23,7 @@ use Rattle.prevalence_store.proofs.Surviving.{unchanged_survives}
 use Rattle.user_macros.specs.Functions.{Functions}
 use Rattle.prevalence_store.proofs.steps.Taking.{none_in, one_record, one_size, stored_one}
 use Rattle.prevalence_store.specs.steps.Failure.{is_device_failure}
-use Rattle.prevalence_store.specs.steps.Together.{IsMade, IsNotMade}
+use Rattle.prevalence_store.specs.steps.Together.{IsTurnLogged, IsTurnNotLogged}
 
 -- a form that was added to a batch of none
 alone : (begun new : Batch) (taken : List LogRecord) → IsEmpty begun → entries_in new ≡ entries_in begun ++ taken → entries_in new ≡ taken
@@ -165,7 +165,7 @@ module _ (functions : Functions) (mode : Mode) (own : List ℕ) (x : Object) (w 
     taken_of : (v : WorldState) (records : List LogRecord) (reply : Reply) (is : IsReplyToForm functions.names mode x own w v records reply) → records ≡ entries_to functions mode own is.answer
     taken_of v records reply is = sym is.added ∙ (reply_made functions mode w v own x is.none is.batch reply is.answer is.replies is.begins whole).0
 
-    pub reply_logged : (reply : Reply) → IsMade functions state old new w (λ left records. IsReplyToForm functions.names mode x own w left records reply) → TakesReply functions state old new mode own x reply
+    pub reply_logged : (reply : Reply) → IsTurnLogged functions state old new w (λ left records. IsReplyToForm functions.names mode x own w left records reply) → TakesReply functions state old new mode own x reply
     reply_logged reply made =
         let is = made.makes in
         reply_taken functions state sound old new mode own x w made.left known is.none is.batch reply is.answer is.replies
@@ -178,7 +178,7 @@ module _ (functions : Functions) (mode : Mode) (own : List ℕ) (x : Object) (w 
         reply_left functions state sound old new mode own x w v known is.none is.batch reply is.answer is.replies cause
         (subst (λ (es : List LogRecord). TakesBatch functions state old new w v es {T = Unit} (Err cause)) (taken_of v records reply is) took)
 
-    pub reply_unlogged : (cause : Unlogged) → IsNotMade functions state old new w (λ left records. (reply : Reply) × IsReplyToForm functions.names mode x own w left records reply) cause
+    pub reply_unlogged : (cause : Unlogged) → IsTurnNotLogged functions state old new w (λ left records. (reply : Reply) × IsReplyToForm functions.names mode x own w left records reply) cause
         → IsFormLeft functions state old new mode own x cause
     reply_unlogged unlogged.OutOfMemory unmade = takes_nothing functions state sound old new mode own x OutOfMemory refl (unmade.unchanged refl) (λ u is. tt)
     reply_unlogged unlogged.Full unmade =

@@ -8,7 +8,7 @@ use Rattle.prevalence_store.specs.calls.ExecuteAll.{MeansAllOrNone}
 use Rattle.prevalence_store.specs.calls.Store.{StoreView}
 use Rattle.session_words.specs.declared.mode.Mode.{Mode}
 use Rattle.prevalence_store.specs.meaning.Acceptance.{read_in}
-use Rattle.sessions.specs.Answers.{Progress, after_forms, last_line}
+use Rattle.sessions.specs.FormAnswers.{Progress, after_forms, last_line}
 use Rattle.user_macros.specs.Functions.{Functions}
 
 -- How the session began: its world, the mode in which it reads, and what its reader had, if that is told. And how it was when lines were
@@ -21,11 +21,11 @@ pub record Account (D : Type 0) : Type 0 where
   pub now : WorldState
   pub disk : D
 
--- as a session begins
+-- the account as a session begins: no line was handed on
 abbrev pub first_account : {D : Type 0} → WorldState → Mode → Option (List ℕ) → D → Account D
 first_account world mode input disk = record { first = world; mode = mode; input = input; forms = 0; now = world; disk = disk }
 
--- after the lines of so many forms more, with the store as it is then
+-- the account after the lines of so many forms more, with the store as it is then
 abbrev pub with_forms : {D R : Type 0} → ℕ → StoreView D R → Account D → Account D
 with_forms forms store account = record {
   first = account.first;

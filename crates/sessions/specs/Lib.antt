@@ -1,5 +1,5 @@
 -- what comes of forms, one after the other
-pub mod Answers
+pub mod FormAnswers
 -- how a session goes: its streams, when it takes snapshots, and how it ends
 pub mod Streams
 pub mod Pace

@@ -10,7 +10,7 @@ use Rattle.sessions.specs.declared.ending.Ending.{Ending}
 use Rattle.sessions.specs.declared.ending.Ending.TheVariants.{End, Reader, Store}
 use Rattle.prevalence_store.specs.meaning.Acceptance.{after, read_in}
 use Rattle.user_macros.specs.Functions.{Functions}
-use Rattle.sessions.specs.Answers.{Progress, one_form}
+use Rattle.sessions.specs.FormAnswers.{Progress, one_form}
 use Rattle.prevalence_store.specs.calls.Store.{StoreView}
 use Rattle.prevalence_store.specs.calls.Snapshot.{IsTooLargeFor}
 
@@ -21,11 +21,12 @@ pub record Pace : Type 0 where
   pub left : ℕ
   pub ratio : ℕ
 
--- as a session begins
+-- the pace as a session begins
 abbrev pub first_pace : (every ratio : ℕ) → Pace
 first_pace every ratio = record { every = every; left = every; ratio = ratio }
 
--- that form was counted
+-- A form that was logged was counted: one fewer is left until the next snapshot. Where it was the last one, the count begins
+-- anew.
 pub record CountsLoggedForm (pace later : Pace) : Type 0 where
   pub every : later.every ≡ pace.every
   pub ratio : later.ratio ≡ pace.ratio
@@ -43,7 +44,7 @@ pub record Fill : Type 0 where
 abbrev pub fill_of : {D R : Type 0} → StoreView D R → Fill
 fill_of store = record { generation = store.generation; record_count = store.record_count; size = store.size; first_size = store.first_size }
 
--- it has at least 1 MiB, and so many times the bytes that it had before its first record
+-- the half has at least 1 MiB, and so many times the bytes that it had before its first record; never, if that is 0 times
 abbrev pub HasHalfGrown : ℕ → (size first_size : ℕ) → Type 0
 HasHalfGrown ratio size first_size = (0 < ratio) × (1048576 ≤ size) × (ratio * first_size ≤ size)
 
@@ -55,11 +56,11 @@ IsDueByCount pace = (pace.left ≤ 1) × (0 < pace.every)
 abbrev pub IsDue : Pace → Fill → Type 0
 IsDue pace fill = IsDueByCount pace ⊎ HasHalfGrown pace.ratio fill.size fill.first_size
 
--- with a record more
+-- what the half in use has with one record more
 abbrev pub fill_with_record : LogRecord → Fill → Fill
 fill_with_record entry fill = record { generation = fill.generation; record_count = fill.record_count + 1; size = fill.size + (6 + length entry.text); first_size = fill.first_size }
 
--- the next half, with the text of this world
+-- what the half in use has after a snapshot: the next generation, the text of this world, and no record
 abbrev pub fill_of_new_half : WorldState → Fill → Fill
 fill_of_new_half world fill = record { generation = fill.generation + 1; record_count = 0; size = 16 + length (snapshot world); first_size = 16 + length (snapshot world) }
 
@@ -97,18 +98,18 @@ module _ (functions : Functions) (limit : ℕ) where
     pub followed : IsFillAfterForm limit pace given logged now
 
   -- Forms with these records, from this world on, each with what follows it. A form that leaves no record changes nothing of it.
-  abbrev pub Paces : WorldState → List LogRecord → (pace later : Pace) (fill now : Fill) → Type 0
-  Paces world [] pace later fill now = (later ≡ pace) × (now ≡ fill)
-  Paces world (entry ∷ entries) pace later fill now =
+  abbrev pub PacesForms : WorldState → List LogRecord → (pace later : Pace) (fill now : Fill) → Type 0
+  PacesForms world [] pace later fill now = (later ≡ pace) × (now ≡ fill)
+  PacesForms world (entry ∷ entries) pace later fill now =
       (given : WorldState) × (counted : Pace) × (next : Fill)
-      × PacesOne world given entry pace counted fill next × Paces given entries counted later next now
+      × PacesOne world given entry pace counted fill next × PacesForms given entries counted later next now
 
   -- ---- how far the snapshots have come as a session ends, which began in this world
 
   module _ (world : WorldState) (pace : Pace) (fill : Fill) where
     -- all of these forms were logged, each with what follows it
     abbrev pub IsFillAfterForms : List LogRecord → Fill → Type 0
-    IsFillAfterForms taken now = (later : Pace) × Paces world taken pace later fill now
+    IsFillAfterForms taken now = (later : Pace) × PacesForms world taken pace later fill now
 
     -- the last of them was logged, and what follows it is not there
     pub record IsFillAfterRecord (taken : List LogRecord) (now : Fill) : Type 0 where
@@ -119,14 +120,14 @@ module _ (functions : Functions) (limit : ℕ) where
       pub first_is : after functions world earlier ≡ Some first
       pub later : Pace
       pub before : Fill
-      pub paced : Paces world earlier pace later fill before
+      pub paced : PacesForms world earlier pace later fill before
       pub logs : LogsWithRoom limit first last before now
 
     -- after them the half had no room for the next form, and a snapshot was taken
     pub record HasMadeRoom (mode : Mode) (far : Progress) (now : Fill) : Type 0 where
       pub later : Pace
       pub before : Fill
-      pub paced : Paces world far.taken pace later fill before
+      pub paced : PacesForms world far.taken pace later fill before
       pub next : IsOverIn functions limit before.size far.world mode far.rest
       pub begun : now ≡ fill_of_new_half far.world before
 

@@ -24,8 +24,8 @@ use Rattle.lisp_reading.specs.Deciding.{decided_from}
 use Rattle.prevalence_store.specs.calls.Execute.{DeviceFails, SurvivesAs}
 use Rattle.prevalence_store.specs.calls.ExecuteAll.{AllOrNone}
 use Rattle.prevalence_store.specs.calls.Store.{LeavesAlone, StoreView, Describes}
-use Rattle.sessions.specs.Answers.{Progress, after_forms, last_line, refusal_line}
-use Rattle.sessions.specs.Pace.{EndsInPace, IsOverIn, Pace, Paces, fill_of, first_pace}
+use Rattle.sessions.specs.FormAnswers.{Progress, after_forms, last_line, refusal_line}
+use Rattle.sessions.specs.Pace.{EndsInPace, IsOverIn, Pace, PacesForms, fill_of, first_pace}
 use Rattle.lisp_object.specs.Object.{Object}
 use Rattle.form_reader.specs.Reader.{MayGoOn}
 use Rattle.lisp_reading.specs.Reading.{form, empty, is_whitespace, refused}
@@ -319,7 +319,7 @@ module _ (functions : Functions) {D R : Type 0} (state : D → State) (old new :
     pub far : Progress
     pub advances : Advances functions state old new world mode text held written forms far
     pub later : Pace
-    pub paced : Paces functions old.limit world far.taken pace later (fill_of old) (fill_of new)
+    pub paced : PacesForms functions old.limit world far.taken pace later (fill_of old) (fill_of new)
     pub accepted : ℕ
     pub one_more : forms ≡ accepted + 1
     pub before : Progress

@@ -9,7 +9,7 @@ ghost use Rattle.plist_state.specs.State.{WorldState, Worlds};
 ghost use Rattle.sessions.specs.Account.{Account, AreStored, with_forms};
 ghost use Rattle.sessions.specs.Streams.{Writes, WritesPart};
 ghost use Rattle.sessions.specs.steps.Forms.{Failure};
-ghost use Rattle.sessions.specs.steps.Answer.{AnswersFault, AnswersForm, AnswersRead, BeginsWith, FitsForm, IsFormOf, IsReplyTo, MayBeHeard, TriesForm, refusal_that_ends, was_logged};
+ghost use Rattle.sessions.specs.steps.Answer.{AnswersFault, AnswersForm, AnswersRead, BeginsWithForm, FitsForm, IsFormOf, IsReplyTo, MayBeHeard, TriesForm, refusal_that_ends, was_logged};
 ghost use Rattle.prevalence_store.specs.steps.Batch.{IsWorldMarked};
 ghost use Rattle.sessions.specs.steps.Course.{course_of};
 ghost use Rattle.sessions.specs.steps.Schedule.{pace_of};
@@ -116,7 +116,7 @@ pub(crate) fn answer_read<D: Disk, R: MacroFunctions, W: Recipient<D, R>>(
 
     // What became of it, and what the recipient was handed.
     ensures answers { (w : WorldState) → store.old.world ≡ Some w → (text : List ℕ) (next : ℕ)
-        → (begins : BeginsWith R.Meaning.functions w wanted.mode text (object_of form.now.read.datum) form.now.own.items next)
+        → (begins : BeginsWithForm R.Meaning.functions w wanted.mode text (object_of form.now.read.datum) form.now.own.items next)
         → begins.start ≡ form.now.start
         → AnswersRead R.Meaning.functions D.state (course_of course.old) (course_of course.new) store.old store.new w wanted
         text (W.contents writer.old) (W.contents writer.new) form.now.start form.now.next result }
@@ -164,7 +164,7 @@ pub(crate) fn answer_form<D: Disk, R: MacroFunctions, W: Recipient<D, R>>(
     requires stands { StandsAtForm R.Meaning.functions D.state (W.account writer.old) store.old
         mode (object_of form.now.read.now.datum) form.now.own.now }
     ensures answers { (w : WorldState) → store.old.world ≡ Some w → (text : List ℕ) (next : ℕ)
-        → BeginsWith R.Meaning.functions w mode text (object_of form.now.read.now.datum) form.now.own.now next
+        → BeginsWithForm R.Meaning.functions w mode text (object_of form.now.read.now.datum) form.now.own.now next
         → AnswersForm R.Meaning.functions D.state store.old store.new w mode (pace_of schedule.old) (pace_of schedule.new)
         text (W.contents writer.old) (W.contents writer.new) result }
     ensures hands { OnOk result
@@ -196,7 +196,7 @@ fn fit_form<D: Disk, R: MacroFunctions, W: Recipient<D, R>>(
     requires stands { StandsAtForm R.Meaning.functions D.state (W.account writer.old) store.old
         mode (object_of form.now.read.now.datum) form.now.own.now }
     ensures fits { (w : WorldState) → store.old.world ≡ Some w → (text : List ℕ) (next : ℕ)
-        → BeginsWith R.Meaning.functions w mode text (object_of form.now.read.now.datum) form.now.own.now next
+        → BeginsWithForm R.Meaning.functions w mode text (object_of form.now.read.now.datum) form.now.own.now next
         → FitsForm R.Meaning.functions D.state store.old store.new w mode
         text (W.contents writer.old) (W.contents writer.new) result }
     ensures is_open { OnOk result (IsSome store.new.world) }
@@ -237,7 +237,7 @@ fn try_form<D: Disk, R: MacroFunctions, W: Recipient<D, R>>(
 
     // What became of it: with 64 nothing was done.
     ensures tries { (w : WorldState) → store.old.world ≡ Some w → (text : List ℕ) (next : ℕ)
-        → BeginsWith R.Meaning.functions w mode text (object_of form.now.read.now.datum) form.now.own.now next
+        → BeginsWithForm R.Meaning.functions w mode text (object_of form.now.read.now.datum) form.now.own.now next
         → TriesForm R.Meaning.functions D.state store.old store.new w mode
         text (W.contents writer.old) (W.contents writer.new) result }
     ensures unchanged { IfErr result (λ number. number ≡ LOG_FULL → store.new ≡ store.old) }

@@ -4,7 +4,7 @@ ghost use Rattle.plist_state.specs.State.{WorldState};
 ghost use Rattle.form_reader.specs.Reader.{fed, begun, limits_of, HasBegunAfter, IsAfterBytes, Steps, StepsBegun, BeginsLater, RefusesFrom, IsOutcome, IsSoundStep};
 ghost use Rattle.prevalence_store.specs.meaning.Acceptance.{between, form_limits, read_in, setting_in, table_in};
 ghost use Rattle.user_macros.specs.Functions.{Functions};
-ghost use Rattle.sessions.specs.steps.Input.{AreAllThere, IsPending, IsSoundFed, PlacesAreWithin, Feeds, FinishesInput, FeedsPart};
+ghost use Rattle.sessions.specs.steps.Input.{AreAllThere, IsPending, IsSoundFed, PlacesAreWithin, FeedsInput, FinishesInput, FeedsPart};
 
 use form_eval::ReadForm;
 use form_reader::{Advance, FormReader, Limits, ReadOutcome};
@@ -15,7 +15,10 @@ use session_words::Mode;
 use std::alloc::{AllocError, Global};
 use user_macros::MacroFunctions;
 
+mod found;
 mod plain;
+
+pub(crate) use found::FoundLine;
 
 /// What was read and is not answered yet: a reader that was fed it, and the bytes since what the reader has open began.
 #[derive(Drop)]
@@ -95,7 +98,7 @@ impl Pending {
         requires count { fed self.old.reader + length piece.now ≤ 2 ^ 63 }
         ensures feeds { (bytes : List ℕ)
             → IsPending R.Meaning.functions world.now.0 mode self.old bytes
-            → IfOk result (λ part. Feeds R.Meaning.functions world.now.0 mode self.new
+            → IfOk result (λ part. FeedsInput R.Meaning.functions world.now.0 mode self.new
             (bytes ++ take part.count piece.now) part.fed) }
         ensures part { IfOk result (FeedsPart piece.now (fed self.old.reader) (fed self.new.reader)) }
         ensures all_there { IfOk result (λ part. AreAllThere world.now.0 part.fed) }
@@ -139,7 +142,7 @@ impl Pending {
         requires count { fed self.old.reader < 2 ^ 63 }
         ensures feeds { (bytes : List ℕ)
             → IsPending R.Meaning.functions world.now.0 mode self.old bytes
-            → IfOk result (Feeds R.Meaning.functions world.now.0 mode self.new
+            → IfOk result (FeedsInput R.Meaning.functions world.now.0 mode self.new
             (bytes ++ byte ∷ [])) }
         ensures sound { IfOk result IsSoundFed }
         ensures all_there { IfOk result (AreAllThere world.now.0) }

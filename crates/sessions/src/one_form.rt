@@ -48,7 +48,7 @@ impl<R: MacroFunctions> Turn<R> for OneForm<'_> {
 }
 
 /// Evaluates a form that was read, makes the line that answers it, and then logs its text if it wrote. So there is room for
-/// the line before there is a record.
+/// the line before there is a record. After an error that is no device fault the store is as it was.
 pub(crate) fn take_reply<D: Disk, R: MacroFunctions>(
     store: &mut Store<D, R>,
     mode: Mode,

@@ -2,7 +2,7 @@
 ghost use Rattle.std.specs.Prelude.{◌≡◌, ◌↔◌, ◌<◌, ◌≤◌, ◌+◌, ◌-◌, ◌^◌, ℕ, None, Some, IfSome, IsSome, IsTrue};
 ghost use Rattle.plist_state.specs.State.{WorldState};
 ghost use Rattle.sessions.specs.Pace.{CountsLoggedForm, HasHalfGrown, IsDueByCount, fill_of, first_pace};
-ghost use Rattle.sessions.specs.steps.Schedule.{CountsAll, IsBeforeDue, IsBeforeGrown, Renewing, RenewsAfterForm, pace_of};
+ghost use Rattle.sessions.specs.steps.Schedule.{CountsAll, IsBeforeDue, IsBeforeGrown, RenewsOrIsRefused, RenewsAfterForm, pace_of};
 
 use disk_trait::Disk;
 use lisp_object::refusal::SNAPSHOT_TOO_LARGE;
@@ -178,7 +178,7 @@ pub(crate) fn renew<D: Disk, R: MacroFunctions>(
 ) -> Result<(), u16>
     requires is_open { IsSome store.old.world }
     ensures renews { (w : WorldState) → store.old.world ≡ Some w
-        → Renewing R.Meaning.functions D.state store.old store.new w result }
+        → RenewsOrIsRefused R.Meaning.functions D.state store.old store.new w result }
     ensures honest { (D.state store.new.disk).honest ≡ (D.state store.old.disk).honest }
 {
     match store.snapshot() {

@@ -8,7 +8,7 @@ ghost use Rattle.form_reader.specs.Reader.{fed};
 ghost use Rattle.sessions.specs.Account.{Account, AreUnderWay, first_account};
 ghost use Rattle.sessions.specs.Pace.{first_pace};
 ghost use Rattle.sessions.specs.Serve.{ServesInput, ServesWanted};
-ghost use Rattle.sessions.specs.steps.Input.{AreAllThere, AwaitsMore, IsPending, IsSoundFed, PlacesAreWithin, Feeds, FeedsPart, FinishesInput};
+ghost use Rattle.sessions.specs.steps.Input.{AreAllThere, AwaitsMore, IsPending, IsSoundFed, PlacesAreWithin, FeedsInput, FeedsPart, FinishesInput};
 ghost use Rattle.sessions.specs.steps.Course.{course_of};
 ghost use Rattle.sessions.specs.steps.Serve.{AnswersPiece, PieceComesTo, EndsAt, PassesBytes};
 ghost use Rattle.sessions.specs.steps.Standing.{AcknowledgesNone, HandsOn, StandsAtEnd, StandsInPiece};
@@ -16,6 +16,7 @@ ghost use Rattle.sessions.specs.steps.Standing.{AcknowledgesNone, HandsOn, Stand
 use crate::answer::{answer_fault, answer_read};
 use crate::course::Course;
 use crate::ending::{Ended, Ending};
+use crate::found::answer_first;
 use crate::group::{Grouped, answer_group};
 use crate::input::{Fed, FedPiece, Pending};
 use crate::open_world::open_world;
@@ -147,7 +148,7 @@ pub fn serve_wanted<D: Disk, R: MacroFunctions, I: Read, W: Recipient<D, R>>(
     Ended::Store(INPUT)
 }
 
-// Answers what these bytes decide, with those that are pending.
+// Answers what these bytes decide, with those that are pending. None if the session goes on; else it has ended so.
 fn answer_piece<D: Disk, R: MacroFunctions, W: Recipient<D, R>>(
     store: &mut Store<D, R>,
     pending: &mut Pending,
@@ -183,7 +184,7 @@ fn answer_piece<D: Disk, R: MacroFunctions, W: Recipient<D, R>>(
 {
     let mut rest = piece;
     'forms: while !rest.is_empty() {
-        match answer_next(store, pending, writer, wanted, course, rest) {
+        match answer_first(store, pending, writer, wanted, course, rest) {
             Ok(count) => rest = &rest[count..],
             Err(ended) => return Some(ended),
         }
@@ -193,7 +194,7 @@ fn answer_piece<D: Disk, R: MacroFunctions, W: Recipient<D, R>>(
 
 // Feeds a piece up to the first byte that decides something, and answers the form that it ends. Gives how many bytes of the
 // piece are done with, or how the session has ended.
-fn answer_next<D: Disk, R: MacroFunctions, W: Recipient<D, R>>(
+pub(crate) fn answer_next<D: Disk, R: MacroFunctions, W: Recipient<D, R>>(
     store: &mut Store<D, R>,
     pending: &mut Pending,
     writer: &mut W,
@@ -267,7 +268,7 @@ fn feed<D: Disk, R: MacroFunctions>(
     requires count { fed pending.old.reader + length piece.now ≤ 2 ^ 63 }
     ensures feeds { (w : WorldState) → store.now.world ≡ Some w → (bytes : List ℕ)
         → IsPending R.Meaning.functions w mode pending.old bytes
-        → IfOk result (λ part. Feeds R.Meaning.functions w mode pending.new
+        → IfOk result (λ part. FeedsInput R.Meaning.functions w mode pending.new
         (bytes ++ take part.count piece.now) part.fed) }
     ensures part { IfOk result
         (FeedsPart piece.now (fed pending.old.reader) (fed pending.new.reader)) }

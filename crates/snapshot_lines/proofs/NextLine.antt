@@ -10,7 +10,7 @@ use Rattle.lisp_object.specs.declared.datum.Datum.{Datum}
 use Rattle.lisp_object.specs.Object.{Object}
 use Rattle.snapshot_lines.specs.declared.error.BuildError.{BuildError}
 use Rattle.snapshot_lines.specs.declared.error.BuildError.TheVariants.{OutOfMemory}
-use Rattle.snapshot_lines.specs.Lines.{IsNext}
+use Rattle.snapshot_lines.specs.Lines.{IsReadNext}
 
 pub rest_is : (bytes : List ℕ) (at : ℕ) → at ≤ length bytes → slice_range bytes at (length bytes) ≡ drop at bytes
 rest_is bytes at h = sym (drop_split bytes at (length bytes) h ∙ ap (λ xs. slice_range bytes at (length bytes) ++ xs) (drop-length bytes) ∙ append-nil (slice_range bytes at (length bytes)))
@@ -57,6 +57,6 @@ text_fits bytes text rest at fits e =
 pub line_fits : (bytes text rest : List ℕ) (at : ℕ) → length bytes ≤ 4294967295 → drop at bytes ≡ (text ++ 10 ∷ []) ++ rest → length text ≤ 4294967295
 line_fits bytes text rest at fits e = text_fits bytes text (10 ∷ rest) at fits (e ∙ append_assoc text (10 ∷ []) rest)
 
-pub next_refused : (x : Object) (bytes rest : List ℕ) (e : BuildError) → e ≡ OutOfMemory → (r : Result (Datum × ℕ) BuildError) → IsErrAnd r (λ b. b ≡ e) → IsNext x bytes rest r
+pub next_refused : (x : Object) (bytes rest : List ℕ) (e : BuildError) → e ≡ OutOfMemory → (r : Result (Datum × ℕ) BuildError) → IsErrAnd r (λ b. b ≡ e) → IsReadNext x bytes rest r
 next_refused x bytes rest e is (Ok read) err = absurd err
 next_refused x bytes rest e is (Err b) err = err ∙ is

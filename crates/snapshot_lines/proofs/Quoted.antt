@@ -9,7 +9,7 @@ use Rattle.canon_printer.specs.Names.{with_backslashes}
 use Rattle.canon_printer.specs.Written.{is_escaped_in_text, printed_text}
 use Rattle.snapshot_lines.specs.declared.texts.Coming.{Coming}
 use Rattle.snapshot_lines.specs.declared.texts.Coming.TheVariants.{Item, End}
-use Rattle.snapshot_lines.specs.Texts.{unescaped, unescaped_first, items_rest, pair_text, IsAtItems, IsNextItem}
+use Rattle.snapshot_lines.specs.QuotedTexts.{unescaped, unescaped_first, items_rest, pair_text, IsAtItems, IsNextItem}
 
 -- ---- what is left of a text
 

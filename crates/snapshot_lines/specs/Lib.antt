@@ -1,4 +1,4 @@
-pub mod Answers
+pub mod PartAnswers
 pub mod Lines
 pub mod BuildRefusals
-pub mod Texts
+pub mod QuotedTexts

@@ -21,7 +21,7 @@ abbrev pub IsReadFirst : Object → ℕ → Result (Datum × ℕ) BuildError →
 IsReadFirst x end (Ok read) = (object_of read.0 ≡ x) × (is_proper read.0 ≡ true) × (read.1 ≡ end)
 IsReadFirst x end (Err e) = e ≡ OutOfMemory
 
--- The same of an object within a text, and of what follows it.
-abbrev pub IsNext : Object → List ℕ → List ℕ → Result (Datum × ℕ) BuildError → Type 0
-IsNext x bytes rest (Ok read) = (object_of read.0 ≡ x) × (is_proper read.0 ≡ true) × (drop read.1 bytes ≡ rest)
-IsNext x bytes rest (Err e) = e ≡ OutOfMemory
+-- What was read at the front of the first bytes is this object, and the other bytes follow it; or memory ran out.
+abbrev pub IsReadNext : Object → List ℕ → List ℕ → Result (Datum × ℕ) BuildError → Type 0
+IsReadNext x bytes rest (Ok read) = (object_of read.0 ≡ x) × (is_proper read.0 ≡ true) × (drop read.1 bytes ≡ rest)
+IsReadNext x bytes rest (Err e) = e ≡ OutOfMemory

@@ -5,7 +5,7 @@
 //! that of a line, and where the next line begins (`IsNext`). snapshot_text makes the world of them.
 //!
 //! The line of packages has as many texts as the world has symbols. They are no objects here: `texts_in` and its like give where
-//! each is written, and `text_of` and `name_of` what it is (specs/Texts.antt).
+//! each is written, and `text_of` and `name_of` what it is (specs/QuotedTexts.antt).
 //!
 //! - `lines`: `object_at`, `next_object`; `source`: what they read from; `texts`: texts and lists of them; `error`: why no world is
 //!   built

@@ -5,7 +5,7 @@ ghost use Rattle.readtable_core.specs.Tables.{standard};
 ghost use Rattle.package_table.specs.Table.{Table};
 ghost use Rattle.lisp_reading.specs.Reading.{form, reads};
 ghost use Rattle.world_text.specs.Lines.{IsLineRead};
-ghost use Rattle.snapshot_lines.specs.Lines.{IsReadFirst, IsNext, line_setting};
+ghost use Rattle.snapshot_lines.specs.Lines.{IsReadFirst, IsReadNext, line_setting};
 ghost use Rattle.world_text.specs.Snapshot.{snapshot_line};
 
 use crate::error::BuildError;
@@ -63,7 +63,7 @@ pub fn object_at<R: MacroFunctions>(
         (x : Object) (text rest : List ℕ) (next : ℕ) → length source.now.bytes.now ≤ 4294967295
         → drop at source.now.bytes.now ≡ text ++ rest → 0 < length rest
         → reads setting (text ++ rest) ≡ form x 0 (length text) next
-        → IsNext x source.now.bytes.now rest result }
+        → IsReadNext x source.now.bytes.now rest result }
     ensures on { IfOk result (λ read. at ≤ read.1) }
 {
     let Some(rest) = source.bytes.get(at..) else {
@@ -84,7 +84,7 @@ pub fn next_object<R: MacroFunctions>(
     ensures { let setting = line_setting world.now.0 (R.functions source.now.macros.now) in
         (packages : Table) (x : Object) (rest : List ℕ) → length source.now.bytes.now ≤ 4294967295
         → drop at source.now.bytes.now ≡ snapshot_line packages x ++ rest
-        → IsLineRead setting packages x rest → IsNext x source.now.bytes.now rest result }
+        → IsLineRead setting packages x rest → IsReadNext x source.now.bytes.now rest result }
 {
     let (datum, end) = object_at(source, world, at)?;
     Ok((datum, end.saturating_add(1)))

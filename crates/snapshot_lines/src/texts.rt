@@ -5,8 +5,8 @@ ghost use Rattle.std.specs.List.{list_all};
 ghost use Rattle.lisp_object.specs.Ascii.{is_ascii};
 ghost use Rattle.canon_printer.specs.Written.{printed_text};
 ghost use Rattle.package_table.specs.Table.{Name};
-ghost use Rattle.snapshot_lines.specs.Texts.{unescaped, unescaped_pair, texts_text, pair_text, pairs_text, IsAtItems, IsNextItem, LeavesLess};
-ghost use Rattle.snapshot_lines.specs.Answers.{IsOfMade, Succeeds};
+ghost use Rattle.snapshot_lines.specs.QuotedTexts.{unescaped, unescaped_pair, texts_text, pair_text, pairs_text, IsAtItems, IsNextItem, LeavesFewerBytes};
+ghost use Rattle.snapshot_lines.specs.PartAnswers.{IsOfMade, SucceedsWith};
 
 use crate::error::BuildError;
 use lisp_object::Bytes;
@@ -24,7 +24,7 @@ pub enum Coming<'a> {
 /// What stands after this byte. `Damaged` where another byte stands there, or none.
 pub fn after_byte(bytes: &[u8], byte: u8) -> Result<&[u8], BuildError>
     ensures after { (after : List ℕ) → bytes.now ≡ byte ∷ after
-        → Succeeds result (λ rest. rest.now ≡ after) }
+        → SucceedsWith result (λ rest. rest.now ≡ after) }
     ensures shorter { IfOk result (λ rest. length rest.now < length bytes.now) }
 {
     match bytes {
@@ -36,8 +36,8 @@ pub fn after_byte(bytes: &[u8], byte: u8) -> Result<&[u8], BuildError>
 /// What comes next, where a list begins or after one of its items. `Damaged` where it is none of these.
 pub fn coming_item(bytes: &[u8]) -> Result<Coming<'_>, BuildError>
     ensures item { (items : List (List ℕ)) (after : List ℕ) → IsAtItems items after bytes.now
-        → Succeeds result (IsNextItem items after) }
-    ensures shorter { IfOk result (LeavesLess bytes.now) }
+        → SucceedsWith result (IsNextItem items after) }
+    ensures shorter { IfOk result (LeavesFewerBytes bytes.now) }
 {
     let [first, rest @ ..] = bytes else {
         return Err(BuildError::Damaged);
@@ -58,7 +58,7 @@ pub fn coming_item(bytes: &[u8]) -> Result<Coming<'_>, BuildError>
 /// begins it, or none ends it.
 pub fn written_text(bytes: &[u8]) -> Result<(&[u8], &[u8]), BuildError>
     ensures text { (name after : List ℕ) → bytes.now ≡ printed_text name ++ after
-        → Succeeds result (λ read. (unescaped read.0.now ≡ name) × (read.1.now ≡ after)) }
+        → SucceedsWith result (λ read. (unescaped read.0.now ≡ name) × (read.1.now ≡ after)) }
     ensures shorter { IfOk result (λ read. length read.1.now < length bytes.now) }
 {
     let text = after_byte(bytes, b'"')?;
@@ -142,7 +142,7 @@ pub fn texts_in(alloc: Global, bytes: &[u8]) -> Result<(Vec<&[u8]>, &[u8]), Buil
 // The two texts of the list that begins here, and what stands after it.
 fn pair_in(bytes: &[u8]) -> Result<((&[u8], &[u8]), &[u8]), BuildError>
     ensures pair { (pair : Name × Name) (after : List ℕ) → bytes.now ≡ pair_text pair ++ after
-        → Succeeds result (λ read. (unescaped_pair read.0 ≡ pair) × (read.1.now ≡ after)) }
+        → SucceedsWith result (λ read. (unescaped_pair read.0 ≡ pair) × (read.1.now ≡ after)) }
     ensures shorter { IfOk result (λ read. length read.1.now < length bytes.now) }
 {
     let (first, rest) = written_text(after_byte(bytes, b'(')?)?;

@@ -11,7 +11,7 @@ use Rattle.package_table.proofs.Frames.{name_cases}
 use Rattle.package_table.proofs.KeptSound.{used_is_package}
 use Rattle.package_table.proofs.Names.{same_some}
 use Rattle.snapshot_text.specs.declared.package_parts.PackageParts.{PackageParts}
-use Rattle.snapshot_text.specs.Phases.{HasOwn, HasSymbols, HasExternals, HasUses, HasItsPackages, IsRowOf, AreRowsOf, Everywhere, other_packages}
+use Rattle.snapshot_text.specs.Phases.{HasOwn, HasSymbols, HasExternals, HasUses, HasItsPackages, IsRowOf, AreRowsOf, InEachPackage, other_packages}
 use Rattle.snapshot_text.proofs.PackageLists.{others_are, other_among}
 use Rattle.snapshot_text.proofs.PartFinds.{present_entry, present_package}
 use Rattle.snapshot_text.proofs.PartSame.{same_parts}
@@ -32,7 +32,7 @@ module _ (t s : Table) (sound_t : AreSoundPackages t) (sound_s : AreSoundPackage
   lisp_own : HasOwn t s common_lisp
   lisp_own = record { there = ap is_some sound_t.first.fixed; names = λ n there. lisp_symbols.names n common_lisp there }
 
-pub everywhere : (s : Table) (P : Name → Type 0) → P common_lisp → All P (other_packages s) → Everywhere s P
+pub everywhere : (s : Table) (P : Name → Type 0) → P common_lisp → All P (other_packages s) → InEachPackage s P
 everywhere s P lisp all = λ p there.
     elim (name_cases p common_lisp) [
       | inl same ↦ subst P (sym same) lisp
@@ -40,16 +40,16 @@ everywhere s P lisp all = λ p there.
     ]
 
 module _ (t s : Table) (sound_t : AreSoundPackages t) (sound_s : AreSoundPackages s) where
-  pub own_everywhere : All (HasOwn t s) (other_packages s) → Everywhere s (HasOwn t s)
+  pub own_everywhere : All (HasOwn t s) (other_packages s) → InEachPackage s (HasOwn t s)
   own_everywhere all = everywhere s (HasOwn t s) (lisp_own t s sound_t sound_s) all
 
-  pub symbols_everywhere : All (HasSymbols t s) (other_packages s) → Everywhere s (HasSymbols t s)
+  pub symbols_everywhere : All (HasSymbols t s) (other_packages s) → InEachPackage s (HasSymbols t s)
   symbols_everywhere all = everywhere s (HasSymbols t s) (lisp_symbols t s sound_t sound_s) all
 
-  pub externals_everywhere : All (HasExternals t s) (other_packages s) → Everywhere s (HasExternals t s)
+  pub externals_everywhere : All (HasExternals t s) (other_packages s) → InEachPackage s (HasExternals t s)
   externals_everywhere all = everywhere s (HasExternals t s) (lisp_externals t s sound_t sound_s) all
 
-  pub uses_everywhere : All (HasUses t s) (other_packages s) → Everywhere s (HasUses t s)
+  pub uses_everywhere : All (HasUses t s) (other_packages s) → InEachPackage s (HasUses t s)
   uses_everywhere all = everywhere s (HasUses t s) (lisp_uses t s sound_t sound_s) all
 
 -- ---- the row at an index
@@ -75,7 +75,7 @@ row_at s rows i row are lt at =
 
 -- ---- at the end
 
-pub same_packages : (t s : Table) → HasItsPackages t s → Everywhere s (HasSymbols t s) → Everywhere s (HasExternals t s) → Everywhere s (HasUses t s) → t ≡ s
+pub same_packages : (t s : Table) → HasItsPackages t s → InEachPackage s (HasSymbols t s) → InEachPackage s (HasExternals t s) → InEachPackage s (HasUses t s) → t ≡ s
 same_packages t s begun symbols externals uses = same_parts t s begun.part (record {
   packages = λ p there. (begun.own p there).there;
   symbols = λ p n e at.

@@ -8,9 +8,9 @@ use Rattle.package_table.specs.Readers.{used_names, imports}
 use Rattle.canon_printer.specs.Written.{written_rest, printed_text}
 use Rattle.canon_printer.specs.Printed.{printed_prefix}
 use Rattle.world_text.specs.Snapshot.{made_names, shown_names, imported_name, package_object}
-use Rattle.world_text.specs.Texts.{object_text}
+use Rattle.world_text.specs.ObjectTexts.{object_text}
 use Rattle.world_text.proofs.PlainObjects.{no_prefix}
-use Rattle.snapshot_lines.specs.Texts.{text_of_items, items_rest, texts_text, pairs_text}
+use Rattle.snapshot_lines.specs.QuotedTexts.{text_of_items, items_rest, texts_text, pairs_text}
 
 -- ---- lists
 

@@ -23,7 +23,7 @@ use Rattle.snapshot_lines.specs.declared.error.BuildError.{BuildError}
 use Rattle.snapshot_lines.specs.declared.error.BuildError.TheVariants.{OutOfMemory as NoMemory}
 use Rattle.snapshot_lines.specs.BuildRefusals.{of_packages}
 use Rattle.snapshot_text.specs.Part.{IsPartOf}
-use Rattle.snapshot_lines.specs.Answers.{OrNoMemory}
+use Rattle.snapshot_lines.specs.PartAnswers.{OrNoMemory}
 use Rattle.snapshot_text.proofs.Gave.{same_ok}
 use Rattle.snapshot_text.proofs.PartFinds.{present_entry, only_found}
 use Rattle.snapshot_text.proofs.PartOrder.{part_with_new, part_with_entry}

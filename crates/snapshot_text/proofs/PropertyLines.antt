@@ -18,10 +18,10 @@ use Rattle.plist_state.specs.Readers.{symbols_with_properties}
 use Rattle.plist_state.specs.Sound.{IsSoundWorldState}
 use Rattle.snapshot_text.specs.BuiltWorlds.{with_properties_of}
 use Rattle.world_text.specs.Lines.{snapshot_limits}
-use Rattle.world_text.specs.Texts.{row_of}
-use Rattle.snapshot_text.specs.Rows.{row_symbol_at, row_text, text_after, IsUpTo}
+use Rattle.world_text.specs.ObjectTexts.{row_of}
+use Rattle.snapshot_text.specs.Rows.{row_symbol_at, row_text, text_after, HasRowsUpTo}
 use Rattle.world_text.specs.Snapshot.{snapshot_line, properties_object}
-use Rattle.world_text.specs.Tokens.{ends_with_token}
+use Rattle.world_text.specs.PrintedTokens.{ends_with_token}
 use Rattle.world_text.proofs.Spelling.{met_text}
 use Rattle.world_text.proofs.Whole.{object_read_back}
 use Rattle.world_text.proofs.WithinLimits.{tokens_short, plist_depth}
@@ -76,7 +76,7 @@ module _ (functions : Functions) where
   pub row_next : (s : WorldState) (n : ℕ) (rest : List ℕ) → ℕ
   row_next s n rest = length (row_text s n) + space_at standard (ends_with_token (row_of s (row_symbol_at s n))) (text_after s (n + 1) ++ rest)
 
-  pub row_read : (s : WorldState) → IsSoundWorldState s → (n : ℕ) (now : WorldState) → IsUpTo s n now → n < length (symbols_with_properties s)
+  pub row_read : (s : WorldState) → IsSoundWorldState s → (n : ℕ) (now : WorldState) → HasRowsUpTo s n now → n < length (symbols_with_properties s)
       → length (row_text s n) ≤ 4294967295 → (rest : List ℕ)
       → reads (setting_of snapshot_limits standard 10 now.packages common_lisp_user functions) (row_text s n ++ (text_after s (n + 1) ++ rest))
       ≡ form (row_of s (row_symbol_at s n)) 0 (length (row_text s n)) (row_next s n rest)
@@ -99,11 +99,11 @@ module _ (functions : Functions) where
 pub record IsAtRow (s : WorldState) (bytes rest : List ℕ) (at : ℕ) (now : WorldState) : Type 0 where
   pub done : ℕ
   pub few : done < length (symbols_with_properties s)
-  pub so_far : IsUpTo s done now
+  pub so_far : HasRowsUpTo s done now
   pub text : drop at bytes ≡ row_text s done ++ (text_after s (done + 1) ++ 10 ∷ rest)
 
 -- the row after one that was put, after a space
-pub next_row : (s : WorldState) (bytes rest : List ℕ) (end next : ℕ) (now : WorldState) (n : ℕ) → length bytes ≤ 4294967295 → IsUpTo s n now → n < length (symbols_with_properties s)
+pub next_row : (s : WorldState) (bytes rest : List ℕ) (end next : ℕ) (now : WorldState) (n : ℕ) → length bytes ≤ 4294967295 → HasRowsUpTo s n now → n < length (symbols_with_properties s)
     → drop end bytes ≡ text_after s n ++ 10 ∷ rest → next ≡ end + 1 → IsAtRow s bytes rest next now
 next_row s bytes rest end next now n fits so_far few e is =
     let here : drop end bytes ≡ 32 ∷ (row_text s n ++ (text_after s (n + 1) ++ 10 ∷ rest)) =
@@ -128,7 +128,7 @@ pub record IsLast (s : WorldState) (bytes rest : List ℕ) (end : ℕ) (now : Wo
   pub world : now ≡ with_properties_of s
   pub text : (next : ℕ) → next ≡ min (end + 2) 18446744073709551615 → drop next bytes ≡ rest
 
-pub after_row : (s : WorldState) (bytes rest : List ℕ) (end : ℕ) (now : WorldState) (n : ℕ) → length bytes ≤ 4294967295 → IsUpTo s n now → n ≤ length (symbols_with_properties s)
+pub after_row : (s : WorldState) (bytes rest : List ℕ) (end : ℕ) (now : WorldState) (n : ℕ) → length bytes ≤ 4294967295 → HasRowsUpTo s n now → n ≤ length (symbols_with_properties s)
     → drop end bytes ≡ text_after s n ++ 10 ∷ rest → IsLater s bytes rest end now ⊎ IsLast s bytes rest end now
 after_row s bytes rest end now n fits so_far within e =
     elim (eq-or-lt_of_le {n = n} {m = length (symbols_with_properties s)} within) [

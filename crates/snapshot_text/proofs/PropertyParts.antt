@@ -24,7 +24,7 @@ use Rattle.plist_state.proofs.Orders.{symbol_total, symbol_exact, one_symbol}
 use Rattle.plist_state.proofs.Lists.{kept, get-with_list, list-with_list, with_list_twice}
 use Rattle.world_text.specs.Snapshot.{symbol_object}
 use Rattle.snapshot_text.specs.BuiltWorlds.{with_properties, with_each, with_packages_of, with_properties_of}
-use Rattle.snapshot_text.specs.Rows.{row_symbol_at, IsUpTo}
+use Rattle.snapshot_text.specs.Rows.{row_symbol_at, HasRowsUpTo}
 use Rattle.snapshot_text.proofs.KeysSoFar.{keys_apart, next_is_new, at_index}
 
 -- ---- the properties of one symbol
@@ -183,7 +183,7 @@ tied = eq_by_cmp symbol_cmp
 abbrev none : Symbol
 none = ([], [])
 
-pub at_first : (s now : WorldState) → now ≡ with_packages_of s → IsUpTo s 0 now
+pub at_first : (s now : WorldState) → now ≡ with_packages_of s → HasRowsUpTo s 0 now
 at_first s now is = record {
   rest = is ∙ ap (with_properties (with_packages_of s)) (sym (ap (λ (w : WorldState). w.properties) is));
   lists = λ q. ap (λ (w : WorldState). finite.get w.properties q) is ∙ get-empty symbol_cmp q;
@@ -208,7 +208,7 @@ pub key_at : (s : WorldState) (n : ℕ) → n < length (symbols_with_properties 
 key_at s n few =
     contains_key-keys s.properties (row_symbol_at s n) ∙ at_index symbol_cmp symbol_total (symbols_with_properties s) n none few
 
-pub row_at : (s : WorldState) → IsSoundWorldState s → (n : ℕ) (now : WorldState) → IsUpTo s n now → n < length (symbols_with_properties s) → IsRow s now n
+pub row_at : (s : WorldState) → IsSoundWorldState s → (n : ℕ) (now : WorldState) → HasRowsUpTo s n now → n < length (symbols_with_properties s) → IsRow s now n
 row_at s sound n now so_far few =
     let xs = symbols_with_properties s in
     let x = row_symbol_at s n in
@@ -229,8 +229,8 @@ one_more true false o p same = refl
 one_more false true o p same = sym (same refl)
 one_more false false o p same = refl
 
-pub next_up_to : (s : WorldState) → IsSoundWorldState s → (n : ℕ) (now then : WorldState) → IsUpTo s n now → n < length (symbols_with_properties s)
-    → then ≡ with_properties now (with_list now.properties (row_symbol_at s n) (plist s (row_symbol_at s n))) → IsUpTo s (n + 1) then
+pub next_up_to : (s : WorldState) → IsSoundWorldState s → (n : ℕ) (now then : WorldState) → HasRowsUpTo s n now → n < length (symbols_with_properties s)
+    → then ≡ with_properties now (with_list now.properties (row_symbol_at s n) (plist s (row_symbol_at s n))) → HasRowsUpTo s (n + 1) then
 next_up_to s sound n now then so_far few is =
     let xs = symbols_with_properties s in
     let x = row_symbol_at s n in
@@ -249,7 +249,7 @@ next_up_to s sound n now then so_far few is =
     some_kept [] some = absurd (some refl)
     some_kept (p ∷ ps) some = refl
 
-pub at_last : (s : WorldState) (n : ℕ) (now : WorldState) → IsUpTo s n now → n ≡ length (symbols_with_properties s) → now ≡ with_properties_of s
+pub at_last : (s : WorldState) (n : ℕ) (now : WorldState) → HasRowsUpTo s n now → n ≡ length (symbols_with_properties s) → now ≡ with_properties_of s
 at_last s n now so_far all =
     let xs = symbols_with_properties s in
     let same : now.properties ≡ s.properties = same_map symbol_total symbol_exact now.properties s.properties (λ q.

@@ -35,11 +35,11 @@ with_table s n t = record s { readtables = finite.insert s.readtables n t }
 abbrev pub with_packages_of : WorldState → WorldState
 with_packages_of s = with_packages initial s.packages
 
--- and with its properties
+-- the first state, with the packages and the property lists of another one
 abbrev pub with_properties_of : WorldState → WorldState
 with_properties_of s = with_properties (with_packages_of s) s.properties
 
--- and with its readtables
+-- the first state, with the packages, the property lists and the readtables of another one
 abbrev pub with_readtables_of : WorldState → WorldState
 with_readtables_of s = record (with_properties_of s) { readtables = s.readtables }
 

@@ -5,7 +5,7 @@ use Rattle.package_table.specs.Table.{Name, Table, common_lisp, IsPackage, IsPre
 use Rattle.package_table.specs.Readers.{package_names, used_names, imports}
 use Rattle.snapshot_text.specs.declared.package_parts.PackageParts.{PackageParts}
 use Rattle.world_text.specs.Snapshot.{made_names, shown_names}
-use Rattle.snapshot_lines.specs.Texts.{unescaped, unescaped_pair}
+use Rattle.snapshot_lines.specs.QuotedTexts.{unescaped, unescaped_pair}
 use Rattle.snapshot_text.specs.Part.{IsPartOf}
 
 -- t has the package p, with the symbols that are at home there in s
@@ -51,15 +51,15 @@ pub record IsRowOf (s : Table) (p : Name) (row : PackageParts) : Type 0 where
 abbrev pub other_packages : Table → List Name
 other_packages s = filter (λ p. not (bytes_eq p common_lisp)) (package_names s)
 
--- the rows of the first of them
+-- these are rows of the first so many packages of s but COMMON-LISP, in the order of their names
 pub record AreFirstRows (s : Table) (count : ℕ) (rows : List PackageParts) : Type 0 where
   pub long : length rows ≡ count
   pub each : (i : ℕ) (row : PackageParts) → i < length rows → IsRowOf s (slice_index_or (other_packages s) i []) (slice_index_or rows i row)
 
--- a row for each of them
+-- these are rows of all packages of s but COMMON-LISP
 abbrev pub AreRowsOf : Table → List PackageParts → Type 0
 AreRowsOf s rows = AreFirstRows s (length (other_packages s)) rows
 
 -- this is so of each package of s
-abbrev pub Everywhere : Table → (Name → Type 0) → Type 0
-Everywhere s P = (p : Name) → IsPackage s p → P p
+abbrev pub InEachPackage : Table → (Name → Type 0) → Type 0
+InEachPackage s P = (p : Name) → IsPackage s p → P p

@@ -10,7 +10,7 @@ use Rattle.canon_printer.specs.Printed.{printed, printed_prefix}
 use Rattle.plist_state.specs.Properties.{Symbol, symbol_cmp}
 use Rattle.plist_state.specs.State.{WorldState}
 use Rattle.plist_state.specs.Readers.{symbols_with_properties}
-use Rattle.world_text.specs.Texts.{row_of}
+use Rattle.world_text.specs.ObjectTexts.{row_of}
 use Rattle.snapshot_text.specs.BuiltWorlds.{with_properties, with_packages_of}
 
 -- the symbol of the row at an index
@@ -26,7 +26,7 @@ abbrev pub text_after : WorldState → ℕ → List ℕ
 text_after s n = written_rest (printed_prefix s.packages common_lisp_user) (list_of (map (row_of s) (drop n (symbols_with_properties s))))
 
 -- The world has the packages of s and, of its property lists, those in the rows before an index.
-pub record IsUpTo (s : WorldState) (n : ℕ) (now : WorldState) : Type 0 where
+pub record HasRowsUpTo (s : WorldState) (n : ℕ) (now : WorldState) : Type 0 where
   pub rest : now ≡ with_properties (with_packages_of s) now.properties
   pub lists : (q : Symbol) → finite.get now.properties q
       ≡ cond (list_any (eq_by_cmp symbol_cmp q) (take n (symbols_with_properties s))) (finite.get s.properties q) None

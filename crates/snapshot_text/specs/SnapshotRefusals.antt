@@ -12,7 +12,7 @@ snapshot_error_number Damaged = DAMAGED
 snapshot_error_number MissingFunction = MISSING_MACRO
 snapshot_error_number OutOfMemory = NO_MEMORY
 
--- the same of a world that is not built
+-- why a snapshot is refused of which no world could be built
 abbrev pub of_build : BuildError → SnapshotError
 of_build BuildDamaged = Damaged
 of_build BuildOutOfMemory = OutOfMemory

@@ -4,8 +4,8 @@ ghost use Rattle.package_table.specs.Table.{Table, IsPackage, IsPresent, AreSoun
 ghost use Rattle.package_table.specs.Growth.{Grows};
 ghost use Rattle.plist_state.specs.Changes.{with_packages};
 ghost use Rattle.world_text.specs.Snapshot.{made_names};
-ghost use Rattle.snapshot_lines.specs.Texts.{unescaped};
-ghost use Rattle.snapshot_lines.specs.Answers.{OrNoMemory};
+ghost use Rattle.snapshot_lines.specs.QuotedTexts.{unescaped};
+ghost use Rattle.snapshot_lines.specs.PartAnswers.{OrNoMemory};
 ghost use Rattle.snapshot_text.specs.Part.{IsPartOf};
 ghost use Rattle.snapshot_text.specs.Phases.{HasOwn};
 

@@ -5,11 +5,11 @@ ghost use Rattle.package_table.specs.Table.{Name, Table, common_lisp, keyword, I
 ghost use Rattle.package_table.specs.Growth.{Grows};
 ghost use Rattle.plist_state.specs.Changes.{with_packages};
 ghost use Rattle.world_text.specs.Snapshot.{package_object, packages_object};
-ghost use Rattle.world_text.specs.Texts.{object_text};
-ghost use Rattle.snapshot_lines.specs.Texts.{unescaped, unescaped_pair, texts_text};
-ghost use Rattle.snapshot_lines.specs.Answers.{IsOfMade, OrNoMemory};
+ghost use Rattle.world_text.specs.ObjectTexts.{object_text};
+ghost use Rattle.snapshot_lines.specs.QuotedTexts.{unescaped, unescaped_pair, texts_text};
+ghost use Rattle.snapshot_lines.specs.PartAnswers.{IsOfMade, OrNoMemory};
 ghost use Rattle.snapshot_text.specs.Part.{IsPartOf};
-ghost use Rattle.snapshot_text.specs.Phases.{IsImport, HasImport, HasOwn, HasSymbols, HasExternals, HasUses, HasItsPackages, IsRowOf, AreRowsOf, Everywhere};
+ghost use Rattle.snapshot_text.specs.Phases.{IsImport, HasImport, HasOwn, HasSymbols, HasExternals, HasUses, HasItsPackages, IsRowOf, AreRowsOf, InEachPackage};
 
 use crate::own_parts::make_own;
 use plist_state::World;
@@ -305,7 +305,7 @@ fn make_all(alloc: Global, world: &mut World, rows: &[PackageParts<'_>]) -> Resu
 fn import_all(alloc: Global, world: &mut World, rows: &[PackageParts<'_>]) -> Result<(), BuildError>
     ensures made { (s : Table) → HasItsPackages world.old.0.packages s → AreRowsOf s rows.now
         → OrNoMemory (HasItsPackages world.new.0.packages s
-        × Everywhere s (HasSymbols world.new.0.packages s)) result }
+        × InEachPackage s (HasSymbols world.new.0.packages s)) result }
     ensures grows { Grows world.old.0.packages world.new.0.packages }
     ensures rest { world.new ≡ (with_packages world.old.0 world.new.0.packages, world.old.1) }
 {
@@ -318,9 +318,9 @@ fn import_all(alloc: Global, world: &mut World, rows: &[PackageParts<'_>]) -> Re
 
 fn export_all(alloc: Global, world: &mut World, rows: &[PackageParts<'_>]) -> Result<(), BuildError>
     ensures made { (s : Table) → HasItsPackages world.old.0.packages s
-        → Everywhere s (HasSymbols world.old.0.packages s) → AreRowsOf s rows.now
+        → InEachPackage s (HasSymbols world.old.0.packages s) → AreRowsOf s rows.now
         → OrNoMemory (HasItsPackages world.new.0.packages s
-        × Everywhere s (HasExternals world.new.0.packages s)) result }
+        × InEachPackage s (HasExternals world.new.0.packages s)) result }
     ensures grows { Grows world.old.0.packages world.new.0.packages }
     ensures rest { world.new ≡ (with_packages world.old.0 world.new.0.packages, world.old.1) }
 {
@@ -334,7 +334,7 @@ fn export_all(alloc: Global, world: &mut World, rows: &[PackageParts<'_>]) -> Re
 fn use_all(alloc: Global, world: &mut World, rows: &[PackageParts<'_>]) -> Result<(), BuildError>
     ensures made { (s : Table) → HasItsPackages world.old.0.packages s → AreRowsOf s rows.now
         → OrNoMemory (HasItsPackages world.new.0.packages s
-        × Everywhere s (HasUses world.new.0.packages s)) result }
+        × InEachPackage s (HasUses world.new.0.packages s)) result }
     ensures grows { Grows world.old.0.packages world.new.0.packages }
     ensures rest { world.new ≡ (with_packages world.old.0 world.new.0.packages, world.old.1) }
 {

@@ -4,7 +4,7 @@ ghost use Rattle.std.specs.List.{list_all};
 ghost use Rattle.lisp_object.specs.Object.{Object, text, list_of};
 ghost use Rattle.lisp_object.specs.Datum.{object_of, is_proper};
 ghost use Rattle.world_text.specs.Snapshot.{number};
-ghost use Rattle.snapshot_lines.specs.Answers.{Succeeds};
+ghost use Rattle.snapshot_lines.specs.PartAnswers.{SucceedsWith};
 
 use lisp_object::{Bytes, Datum};
 use snapshot_lines::BuildError;
@@ -13,7 +13,7 @@ use snapshot_lines::BuildError;
 pub(crate) fn text_in(datum: &Datum) -> Result<&Bytes, BuildError>
     ensures same { IfOk result (λ bytes. datum.now ≡ Datum.Text bytes.now) }
     ensures read { is_proper datum.now ≡ true → (bytes : List ℕ) → object_of datum.now ≡ text bytes
-        → Succeeds result (λ read. read.now ≡ bytes) }
+        → SucceedsWith result (λ read. read.now ≡ bytes) }
 {
     match datum {
         Datum::Text(bytes) => Ok(bytes),
@@ -26,7 +26,7 @@ pub(crate) fn items_in(datum: &Datum) -> Result<&[Datum], BuildError>
     ensures same { IfOk result (λ items. object_of datum.now ≡ list_of (map object_of items.now)) }
     ensures read { is_proper datum.now ≡ true → (xs : List Object)
         → object_of datum.now ≡ list_of xs
-        → Succeeds result (λ items. (map object_of items.now ≡ xs)
+        → SucceedsWith result (λ items. (map object_of items.now ≡ xs)
         × (list_all is_proper items.now ≡ true)) }
 {
     if datum.is_nil() {
@@ -46,7 +46,7 @@ pub(crate) fn character_in(datum: &Datum) -> Result<u8, BuildError>
     ensures number { IfOk result (λ n. datum.now ≡ Datum.Integer (pos n)) }
     ensures below { IfOk result (λ n. n < 128) }
     ensures read { is_proper datum.now ≡ true → (n : ℕ) → object_of datum.now ≡ number n → n < 128
-        → Succeeds result (λ read. read ≡ n) }
+        → SucceedsWith result (λ read. read ≡ n) }
 {
     match datum {
         Datum::Integer(n) => match u8::try_from(*n) {

@@ -6,9 +6,9 @@ ghost use Rattle.plist_state.specs.State.{WorldState};
 ghost use Rattle.plist_state.specs.Readers.{symbols_with_properties};
 ghost use Rattle.plist_state.specs.Sound.{IsSoundWorldState as IsSoundState};
 ghost use Rattle.snapshot_text.specs.BuiltWorlds.{with_packages_of, with_properties_of};
-ghost use Rattle.snapshot_text.specs.Rows.{IsUpTo, row_text, text_after};
+ghost use Rattle.snapshot_text.specs.Rows.{HasRowsUpTo, row_text, text_after};
 ghost use Rattle.world_text.specs.Snapshot.{snapshot_line, properties_object};
-ghost use Rattle.snapshot_lines.specs.Answers.{IsOfMade};
+ghost use Rattle.snapshot_lines.specs.PartAnswers.{IsOfMade};
 
 use crate::property_parts::put_row;
 use plist_state::World;
@@ -25,9 +25,9 @@ fn read_row<R: MacroFunctions>(
     requires table { source.now.table.now ≡ standard }
     ensures row { (s : WorldState) (n : ℕ) (rest : List ℕ) → IsSoundState s
         → length source.now.bytes.now ≤ 4294967295 → n < length (symbols_with_properties s)
-        → IsUpTo s n world.old.0
+        → HasRowsUpTo s n world.old.0
         → drop at source.now.bytes.now ≡ row_text s n ++ (text_after s (n + 1) ++ rest)
-        → IsOfMade result (λ next. IsUpTo s (n + 1) world.new.0
+        → IsOfMade result (λ next. HasRowsUpTo s (n + 1) world.new.0
         × (drop next source.now.bytes.now ≡ text_after s (n + 1) ++ rest)) }
     ensures on { IfOk result (λ next. at ≤ next) }
 {

@@ -10,7 +10,7 @@ ghost use Rattle.plist_state.specs.Views.{symbol_of};
 ghost use Rattle.plist_state.specs.Sound.{IsSymbol, IsValue, IsPlist};
 ghost use Rattle.world_text.specs.Snapshot.{symbol_object, plist_object};
 ghost use Rattle.snapshot_text.specs.BuiltWorlds.{with_properties, with_each};
-ghost use Rattle.snapshot_lines.specs.Answers.{IsOfMade, OrNoMemory};
+ghost use Rattle.snapshot_lines.specs.PartAnswers.{IsOfMade, OrNoMemory};
 
 use crate::known::{is_there, is_value};
 use crate::parts::items_in;

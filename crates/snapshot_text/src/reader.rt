@@ -7,7 +7,7 @@ ghost use Rattle.plist_state.specs.Sound.{IsSoundWorldState as IsSoundState};
 ghost use Rattle.snapshot_text.specs.NamedFunctions.{are_covered, AreBytesRefused};
 ghost use Rattle.world_text.specs.Snapshot.{packages_object, tables_object_in, snapshot_line, snapshot_in};
 ghost use Rattle.lisp_object.specs.Object.{Object};
-ghost use Rattle.snapshot_lines.specs.Answers.{IsOfMade, OrNoMemory};
+ghost use Rattle.snapshot_lines.specs.PartAnswers.{IsOfMade, OrNoMemory};
 
 use crate::SnapshotError;
 use crate::package_parts::make_packages;

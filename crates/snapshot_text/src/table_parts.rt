@@ -16,7 +16,7 @@ ghost use Rattle.plist_state.specs.Changes.{with_base};
 ghost use Rattle.plist_state.specs.Sound.{IsSymbol, HasKeywordFunctions, IsSoundWorldState as IsSoundState};
 ghost use Rattle.world_text.specs.Snapshot.{number, dispatch_objects, entry_object, entry_objects, readtable_object, readtables_object, tables_object, tables_object_1, tables_object_in};
 ghost use Rattle.snapshot_text.specs.BuiltWorlds.{with_table, with_properties_of, with_readtables_of, CanBeMade, IsWritable, IsSubFunction, IsNamedEntry};
-ghost use Rattle.snapshot_lines.specs.Answers.{OrNoMemory, Succeeds};
+ghost use Rattle.snapshot_lines.specs.PartAnswers.{OrNoMemory, SucceedsWith};
 
 use crate::parts::{character_in, items_in, text_in};
 use lisp_object::Datum;
@@ -38,7 +38,7 @@ fn may_be_set(world: &World, function: FnName) -> bool
 // The name of a function.
 fn function_in(datum: &Datum) -> Result<FnName, BuildError>
     ensures { is_proper datum.now ≡ true → (f : List ℕ) → object_of datum.now ≡ text f
-        → IsTrue (is_function_name f) → Succeeds result (λ function. function ≡ f) }
+        → IsTrue (is_function_name f) → SucceedsWith result (λ function. function ≡ f) }
 {
     FnName::new(text_in(datum)?.as_slice()).ok_or(BuildError::Damaged)
 }

@@ -7,13 +7,13 @@ use Rattle.prevalence_store.specs.calls.Open.{IsOpened}
 use Rattle.prevalence_store.specs.calls.Store.{StoreView}
 use Rattle.prevalence_store.specs.calls.Zeros.{CutsZeros, TriesToCutZeros}
 use Rattle.prevalence_store.proofs.calls.CuttingZeros.{cut_after}
-use Rattle.session_ledger.specs.OutgoingLines.{Went, handings_of}
+use Rattle.session_ledger.specs.OutgoingLines.{WentOut, handings_of}
 use Rattle.sessions.specs.Account.{Account, AreUnderWay}
 use Rattle.sessions.specs.Serve.{ended_after_cut}
 use Rattle.sessions.specs.declared.ending.Ended.{Ended}
 use Rattle.sessions.specs.declared.ending.Ended.TheVariants.{Store}
 use Rattle.store_commands.specs.Accounts.{EndsAccount}
-use Rattle.store_laws.specs.Sessions.{account_after}
+use Rattle.store_laws.specs.SessionLines.{account_after}
 use Rattle.user_macros.specs.Functions.{Functions}
 
 -- it has a world
@@ -41,7 +41,7 @@ module _ (functions : Functions) {D R : Type 0} (state : D → State) (served cl
       let both = cut_after functions state (state account.disk) served closed tries account.now way.taken way.survives way.all_or_none in
       record { taken = way.taken; survives = both.0; all_or_none = both.1 }
 
-  pub went_further : (first : Account D) (held written : Option (List ℕ)) → Went functions state first served held written → Went functions state first closed held written
+  pub went_further : (first : Account D) (held written : Option (List ℕ)) → WentOut functions state first served held written → WentOut functions state first closed held written
   went_further first held written went = record { out = went.out; since = under_way_further (account_after first (handings_of went.out.sent)) went.since }
 
   pub ends_further : (account : Option (Account D)) → EndsAccount functions state served account → EndsAccount functions state closed account

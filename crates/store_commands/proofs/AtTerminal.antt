@@ -7,7 +7,7 @@ use Rattle.user_macros.specs.Functions.{Functions}
 use Rattle.sessions.specs.declared.ending.Ended.{Ended}
 use Rattle.session_words.specs.declared.wanted.SessionOptions.{SessionOptions}
 use Rattle.store_commands.specs.Commands.{IsEarlyFault, AreStreamsUntouched, Performs, PerformsAtTerminal, PerformsInTurn, TellsUnopened}
-use Rattle.store_commands.specs.Sessions.{AreSessions}
+use Rattle.store_commands.specs.SessionsInRow.{AreSessions}
 use Rattle.store_commands.specs.Status.{HasFaultNumber, IsFaultNumber, status_of_ended}
 use Rattle.store_commands.specs.EndLines.{IsToldOf}
 use Rattle.store_commands.specs.declared.status.Status.{Status}

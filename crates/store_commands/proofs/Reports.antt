@@ -10,8 +10,8 @@ use Rattle.user_macros.specs.Functions.{Functions}
 use Rattle.store_commands.specs.Commands.{TaskBreaksOff, TaskWrites, is_opening_fault}
 use Rattle.store_commands.specs.Report.{DumpsWorld, IsReport, TellsHalfAndPosition}
 use Rattle.store_commands.specs.Status.{HasFaultNumber, IsFaultNumber, TakesWords, status_of_output}
-use Rattle.diagnostics.specs.Texts.{WritesOut}
-use Rattle.store_commands.specs.Texts.{TellsText}
+use Rattle.diagnostics.specs.StreamTexts.{WritesOut}
+use Rattle.store_commands.specs.StatusAfterText.{TellsText}
 use Rattle.diagnostics.specs.declared.fault.Unwritten.{Unwritten}
 use Rattle.store_commands.specs.declared.status.Status.{Status}
 use Rattle.store_commands.specs.declared.status.Status.TheVariants.{Done, Helped, FormRefused, Unanswered, WordsRefused, LeftOut, Fault}

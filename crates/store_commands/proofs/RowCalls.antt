@@ -7,11 +7,11 @@ use Rattle.prevalence_store.specs.Theorem.{Call, Headline, Keeps, Run, disk_afte
 use Rattle.sessions.specs.Account.{Account, AreUnderWay, first_account}
 use Rattle.prevalence_store.specs.calls.Store.{StoreView}
 use Rattle.sessions.specs.declared.ending.Ended.{Ended}
-use Rattle.session_ledger.specs.OutgoingLines.{Went, calls_in, handings_of}
+use Rattle.session_ledger.specs.OutgoingLines.{WentOut, calls_in, handings_of}
 use Rattle.session_words.specs.declared.wanted.SessionOptions.{SessionOptions}
-use Rattle.store_commands.specs.Sessions.{Earlier, InTurn, calls_before, calls_in_turn}
+use Rattle.store_commands.specs.SessionsInRow.{AreEarlierSessions, AreSessionsInTurn, calls_before, calls_in_turn}
 use Rattle.store_laws.specs.Batches.{AreTogether}
-use Rattle.store_laws.specs.Sessions.{AreCalls, AreHanded, Handing, account_after, call_since, calls_of}
+use Rattle.store_laws.specs.SessionLines.{AreCalls, AreHanded, Handing, account_after, call_since, calls_of}
 use Rattle.user_macros.specs.Functions.{Functions}
 
 -- ---- calls after calls
@@ -76,7 +76,7 @@ module _ (functions : Functions) (wanted : SessionOptions) {D R : Type 0} (state
     → AreCalls functions state first (calls_of functions state first handings handed ++ call_since functions state (account_after first handings) closed since ∷ [])) where
   -- one of them
   one_joins : (old new : StoreView D R) (world : WorldState) (had held written : Option (List ℕ))
-      → (went : Went functions state (first_account world wanted.mode had old.disk) new held written) → IsHonest (state old.disk) → Keeps functions (state old.disk) world
+      → (went : WentOut functions state (first_account world wanted.mode had old.disk) new held written) → IsHonest (state old.disk) → Keeps functions (state old.disk) world
       → Joins functions state old.disk new.disk world new.world (calls_in functions state (first_account world wanted.mode had old.disk) new went)
   one_joins old new world had held written went honest keeps =
       let first = first_account world wanted.mode had old.disk in
@@ -95,7 +95,7 @@ module _ (functions : Functions) (wanted : SessionOptions) {D R : Type 0} (state
       (subst IsTrue (sym one.honest) honest, one.kept left joins.world_is)
 
   rows_before : (others : List Ended) (old new : StoreView D R) (world left : WorldState) (had has held written : Option (List ℕ)) → IsHonest (state old.disk)
-      → Keeps functions (state old.disk) world → (earlier : Earlier functions wanted state others old new world left had has held written)
+      → Keeps functions (state old.disk) world → (earlier : AreEarlierSessions functions wanted state others old new world left had has held written)
       → Joins functions state old.disk new.disk world (Some left) (calls_before functions wanted state others old new world left had has held written earlier)
   rows_before [] old new world left had has held written honest keeps earlier = record {
     run = tt;
@@ -112,7 +112,7 @@ module _ (functions : Functions) (wanted : SessionOptions) {D R : Type 0} (state
       (calls_in functions state (first_account earlier.1 wanted.mode earlier.2 earlier.0.disk) new earlier.7.1)) earlier.8 one)
 
   pub rows_in_turn : (old new : StoreView D R) (world : WorldState) (had has held written : Option (List ℕ)) (ended : Ended) → IsHonest (state old.disk)
-      → Keeps functions (state old.disk) world → (turn : InTurn functions wanted state old new world had has held written ended)
+      → Keeps functions (state old.disk) world → (turn : AreSessionsInTurn functions wanted state old new world had has held written ended)
       → Joins functions state old.disk new.disk world new.world (calls_in_turn functions wanted state old new world had has held written ended turn)
   rows_in_turn old new world had has held written ended honest keeps turn =
       let so_far = rows_before turn.0 old turn.1 world turn.2 had turn.3 held turn.5 honest keeps turn.6 in

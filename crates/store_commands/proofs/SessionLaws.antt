@@ -18,7 +18,7 @@ use Rattle.prevalence_store.specs.calls.Open.{fault_number}
 use Rattle.lisp_object.specs.Object.{Object}
 use Rattle.lisp_operators.specs.Evaluation.{Evaluation}
 use Rattle.lisp_reading.specs.Reading.{ReadingResult as Reading, empty, refused}
-use Rattle.sessions.specs.Answers.{Progress, after_forms, first_progress, form_progress, last_line, one_form, one_form_more, onward, refusal_line}
+use Rattle.sessions.specs.FormAnswers.{Progress, after_forms, first_progress, form_progress, last_line, one_form, one_form_more, progress_onward, refusal_line}
 use Rattle.sessions.specs.Serve.{IsFormUnaccepted, Serves, ServesInput, ServesWanted}
 use Rattle.prevalence_store.specs.calls.Store.{StoreView}
 use Rattle.prevalence_store.specs.meaning.Acceptance.{between, read_in}
@@ -253,12 +253,12 @@ refused_line functions mode w text forms accepted far before number start one_mo
     ≡ Some (form_progress before.world mode (between start refuses.stop before.rest) (drop refuses.next before.rest) (Err number)) =
     ap (one_form functions before.world mode before.rest) refuses.reads
     ∙ ap (λ (e : Evaluation Object). Some (form_progress before.world mode (between start refuses.stop before.rest) (drop refuses.next before.rest) e)) refuses.refused in
-    let one : one_form_more functions mode before ≡ Some (onward before (form_progress before.world mode (between start refuses.stop before.rest) (drop refuses.next before.rest) (Err number))) =
-    ap (option_map (onward before)) reads in
-    let there : after_forms functions (suc accepted) w mode text ≡ Some (onward before (form_progress before.world mode (between start refuses.stop before.rest) (drop refuses.next before.rest) (Err number))) =
+    let one : one_form_more functions mode before ≡ Some (progress_onward before (form_progress before.world mode (between start refuses.stop before.rest) (drop refuses.next before.rest) (Err number))) =
+    ap (option_map (progress_onward before)) reads in
+    let there : after_forms functions (suc accepted) w mode text ≡ Some (progress_onward before (form_progress before.world mode (between start refuses.stop before.rest) (drop refuses.next before.rest) (Err number))) =
     ap (option_and_then (one_form_more functions mode)) before_is ∙ one in
     let same : suc accepted ≡ forms = omega (arith, one_more) in
-    let both : ◌≡◌ {A = Option Progress} (Some far) (Some (onward before (form_progress before.world mode (between start refuses.stop before.rest) (drop refuses.next before.rest) (Err number)))) =
+    let both : ◌≡◌ {A = Option Progress} (Some far) (Some (progress_onward before (form_progress before.world mode (between start refuses.stop before.rest) (drop refuses.next before.rest) (Err number)))) =
     sym far_is ∙ sym (ap (λ n. after_forms functions n w mode text) same) ∙ there in
     ap (λ (o : Option Progress). elim o [ None ↦ [] | Some p ↦ p.lines ]) both
 

@@ -12,7 +12,7 @@ use Rattle.user_macros.specs.Functions.{Functions}
 use Rattle.store_commands.specs.Commands.{TaskBreaksOff, is_opening_fault}
 use Rattle.store_commands.specs.Report.{HasNoValue, TellsHalf, TellsSnapshot, half_line, half_line_of}
 use Rattle.store_commands.specs.Status.{HasFaultNumber, IsFaultNumber, TakesWords}
-use Rattle.store_commands.specs.Texts.{TellsText}
+use Rattle.store_commands.specs.StatusAfterText.{TellsText}
 use Rattle.store_commands.specs.declared.status.Status.{Status}
 use Rattle.store_commands.specs.declared.status.Status.TheVariants.{Done, Helped, FormRefused, Unanswered, WordsRefused, LeftOut, Fault}
 use Rattle.command_words.specs.declared.words.Task.TheVariants.{Snapshot}

@@ -12,7 +12,7 @@ use Rattle.prevalence_store.specs.calls.Store.{StoreView}
 use Rattle.user_macros.specs.Functions.{Functions}
 use Rattle.diagnostics.specs.Refusals.{IsRefusalOf}
 use Rattle.sessions.specs.Serve.{ServesWanted}
-use Rattle.store_commands.specs.Sessions.{Drops, DropsByte, Earlier, EndsRefused, InTurn, IsOfLine, ServesOut}
+use Rattle.store_commands.specs.SessionsInRow.{DropsRestOfLine, DropsByte, AreEarlierSessions, EndsRefused, AreSessionsInTurn, IsOfLine, ServesOut}
 use Rattle.diagnostics.specs.declared.refusal.Refusal.{Refusal}
 
 -- where there is a refusal the session ended with it
@@ -24,7 +24,7 @@ ends_refused (Store number) given refusal some none = absurd (cc)
 
 -- ---- bytes that are dropped
 
-drops_nothing : (has : Option (List ℕ)) → Drops has has
+drops_nothing : (has : Option (List ℕ)) → DropsRestOfLine has has
 drops_nothing has = ([], inl refl, Consumes-nil has)
 
 no_newline_but : (line : List ℕ) (byte : ℕ) → AllByRecursion (λ b. b ≢ 10) line → byte ≢ 10 → AllByRecursion (λ b. b ≢ 10) (line ++ byte ∷ [])
@@ -49,7 +49,7 @@ drops_one last byte there mid has true (bytes, of, before, none) other is one = 
 )
 
 -- no byte was there
-pub drops_none : (last byte : ℕ) (there mid has : Option (List ℕ)) (result : Bool) → DropsTo last there mid → result ≡ false → DropsByte result byte mid has → Drops there has
+pub drops_none : (last byte : ℕ) (there mid has : Option (List ℕ)) (result : Bool) → DropsTo last there mid → result ≡ false → DropsByte result byte mid has → DropsRestOfLine there has
 drops_none last byte there mid has true dropped is no_more = absurd (cc)
 drops_none last byte there mid has false (bytes, of, before, none) is no_more =
     (bytes, of, subst (Consumes there has) (append-nil bytes) (Consumes-trans there mid has bytes [] before no_more))
@@ -59,7 +59,7 @@ module _ (functions : Functions) (wanted : SessionOptions) {D R : Type 0} (state
   abbrev pub Row : (new : StoreView D R) (has written : Option (List ℕ)) → Ended → Type 0
   Row new has written ended =
       (others : List Ended) × (mid : StoreView D R) × (between : WorldState) × (begun : Option (List ℕ)) × (before : Option (List ℕ))
-      × Earlier functions wanted state others old mid world between had begun held before
+      × AreEarlierSessions functions wanted state others old mid world between had begun held before
       × ServesOut functions wanted state mid new between begun has before written ended
 
   pub first_turn : (new : StoreView D R) (has written : Option (List ℕ)) (ended : Ended) → ServesOut functions wanted state old new world had has held written ended
@@ -84,7 +84,7 @@ module _ (functions : Functions) (wanted : SessionOptions) {D R : Type 0} (state
 
   -- the next session begins in it, and with what the input has after some bytes more
   pub turn_after : (mid new : StoreView D R) (rest next_rest has between written : Option (List ℕ)) (ended next : Ended) → EndsRefused ended
-      → Row mid rest between ended → Drops rest next_rest
+      → Row mid rest between ended → DropsRestOfLine rest next_rest
       → ((left : WorldState) → mid.world ≡ Some left → ServesOut functions wanted state mid new left next_rest has between written next)
       → Row new has written next
   turn_after mid new rest next_rest has between written ended next refused (others, start, first, begun, before, earlier, session) dropped one_more =
@@ -99,14 +99,14 @@ module _ (functions : Functions) (wanted : SessionOptions) {D R : Type 0} (state
       )
 
   -- no session follows, and some bytes more were lost
-  pub last_turn : (new : StoreView D R) (rest has written : Option (List ℕ)) (ended : Ended) → Row new rest written ended → Drops rest has
-      → InTurn functions wanted state old new world had has held written ended
+  pub last_turn : (new : StoreView D R) (rest has written : Option (List ℕ)) (ended : Ended) → Row new rest written ended → DropsRestOfLine rest has
+      → AreSessionsInTurn functions wanted state old new world had has held written ended
   last_turn new rest has written ended (others, start, first, begun, before, earlier, session) dropped =
       (others, start, first, begun, rest, before, earlier, session, dropped)
 
   -- or none
   pub no_more_turns : (new : StoreView D R) (has written : Option (List ℕ)) (ended : Ended) → Row new has written ended
-      → InTurn functions wanted state old new world had has held written ended
+      → AreSessionsInTurn functions wanted state old new world had has held written ended
   no_more_turns new has written ended row = last_turn new has has written ended row (drops_nothing has)
 
 -- ---- what is known as the last one of them begins
@@ -132,7 +132,7 @@ module _ (functions : Functions) (wanted : SessionOptions) {D R : Type 0} (state
   session_goes old new world had has held written (Store number) none served = absurd none
 
   pub earlier_go : (others : List Ended) (old new : StoreView D R) (world left : WorldState) (had has held written : Option (List ℕ))
-      → Earlier functions wanted state others old new world left had has held written → Goes had has held written
+      → AreEarlierSessions functions wanted state others old new world left had has held written → Goes had has held written
   earlier_go [] old new world left had has held written (same, still, rest, said) = λ text bytes known holds.
       (text, [], rest ∙ known, said ∙ holds ∙ ap (λ l. Some l) (sym (append-nil bytes)))
   earlier_go (ended ∷ others) old new world left had has held written (mid, between, begun, there, before, earlier, refused, session, leaves, dropped) = λ text bytes known holds.

@@ -16,7 +16,7 @@ use Rattle.std.specs.Option.{IfSome}
 use Rattle.store_commands.specs.Commands.{TaskBreaksOff, is_opening_fault}
 use Rattle.store_commands.specs.Report.{HasNoValue, TellsForms, TellsUpgrade, TellsVersion, Upgrades, WritesForms, version_line}
 use Rattle.store_commands.specs.Status.{HasFaultNumber, TakesWords}
-use Rattle.store_commands.specs.Texts.{TellsText}
+use Rattle.store_commands.specs.StatusAfterText.{TellsText}
 use Rattle.store_commands.specs.declared.status.Status.{Status}
 use Rattle.store_commands.specs.declared.status.Status.TheVariants.{Done, Helped, FormRefused, Unanswered, WordsRefused, LeftOut, Fault}
 use Rattle.command_words.specs.declared.words.Task.TheVariants.{Export, Upgrade}

@@ -14,9 +14,9 @@ use Rattle.sessions.specs.declared.ending.Ended.{Ended}
 use Rattle.session_words.specs.declared.wanted.SessionOptions.{SessionOptions}
 use Rattle.store_commands.specs.Report.{DumpsWorld, IsExport, IsReport, IsSnapshot, IsUpgrade, TellsHalf, TellsHalfAndPosition, TellsVersion, WritesForms, half_line, position_line, version_line}
 use Rattle.store_commands.specs.Session.{AnswersInput, IsBrokenOff, IsSession, IsStatusAfter, ReadsToEnd, half_limit}
-use Rattle.store_commands.specs.Sessions.{AreSessions}
+use Rattle.store_commands.specs.SessionsInRow.{AreSessions}
 use Rattle.store_commands.specs.Status.{HasFaultNumber, IsCarriedOut, TakesWords, status_of_ended, status_of_host}
-use Rattle.diagnostics.specs.Texts.{IsFrontWritten}
+use Rattle.diagnostics.specs.StreamTexts.{IsFrontWritten}
 use Rattle.store_commands.specs.EndLines.{IsToldOf, left_out_of}
 use Rattle.store_commands.specs.declared.status.Status.{Status}
 use Rattle.store_commands.specs.declared.status.Status.TheVariants.{Fault, WordsRefused}

@@ -4,7 +4,7 @@ pub mod Folders
 pub mod Output
 pub mod Report
 pub mod Session
-pub mod Sessions
+pub mod SessionsInRow
 pub mod Status
-pub mod Texts
+pub mod StatusAfterText
 pub mod EndLines

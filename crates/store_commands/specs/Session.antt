@@ -12,12 +12,12 @@ use Rattle.prevalence_store.specs.meaning.Acceptance.{read_in}
 use Rattle.user_macros.specs.Functions.{Functions}
 use Rattle.sessions.specs.Account.{first_account}
 use Rattle.prevalence_store.specs.calls.Open.{IsOpened}
-use Rattle.sessions.specs.Answers.{Progress, after_forms, last_line, refusal_line}
+use Rattle.sessions.specs.FormAnswers.{Progress, after_forms, last_line, refusal_line}
 use Rattle.sessions.specs.Serve.{IsPlace, IsFormUnaccepted, ServesWanted, ended_after_cut}
 use Rattle.prevalence_store.specs.calls.Store.{StoreView}
 use Rattle.prevalence_store.specs.calls.Zeros.{TriesToCutZeros}
 use Rattle.diagnostics.specs.declared.refusal.Refusal.{Refusal}
-use Rattle.session_ledger.specs.OutgoingLines.{Went}
+use Rattle.session_ledger.specs.OutgoingLines.{WentOut}
 use Rattle.store_commands.specs.Status.{status_of_ended}
 use Rattle.store_commands.specs.declared.status.Status.{Status}
 use Rattle.store_commands.specs.declared.status.Status.TheVariants.{Done, Helped, FormRefused, Unanswered, WordsRefused, LeftOut, Fault}
@@ -40,7 +40,7 @@ pub record IsSession (functions : Functions) (wanted : SessionOptions) {D R : Ty
   pub cuts : TriesToCutZeros functions state served closed
   pub ended_is : ended ≡ ended_after_cut cuts.result served_ended
   -- what went out, and when: by then it was stored
-  pub went : Went functions state (first_account is_opened.world wanted.mode had opened.disk) closed held written
+  pub went : WentOut functions state (first_account is_opened.world wanted.mode had opened.disk) closed held written
   pub disk_is : back ≡ closed.disk
 
 -- What a session writes where the macro functions mean this, and each form is read in this mode.

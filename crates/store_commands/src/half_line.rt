@@ -1,7 +1,7 @@
 // The line on the half in use, and that on the position.
 ghost use Rattle.std.specs.Prelude.{◌≡◌, ◌++◌, OnOk};
 ghost use Rattle.store_commands.specs.Report.{half_line, letter_of, position_line};
-ghost use Rattle.diagnostics.specs.Texts.{WritesOut};
+ghost use Rattle.diagnostics.specs.StreamTexts.{WritesOut};
 
 use arrayvec::ArrayString;
 use diagnostics::{Unwritten, write_out};

@@ -6,7 +6,7 @@ ghost use Rattle.user_macros.specs.Functions.{are_registered};
 ghost use Rattle.store_commands.specs.Accounts.{BeginsAccount, EndsAccount, IsAccountOfSessions};
 ghost use Rattle.store_commands.specs.Commands.{AreStreamsUntouched};
 ghost use Rattle.store_commands.specs.Session.{half_limit};
-ghost use Rattle.store_commands.specs.Sessions.{AreSessions, InTurn};
+ghost use Rattle.store_commands.specs.SessionsInRow.{AreSessions, AreSessionsInTurn};
 
 use crate::opening::Opening;
 use crate::recipient::SessionRecipient;
@@ -15,7 +15,7 @@ use diagnostics::Refusal;
 use disk_trait::Disk;
 use prevalence_store::{Store, Unopened};
 use session_ledger::serve_recorded;
-use sessions::{Ended, Wanted};
+use sessions::{Ended, SessionOptions};
 use user_macros::MacroFunctions;
 
 /// Sessions in a row over the store that a disk holds, as `serve_on` has one: after each one that a refusal ended the input is
@@ -26,7 +26,7 @@ use user_macros::MacroFunctions;
 /// Those of opening the store. Nothing is read or written then, and the disk and the macro functions are given back.
 pub fn sessions_on<D, M, I, O>(
     opening: Opening<D, M>,
-    wanted: Wanted,
+    wanted: SessionOptions,
     input: &mut I,
     output: &mut O,
 ) -> Result<(Ended, D, M), Unopened<D, M>>
@@ -59,7 +59,7 @@ where
 // Sessions in a row on an open store, with the first of which the account of the recipient begins.
 fn serve_in_turn<D, M, I, O>(
     store: &mut Store<D, M>,
-    wanted: Wanted,
+    wanted: SessionOptions,
     input: &mut I,
     output: &mut O,
 ) -> Ended
@@ -71,7 +71,7 @@ where
     requires is_open { IsSome store.old.world }
     requires begins { BeginsAccount wanted.mode (I.remaining input.old) store.old (O.account output.old) }
     ensures serves { (world : WorldState) → store.old.world ≡ Some world
-        → InTurn M.Meaning.functions wanted D.state store.old store.new world
+        → AreSessionsInTurn M.Meaning.functions wanted D.state store.old store.new world
         (I.remaining input.old) (I.remaining input.new)
         (O.contents output.old) (O.contents output.new) result }
     ensures ends { EndsAccount M.Meaning.functions D.state store.new (O.account output.new) }

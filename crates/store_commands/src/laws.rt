@@ -12,9 +12,9 @@ ghost use Rattle.session_words.specs.declared.wanted.SessionOptions.{SessionOpti
 ghost use Rattle.store_commands.specs.Accounts.{AccountGoesOn};
 ghost use Rattle.store_commands.specs.Folders.{HoldsStore, OpensStore};
 ghost use Rattle.store_commands.specs.Session.{IsSession};
-ghost use Rattle.store_commands.specs.Sessions.{AreSessions, calls_in_turn};
+ghost use Rattle.store_commands.specs.SessionsInRow.{AreSessions, calls_in_turn};
 ghost use Rattle.store_laws.specs.Batches.{MeansCalls};
-ghost use Rattle.store_laws.specs.Sessions.{AreCalls};
+ghost use Rattle.store_laws.specs.SessionLines.{AreCalls};
 ghost use Rattle.user_macros.specs.Functions.{Functions};
 
 use crate::folders::Folders;

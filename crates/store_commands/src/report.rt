@@ -7,7 +7,7 @@ ghost use Rattle.world_text.specs.Snapshot.{snapshot};
 ghost use Rattle.store_commands.specs.Report.{IsReport, half_line_of, position_line, report_text};
 ghost use Rattle.store_commands.specs.Session.{half_limit};
 ghost use Rattle.store_commands.specs.Status.{status_of_output};
-ghost use Rattle.store_commands.specs.Texts.{TellsText};
+ghost use Rattle.store_commands.specs.StatusAfterText.{TellsText};
 
 use crate::half_line::{write_half_and_position, write_half_line};
 use crate::opening::Opening;

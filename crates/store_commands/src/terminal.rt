@@ -1,6 +1,6 @@
 // A terminal: prompts before its lines, and sessions in a row.
 ghost use Rattle.std.specs.Prelude.{◌≡◌};
-ghost use Rattle.store_commands.specs.Sessions.{Drops, DropsByte};
+ghost use Rattle.store_commands.specs.SessionsInRow.{DropsRestOfLine, DropsByte};
 
 use crate::answers::Heard;
 use crate::given::is_blank;
@@ -42,7 +42,7 @@ pub trait Sessions: Places {
     /// After a session that a refusal ended: whether another one follows. If so, the rest of the line was dropped, and the refusal
     /// was told.
     fn next_session(&mut self, refusal: &Refusal) -> bool
-        ensures drops { Drops (Self.remaining self.old) (Self.remaining self.new) };
+        ensures drops { DropsRestOfLine (Self.remaining self.old) (Self.remaining self.new) };
 }
 
 /// An input at a terminal. It is read byte by byte, so that it is known after which byte a form was answered, and a prompt is
@@ -260,7 +260,7 @@ impl<I: Read, P: Prompts> Terminal<'_, I, P> {
 
     // Drops the rest of the line, and tells whether it had an end.
     fn drop_line(&mut self) -> bool
-        ensures { Drops (I.remaining self.old.input) (I.remaining self.new.input) }
+        ensures { DropsRestOfLine (I.remaining self.old.input) (I.remaining self.new.input) }
     {
         'line: for _ in 0..u64::MAX {
             if self.last == b'\n' {

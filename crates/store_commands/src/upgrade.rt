@@ -5,7 +5,7 @@ ghost use Rattle.prevalence_store.specs.calls.Open.{IsUnopened};
 ghost use Rattle.user_macros.specs.Functions.{are_registered};
 ghost use Rattle.store_commands.specs.Report.{HasNoValue, IsUpgrade, TellsUpgrade, Upgrades, version_line};
 ghost use Rattle.store_commands.specs.Session.{half_limit};
-ghost use Rattle.diagnostics.specs.Texts.{WritesOut};
+ghost use Rattle.diagnostics.specs.StreamTexts.{WritesOut};
 
 use crate::opening::Opening;
 use crate::report::status_of_output;

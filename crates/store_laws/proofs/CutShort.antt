@@ -9,7 +9,7 @@ use Rattle.sessions.specs.declared.ending.Ended.TheVariants.{Store}
 use Rattle.sessions.specs.declared.ending.Ending.TheVariants as ending
 use Rattle.session_words.specs.declared.wanted.SessionOptions.{SessionOptions}
 use Rattle.prevalence_store.specs.meaning.Acceptance.{read_in}
-use Rattle.sessions.specs.Answers.{Progress, after_forms, last_line}
+use Rattle.sessions.specs.FormAnswers.{Progress, after_forms, last_line}
 use Rattle.sessions.specs.Serve.{Ends, IsAfter, EndsAtFailedWrite, Serves, ServesWanted, StaysOrEnds, StaysRefused}
 use Rattle.prevalence_store.specs.calls.Store.{StoreView}
 use Rattle.store_laws.specs.Outcomes.{BreaksOff, HasForms, answers}

@@ -7,7 +7,7 @@ use Rattle.plist_state.specs.State.{WorldState}
 use Rattle.prevalence_store.specs.meaning.Acceptance.{Acceptance, accepts, after, mode_of}
 use Rattle.prevalence_store.specs.calls.Open.{IsNoWord, IsUnopened, limit_of}
 use Rattle.prevalence_store.specs.Theorem.{Call, IsAfterSome, Keeps, KeepsSome, MeansSome, Reopens, Survives}
-use Rattle.store_laws.specs.Histories.{Event, StillStands, disk_by, last_disk, last_left, world_left_by, opened, refused, called, stopped, stopped_in_call, stopped_in_opening, Follows, Happened, Happens, IsCall, IsOpenedOrNot, IsStop, Stands}
+use Rattle.store_laws.specs.Histories.{Event, StillStands, disk_by, last_disk, last_left, world_left_by, opened, refused, called, stopped, stopped_in_call, stopped_in_opening, FollowsFromEvents, EventsHappened, EventHappens, IsCall, IsOpenedOrNot, IsStop, StandsAfterEvents}
 use Rattle.user_macros.specs.Functions.{Functions}
 
 module _ (functions : Functions) where
@@ -46,7 +46,7 @@ module _ (functions : Functions) where
 
   -- at any moment of a call of the open store
   pub in_call : {D : Type 0} (state : D → State) (first : WorldState) (line : List LogRecord) (sure : ℕ) (disk : D) (left : Option WorldState) (call : Call D)
-      → Stands functions state first line sure disk left → IsCall functions state disk left call
+      → StandsAfterEvents functions state first line sure disk left → IsCall functions state disk left call
       → (image : Image) → (state call.disk).left_since (state disk).moment image → MeansSome functions first (line ++ call.taken) (length line) image
   in_call state first line sure disk None call stands is image might = absurd is
   in_call state first line sure disk (Some world) call stands is image might =
@@ -55,7 +55,7 @@ module _ (functions : Functions) where
 
   -- at any moment of an opening
   pub in_opening : {D : Type 0} (state : D → State) (first : WorldState) (line : List LogRecord) (sure : ℕ) (disk : D) (left : Option WorldState) (there : D)
-      → Stands functions state first line sure disk left → IsOpenedOrNot functions state disk there
+      → StandsAfterEvents functions state first line sure disk left → IsOpenedOrNot functions state disk there
       → (image : Image) → (state there).left_since (state disk).moment image → MeansSome functions first line sure image
   in_opening state first line sure disk left there stands opening image might =
       let was = opening.each image might in
@@ -82,7 +82,7 @@ module _ (functions : Functions) where
     none_open line disk world is = absurd (cc)
 
     stands_opened : (line : List LogRecord) (sure : ℕ) (now : D) (world : WorldState) → IsHonest (state now) → (found : IsAfterSome functions first line sure world) → Keeps functions (state now) world
-        → Stands functions state first (take found.count line) found.count now (Some world)
+        → StandsAfterEvents functions state first (take found.count line) found.count now (Some world)
     stands_opened line sure now world honest found kept =
         let here : after functions first (take found.count (take found.count line)) ≡ Some world = ap (after functions first) (take-take found.count found.count line (omega arith)) ∙ found.after_those in
         let among = length-take-le found.count line found.among in
@@ -100,8 +100,8 @@ module _ (functions : Functions) where
     caller disk None call is = absurd is
     caller disk (Some world) call is = (world, refl, is)
 
-    stands_called : (line : List LogRecord) (sure : ℕ) (disk : D) (left : Option WorldState) (call : Call D) → Stands functions state first line sure disk left → IsCall functions state disk left call
-        → Stands functions state first (line ++ call.taken) (length line + call.acknowledged) call.disk call.left
+    stands_called : (line : List LogRecord) (sure : ℕ) (disk : D) (left : Option WorldState) (call : Call D) → StandsAfterEvents functions state first line sure disk left → IsCall functions state disk left call
+        → StandsAfterEvents functions state first (line ++ call.taken) (length line + call.acknowledged) call.disk call.left
     stands_called line sure disk left call stands is =
         let from = caller disk left call is in
         let here = (stands.whole from.0 from.1).0 in record {
@@ -110,24 +110,24 @@ module _ (functions : Functions) where
           whole = λ w now. (after_both first from.0 line call.taken here ∙ from.2.after_all w now, from.2.kept w now);
         }
 
-    stands_stopped : (line : List LogRecord) (sure : ℕ) (disk : D) (left : Option WorldState) (now : D) → Stands functions state first line sure disk left → IsStop state disk disk now
-        → Stands functions state first line sure now None
+    stands_stopped : (line : List LogRecord) (sure : ℕ) (disk : D) (left : Option WorldState) (now : D) → StandsAfterEvents functions state first line sure disk left → IsStop state disk disk now
+        → StandsAfterEvents functions state first line sure now None
     stands_stopped line sure disk left now stands stop = record {
       honest = stop.honest;
       keeps = λ image may. stands.keeps image ((sound disk stands.honest).only_now image (stop.between image may));
       whole = none_open line now;
     }
 
-    stands_stopped_in_call : (line : List LogRecord) (sure : ℕ) (disk : D) (left : Option WorldState) (call : Call D) (now : D) → Stands functions state first line sure disk left
-        → IsCall functions state disk left call → IsStop state disk call.disk now → Stands functions state first (line ++ call.taken) (length line) now None
+    stands_stopped_in_call : (line : List LogRecord) (sure : ℕ) (disk : D) (left : Option WorldState) (call : Call D) (now : D) → StandsAfterEvents functions state first line sure disk left
+        → IsCall functions state disk left call → IsStop state disk call.disk now → StandsAfterEvents functions state first (line ++ call.taken) (length line) now None
     stands_stopped_in_call line sure disk left call now stands is stop = record {
       honest = stop.honest;
       keeps = λ image may. in_call state first line sure disk left call stands is image (stop.between image may);
       whole = none_open (line ++ call.taken) now;
     }
 
-    stands_stopped_in_opening : (line : List LogRecord) (sure : ℕ) (disk : D) (left : Option WorldState) (there now : D) → Stands functions state first line sure disk left
-        → IsOpenedOrNot functions state disk there → IsStop state disk there now → Stands functions state first line sure now None
+    stands_stopped_in_opening : (line : List LogRecord) (sure : ℕ) (disk : D) (left : Option WorldState) (there now : D) → StandsAfterEvents functions state first line sure disk left
+        → IsOpenedOrNot functions state disk there → IsStop state disk there now → StandsAfterEvents functions state first line sure now None
     stands_stopped_in_opening line sure disk left there now stands opening stop = record {
       honest = stop.honest;
       keeps = λ image may. in_opening state first line sure disk left there stands opening image (stop.between image may);
@@ -135,7 +135,7 @@ module _ (functions : Functions) where
     }
 
     -- there are no more sure forms than forms
-    within : (line : List LogRecord) (sure : ℕ) (disk : D) (left : Option WorldState) → Stands functions state first line sure disk left → sure ≤ length line
+    within : (line : List LogRecord) (sure : ℕ) (disk : D) (left : Option WorldState) → StandsAfterEvents functions state first line sure disk left → sure ≤ length line
     within line sure disk left stands =
         let some = stands.keeps (state disk).reads (sound disk stands.honest).reads_stay in
         omega (arith, some.enough, some.among)
@@ -146,11 +146,11 @@ module _ (functions : Functions) where
       next_sure : ℕ
       no_less : sure ≤ next_sure
       same : take sure next ≡ take sure line
-      stands : Stands functions state first next next_sure (disk_by event) (world_left_by event)
-      follows : (events : List (Event D)) → Follows functions state first next next_sure (disk_by event) (world_left_by event) events
-          → Follows functions state first line sure disk left (event ∷ events)
+      stands : StandsAfterEvents functions state first next next_sure (disk_by event) (world_left_by event)
+      follows : (events : List (Event D)) → FollowsFromEvents functions state first next next_sure (disk_by event) (world_left_by event) events
+          → FollowsFromEvents functions state first line sure disk left (event ∷ events)
 
-    step : (event : Event D) (line : List LogRecord) (sure : ℕ) (disk : D) (left : Option WorldState) → Stands functions state first line sure disk left → Happens functions state disk left event
+    step : (event : Event D) (line : List LogRecord) (sure : ℕ) (disk : D) (left : Option WorldState) → StandsAfterEvents functions state first line sure disk left → EventHappens functions state disk left event
         → Steps line sure disk left event
     step (opened now world) line sure disk left stands opening =
         let found = opens disk now world line sure stands.honest stands.keeps opening.reopens in record {
@@ -210,20 +210,20 @@ module _ (functions : Functions) where
           more = rest ++ still.more;
           now_sure = still.now_sure;
           no_less = omega (arith, le, still.no_less);
-          stands = subst (λ (l : List LogRecord). Stands functions state first l still.now_sure disk left)
+          stands = subst (λ (l : List LogRecord). StandsAfterEvents functions state first l still.now_sure disk left)
               (ap (λ l. l ++ still.more) parts ∙ append_assoc (take sure line) rest still.more) still.stands;
         }
 
-    pub follow : (events : List (Event D)) (line : List LogRecord) (sure : ℕ) (disk : D) (left : Option WorldState) → Stands functions state first line sure disk left
-        → Happened functions state disk left events
-        → Follows functions state first line sure disk left events × StillStands functions state first line sure (last_disk disk events) (last_left left events)
+    pub follow : (events : List (Event D)) (line : List LogRecord) (sure : ℕ) (disk : D) (left : Option WorldState) → StandsAfterEvents functions state first line sure disk left
+        → EventsHappened functions state disk left events
+        → FollowsFromEvents functions state first line sure disk left events × StillStands functions state first line sure (last_disk disk events) (last_left left events)
     follow [] line sure disk left stands happened = (
       stands,
       record {
         more = drop sure line;
         now_sure = sure;
         no_less = omega arith;
-        stands = subst (λ (l : List LogRecord). Stands functions state first l sure disk left) (sym (take-append-drop sure line)) stands;
+        stands = subst (λ (l : List LogRecord). StandsAfterEvents functions state first l sure disk left) (sym (take-append-drop sure line)) stands;
       },
     )
     follow (event ∷ events) line sure disk left stands happened =
@@ -234,7 +234,7 @@ module _ (functions : Functions) where
         )
 
   -- from files that mean the first world
-  pub begins : {D : Type 0} (state : D → State) (first : WorldState) (start : D) → IsHonest (state start) → Keeps functions (state start) first → Stands functions state first [] 0 start None
+  pub begins : {D : Type 0} (state : D → State) (first : WorldState) (start : D) → IsHonest (state start) → Keeps functions (state start) first → StandsAfterEvents functions state first [] 0 start None
   begins state first start honest keeps = record {
     honest = honest;
     keeps = λ image may. record { count = 0; enough = omega arith; among = omega arith; left = first; after_those = refl; meant = keeps image may };

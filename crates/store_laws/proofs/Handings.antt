@@ -6,13 +6,13 @@ use Rattle.prevalence_store.specs.Theorem.{Call, Headline, Run}
 use Rattle.sessions.specs.Account.{Account, AreStored, AreUnderWay, call_of, with_forms}
 use Rattle.prevalence_store.specs.calls.Store.{StoreView}
 use Rattle.store_laws.specs.Batches.{AreTogether, InWholeCalls}
-use Rattle.store_laws.specs.Histories.{Happened, called}
-use Rattle.store_laws.specs.Sessions.{AreCalls, AreHanded, Handing, account_after, call_since, calls_of}
+use Rattle.store_laws.specs.Histories.{EventsHappened, called}
+use Rattle.store_laws.specs.SessionLines.{AreCalls, AreHanded, Handing, account_after, call_since, calls_of}
 use Rattle.user_macros.specs.Functions.{Functions}
 
 module _ (functions : Functions) {D : Type 0} (state : D → State) where
   -- calls in a row, as events
-  pub as_events : (calls : List (Call D)) (disk : D) (left : Option WorldState) → Run functions state disk left calls → Happened functions state disk left (map called calls)
+  pub as_events : (calls : List (Call D)) (disk : D) (left : Option WorldState) → Run functions state disk left calls → EventsHappened functions state disk left (map called calls)
   as_events [] disk left run = tt
   as_events (call ∷ calls) disk None run = absurd run
   as_events (call ∷ calls) disk (Some world) run = (run.0, as_events calls call.disk call.left run.1)

@@ -9,7 +9,7 @@ use Rattle.lisp_operators.specs.Evaluation.{Evaluation}
 use Rattle.plist_state.specs.State.{WorldState}
 use Rattle.session_words.specs.declared.mode.Mode.{Mode}
 use Rattle.prevalence_store.specs.meaning.Acceptance.{between, read_in, transaction_value}
-use Rattle.sessions.specs.Answers.{Progress, after_forms, first_progress, form_progress, last_line, one_form, one_form_more, onward}
+use Rattle.sessions.specs.FormAnswers.{Progress, after_forms, first_progress, form_progress, last_line, one_form, one_form_more, progress_onward}
 use Rattle.sessions.specs.Serve.{IsFormUnaccepted}
 use Rattle.store_laws.specs.Outcomes.{EndsAtRefusal, HasForms, answers}
 use Rattle.user_macros.specs.Functions.{Functions}
@@ -32,7 +32,7 @@ module _ (functions : Functions) (world : WorldState) (mode : Mode) where
   ]
 
   none_more : (text : List ℕ) (n : ℕ) (far : Progress) → HasForms functions world mode text n far → after (suc n) text ≡ None
-  none_more text n far all = ap (option_and_then (one_form_more functions mode)) all.far_is ∙ ap (option_map (onward far)) all.no_more
+  none_more text n far all = ap (option_and_then (one_form_more functions mode)) all.far_is ∙ ap (option_map (progress_onward far)) all.no_more
 
   -- there are no more than it has
   pub at_most : (text : List ℕ) (n m : ℕ) (far p : Progress) → HasForms functions world mode text n far → after m text ≡ Some p → m ≤ n
@@ -69,10 +69,10 @@ module _ (functions : Functions) (world : WorldState) (mode : Mode) where
       let given : Evaluation Object = transaction_value functions.names far.world object in
       let left = drop next far.rest in
       let one : Progress = form_progress far.world mode (between start stop far.rest) left given in
-      let there : after (suc n) text ≡ Some (onward far one) =
-      ap (option_and_then (one_form_more functions mode)) far_is ∙ ap (λ r. option_map (onward far) (one_form functions far.world mode far.rest r)) read in
+      let there : after (suc n) text ≡ Some (progress_onward far one) =
+      ap (option_and_then (one_form_more functions mode)) far_is ∙ ap (λ r. option_map (progress_onward far) (one_form functions far.world mode far.rest r)) read in
       let fewer : length left < length far.rest = omega (arith, some.0, some.1, length-drop next far.rest) in
-      goes_on (onward far one) there (subst (λ (l : List ℕ). length l < length far.rest) (sym (rest_after far.world (between start stop far.rest) left given)) fewer)
+      goes_on (progress_onward far one) there (subst (λ (l : List ℕ). length l < length far.rest) (sym (rest_after far.world (between start stop far.rest) left given)) fewer)
   one_more takes text n far far_is empty read goes_on = (n, far, record { far_is = far_is; no_more = ap (one_form functions far.world mode far.rest) read })
   one_more takes text n far far_is (refused number at) read goes_on = (n, far, record { far_is = far_is; no_more = ap (one_form functions far.world mode far.rest) read })
 
@@ -106,9 +106,9 @@ module _ (functions : Functions) (world : WorldState) (mode : Mode) where
     refusals_are = sym (append-nil p.refused);
   })
 
-  one_form_made : (p q : Progress) (made : Option Progress) → option_map (onward p) made ≡ Some q → IsFrontOf p q
+  one_form_made : (p q : Progress) (made : Option Progress) → option_map (progress_onward p) made ≡ Some q → IsFrontOf p q
   one_form_made p q (Some r) is =
-      let same : onward p r ≡ q = cc in
+      let same : progress_onward p r ≡ q = cc in
       subst (IsFrontOf p) same (record { lines = r.lines; lines_are = refl; records_ = r.taken; records_are = refl; refusals = r.refused; refusals_are = refl })
   one_form_made p q None is = absurd (cc)
 
@@ -165,9 +165,9 @@ module _ (functions : Functions) (world : WorldState) (mode : Mode) where
       let reads : one_form functions before.world mode before.rest (read_in functions before.world mode before.rest) ≡ Some one =
       ap (one_form functions before.world mode before.rest) refuses.reads
       ∙ (λ i. Some (form_progress before.world mode (between start refuses.stop before.rest) (drop refuses.next before.rest) (refuses.refused i))) in
-      let there : after (suc m) text ≡ Some (onward before one) = ap (option_and_then (one_form_more functions mode)) before_is ∙ ap (option_map (onward before)) reads in
+      let there : after (suc m) text ≡ Some (progress_onward before one) = ap (option_and_then (one_form_more functions mode)) before_is ∙ ap (option_map (progress_onward before)) reads in
       let same : suc m ≡ n = omega (arith, one_more) in
-      let both : ◌≡◌ {A = Option Progress} (Some far) (Some (onward before one)) = sym far_is ∙ sym (ap (λ k. after k text) same) ∙ there in
+      let both : ◌≡◌ {A = Option Progress} (Some far) (Some (progress_onward before one)) = sym far_is ∙ sym (ap (λ k. after k text) same) ∙ there in
       ap (λ (o : Option Progress). elim o [ None ↦ [] | Some p ↦ p.refused ]) both
 
   -- the answers to fewer forms, and to what the reader refuses after them

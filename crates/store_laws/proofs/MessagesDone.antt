@@ -9,8 +9,8 @@ use Rattle.prevalence_store.specs.meaning.Acceptance.{after}
 use Rattle.prevalence_store.specs.meaning.Files.{MeansWorld}
 use Rattle.prevalence_store.specs.calls.ExecuteAll.{MeansAllOrNone}
 use Rattle.prevalence_store.specs.calls.Store.{StoreView}
-use Rattle.messages.specs.Answers.{Round, round_after_requests, first_round, with_its_position, each_request}
-use Rattle.messages.specs.Calls.{AnswersRequests, AreAnsweredAndLogged, FailOnDevice, entries_by, left_after}
+use Rattle.messages.specs.MessageAnswers.{Round, round_after_requests, first_round, with_its_position, each_request}
+use Rattle.messages.specs.MessageCalls.{AnswersRequests, AreAnsweredAndLogged, FailOnDevice, entries_by, left_after}
 use Rattle.messages.specs.Position.{position_property}
 use Rattle.prevalence_store.specs.Theorem.{Keeps}
 use Rattle.messages.proofs.Positions.{position_put}

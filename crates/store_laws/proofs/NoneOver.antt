@@ -11,7 +11,7 @@ use Rattle.messages.specs.declared.request.Request.{Request}
 use Rattle.messages.specs.declared.request.TheConstants.{OLD_NUMBER}
 use Rattle.prevalence_store.specs.calls.ExecuteAll.{world_left_after, told_of}
 use Rattle.prevalence_store.specs.meaning.Acceptance.{accepts}
-use Rattle.messages.specs.Answers.{Round, answer_in, round_after_requests, by_number, without_its_position, with_its_position, each_request, one_request, refusal_text, with_message, with_old, wrote_by}
+use Rattle.messages.specs.MessageAnswers.{Round, answer_in, round_after_requests, by_number, without_its_position, with_its_position, each_request, one_request, refusal_text, with_message, with_old, wrote_by}
 use Rattle.messages.specs.Position.{position_property}
 use Rattle.store_laws.specs.Rounds.{HasWritten, IsUpToPosition, Place, after_rounds, begun_from, with_round}
 use Rattle.store_laws.proofs.RoundsDone.{rounds_append}

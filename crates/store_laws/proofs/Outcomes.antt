@@ -10,7 +10,7 @@ use Rattle.sessions.specs.declared.ending.Ending.TheVariants as ending
 use Rattle.sessions.specs.declared.ending.Place.{Place}
 use Rattle.session_words.specs.declared.wanted.SessionOptions.{SessionOptions}
 use Rattle.prevalence_store.specs.meaning.Acceptance.{read_in}
-use Rattle.sessions.specs.Answers.{Progress, after_forms, last_line, one_form}
+use Rattle.sessions.specs.FormAnswers.{Progress, after_forms, last_line, one_form}
 use Rattle.sessions.specs.Serve.{HasRead, IsAfter, Serves, ServesInput, ServesWanted, StaysRefused, StaysStopped, pace_wanted}
 use Rattle.prevalence_store.specs.calls.Store.{StoreView}
 use Rattle.sessions.specs.Streams.{Writes}

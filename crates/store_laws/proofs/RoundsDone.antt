@@ -13,13 +13,13 @@ use Rattle.messages.specs.declared.request.Replies.{Replies}
 use Rattle.messages.specs.declared.request.Request.{Request}
 use Rattle.prevalence_store.specs.meaning.Acceptance.{after}
 use Rattle.prevalence_store.specs.meaning.Files.{MeansWorld}
-use Rattle.messages.specs.Answers.{Round, round_after_requests, first_round, each_request}
-use Rattle.messages.specs.Calls.{AnswersRequests, AreAnsweredAndLogged, FailOnDevice, left_after}
+use Rattle.messages.specs.MessageAnswers.{Round, round_after_requests, first_round, each_request}
+use Rattle.messages.specs.MessageCalls.{AnswersRequests, AreAnsweredAndLogged, FailOnDevice, left_after}
 use Rattle.messages.specs.Position.{position_property}
 use Rattle.messages.proofs.Settling.{unchanged_or_failed}
 use Rattle.prevalence_store.proofs.Surviving.{one_world}
 use Rattle.store_laws.specs.Messages.{IsBeforeOrAfter}
-use Rattle.store_laws.specs.Rounds.{AreSteps, HasCome, IsStep, IsWorldAtPlace, Place, Step, requested, quiet, after_rounds, answered_in, begun_from, begun_in, rounds_of, store_after, store_by, with_round}
+use Rattle.store_laws.specs.Rounds.{AreRoundSteps, HasComeToPlace, IsRoundStep, IsWorldAtPlace, Place, Step, requested, quiet, after_rounds, answered_in, begun_from, begun_in, rounds_of, store_after, store_by, with_round}
 use Rattle.store_laws.proofs.MessagesDone.{at_any_moment, closed_at}
 use Rattle.user_macros.specs.Functions.{Functions}
 
@@ -59,8 +59,8 @@ module _ (functions : Functions) where
       subst (MeansWorld functions image) same one.meant
 
 module _ (functions : Functions) {D R : Type 0} (state : D → State) where
-  answers_all : (old new : StoreView D R) (place : Place) → HasCome functions state old place → (requests : List Request) (replies : Replies)
-      → AreAnsweredAndLogged functions state old new place.world (round_at functions place requests) replies → HasCome functions state new (with_round place (round_at functions place requests))
+  answers_all : (old new : StoreView D R) (place : Place) → HasComeToPlace functions state old place → (requests : List Request) (replies : Replies)
+      → AreAnsweredAndLogged functions state old new place.world (round_at functions place requests) replies → HasComeToPlace functions state new (with_round place (round_at functions place requests))
   answers_all old new place come requests replies is =
       let survives = is.survives come.world come.honest come.keeps in
       record {
@@ -70,10 +70,10 @@ module _ (functions : Functions) {D R : Type 0} (state : D → State) where
         keeps = survives.kept (with_round place (round_at functions place requests)).world is.logs.left;
       }
 
-  takes_none : (old new : StoreView D R) (place : Place) → HasCome functions state old place → Survives functions (state old.disk) (state new.disk) place.world [] 0 new.world → IsSome new.world
-      → HasCome functions state new place
+  takes_none : (old new : StoreView D R) (place : Place) → HasComeToPlace functions state old place → Survives functions (state old.disk) (state new.disk) place.world [] 0 new.world → IsSome new.world
+      → HasComeToPlace functions state new place
   takes_none old new place come survives still_open = by new.world refl where
-    by : (left : Option WorldState) → new.world ≡ left → HasCome functions state new place
+    by : (left : Option WorldState) → new.world ≡ left → HasComeToPlace functions state new place
     by None none = absurd (false≢true (subst (λ (w : Option WorldState). IsSome w) none still_open))
     by (Some now) there =
         let one : Some place.world ≡ Some now = survives.after_all now there in
@@ -81,31 +81,31 @@ module _ (functions : Functions) {D R : Type 0} (state : D → State) where
         let here : new.world ≡ Some place.world = there ∙ ap Some same in
         record { world = here; position = come.position; honest = subst IsTrue (sym survives.honest) come.honest; keeps = survives.kept place.world here }
 
-  refuses : (old new : StoreView D R) (place : Place) → HasCome functions state old place → (requests : List Request) (number : ℕ)
-      → AnswersRequests functions state old new place.world place.last requests (Err number) → IsSome new.world → HasCome functions state new place
+  refuses : (old new : StoreView D R) (place : Place) → HasComeToPlace functions state old place → (requests : List Request) (number : ℕ)
+      → AnswersRequests functions state old new place.world place.last requests (Err number) → IsSome new.world → HasComeToPlace functions state new place
   refuses old new place come requests number is still_open = by (unchanged_or_failed functions state old new place.world place.last requests number is) where
-    by : (new ≡ old) ⊎ FailOnDevice functions state old new place.world (round_after_requests functions (first_round place.last place.world) requests) → HasCome functions state new place
-    by (inl same) = subst (λ (s : StoreView D R). HasCome functions state s place) (sym same) come
+    by : (new ≡ old) ⊎ FailOnDevice functions state old new place.world (round_after_requests functions (first_round place.last place.world) requests) → HasComeToPlace functions state new place
+    by (inl same) = subst (λ (s : StoreView D R). HasComeToPlace functions state s place) (sym same) come
     by (inr failed) = absurd (false≢true (subst (λ (w : Option WorldState). IsSome w) failed.failed.unknown still_open))
 
-  after_step : (old : StoreView D R) (place : Place) → HasCome functions state old place → (step : Step D R) → IsStep functions state old place step → IsSome (store_by step).world
-      → HasCome functions state (store_by step) (after_rounds functions place (answered_in step))
+  after_step : (old : StoreView D R) (place : Place) → HasComeToPlace functions state old place → (step : Step D R) → IsRoundStep functions state old place step → IsSome (store_by step).world
+      → HasComeToPlace functions state (store_by step) (after_rounds functions place (answered_in step))
   after_step old place come (requested requests (Ok replies) new) is still_open = answers_all old new place come requests replies is
   after_step old place come (requested requests (Err number) new) is still_open = refuses old new place come requests number is still_open
   after_step old place come (quiet new) is still_open = takes_none old new place come (is come.world come.honest come.keeps) still_open
 
-  pub come_after : (steps : List (Step D R)) (old : StoreView D R) (place : Place) → HasCome functions state old place → AreSteps functions state old place steps
-      → HasCome functions state (store_after old steps) (after_rounds functions place (rounds_of steps))
+  pub come_after : (steps : List (Step D R)) (old : StoreView D R) (place : Place) → HasComeToPlace functions state old place → AreRoundSteps functions state old place steps
+      → HasComeToPlace functions state (store_after old steps) (after_rounds functions place (rounds_of steps))
   come_after [] old place come are = come
   come_after (step ∷ steps) old place come are =
-      subst (λ far. HasCome functions state (store_after (store_by step) steps) far) (sym (rounds_append functions place (answered_in step) (rounds_of steps)))
+      subst (λ far. HasComeToPlace functions state (store_after (store_by step) steps) far) (sym (rounds_append functions place (answered_in step) (rounds_of steps)))
       (come_after steps (store_by step) (after_rounds functions place (answered_in step)) (after_step old place come step are.0 are.1) are.2)
 
-  module _ (sound : (d : D) → IsHonest (state d) → IsSoundDisk (state d)) (old : StoreView D R) (place : Place) (come : HasCome functions state old place) (image : Image) (now : WorldState) (means : MeansWorld functions image now) where
+  module _ (sound : (d : D) → IsHonest (state d) → IsSoundDisk (state d)) (old : StoreView D R) (place : Place) (come : HasComeToPlace functions state old place) (image : Image) (now : WorldState) (means : MeansWorld functions image now) where
     before : now ≡ place.world → IsWorldAtPlace place now
     before same = (same, ap position_property same ∙ come.position)
 
-    in_step : (step : Step D R) → IsStep functions state old place step → (state (store_by step).disk).left_since (state old.disk).moment image
+    in_step : (step : Step D R) → IsRoundStep functions state old place step → (state (store_by step).disk).left_since (state old.disk).moment image
         → IsWorldAtPlace place now ⊎ IsWorldAtPlace (after_rounds functions place (begun_in step)) now
     in_step (requested requests result new) is left =
         by (at_any_moment functions state sound old new place.world come.world come.honest come.keeps place.last requests result image now is left means) where
@@ -115,8 +115,8 @@ module _ (functions : Functions) {D R : Type 0} (state : D → State) where
     in_step (quiet new) is left =
         inl (before (one_world functions image now place.world means (means_none functions place.world image ((is come.world come.honest come.keeps).any_moment.each image left))))
 
-  pub at_one_moment : (sound : (d : D) → IsHonest (state d) → IsSoundDisk (state d)) (old : StoreView D R) (first : Place) (come : HasCome functions state old first) (steps : List (Step D R))
-      → AreSteps functions state old first steps → (step : Step D R) → IsStep functions state (store_after old steps) (after_rounds functions first (rounds_of steps)) step
+  pub at_one_moment : (sound : (d : D) → IsHonest (state d) → IsSoundDisk (state d)) (old : StoreView D R) (first : Place) (come : HasComeToPlace functions state old first) (steps : List (Step D R))
+      → AreRoundSteps functions state old first steps → (step : Step D R) → IsRoundStep functions state (store_after old steps) (after_rounds functions first (rounds_of steps)) step
       → (image : Image) (now : WorldState) → (state (store_by step).disk).left_since (state (store_after old steps).disk).moment image → MeansWorld functions image now
       → IsWorldAtPlace (after_rounds functions first (rounds_of steps)) now ⊎ IsWorldAtPlace (after_rounds functions first (rounds_of steps ++ begun_in step)) now
   at_one_moment sound old first come steps are step is image now left means =

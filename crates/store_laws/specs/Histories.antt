@@ -24,7 +24,7 @@ pub data Event (D : Type 0) : Type 0 where
   -- a stop within an opening, which would have left the first of these disks, refused or not
   stopped_in_opening : D → D → Event D
 
--- the disk that is there then, and the world of the open store: none is open after a device fault, a stop or a refused opening
+-- the disk that is there after an event
 abbrev pub disk_by : {D : Type 0} → Event D → D
 disk_by (opened now world) = now
 disk_by (refused limit fault back) = back
@@ -33,7 +33,8 @@ disk_by (stopped now) = now
 disk_by (stopped_in_call call now) = now
 disk_by (stopped_in_opening there now) = now
 
--- the world that an event left, where it left one that is known
+-- The world of the open store after an event. None, if no store is open then: after a device fault, a stop or a refused
+-- opening.
 abbrev pub world_left_by : {D : Type 0} → Event D → Option WorldState
 world_left_by (opened now world) = Some world
 world_left_by (refused limit fault back) = None
@@ -73,25 +74,25 @@ module _ (functions : Functions) {D : Type 0} (state : D → State) where
   IsOpenedOrNot disk there = Throughout (state disk) (state there) (MeansAsBefore functions (state disk))
 
   -- this happened to a disk, where an open store had this world or none was open
-  abbrev pub Happens : D → Option WorldState → Event D → Type 0
-  Happens disk left (opened now world) = IsOpening disk now world
-  Happens disk left (refused limit fault back) = IsRefusal disk limit fault back
-  Happens disk left (called call) = IsCall disk left call
-  Happens disk left (stopped now) = IsStop state disk disk now
-  Happens disk left (stopped_in_call call now) = IsCall disk left call × IsStop state disk call.disk now
-  Happens disk left (stopped_in_opening there now) = IsOpenedOrNot disk there × IsStop state disk there now
+  abbrev pub EventHappens : D → Option WorldState → Event D → Type 0
+  EventHappens disk left (opened now world) = IsOpening disk now world
+  EventHappens disk left (refused limit fault back) = IsRefusal disk limit fault back
+  EventHappens disk left (called call) = IsCall disk left call
+  EventHappens disk left (stopped now) = IsStop state disk disk now
+  EventHappens disk left (stopped_in_call call now) = IsCall disk left call × IsStop state disk call.disk now
+  EventHappens disk left (stopped_in_opening there now) = IsOpenedOrNot disk there × IsStop state disk there now
 
   -- each of these happened where the one before it ended
-  abbrev pub Happened : D → Option WorldState → List (Event D) → Type 0
-  Happened disk left [] = Unit {0}
-  Happened disk left (event ∷ events) = Happens disk left event × Happened (disk_by event) (world_left_by event) events
+  abbrev pub EventsHappened : D → Option WorldState → List (Event D) → Type 0
+  EventsHappened disk left [] = Unit {0}
+  EventsHappened disk left (event ∷ events) = EventHappens disk left event × EventsHappened (disk_by event) (world_left_by event) events
 
 -- ---- what follows from them
 
 module _ (functions : Functions) {D : Type 0} (state : D → State) (first : WorldState) where
   -- How it stands after events. The line are the forms that were accepted since the first world, without those that a crash took
   -- back; the first so many of them are sure, among them all that were acknowledged.
-  pub record Stands (line : List LogRecord) (sure : ℕ) (disk : D) (left : Option WorldState) : Type 0 where
+  pub record StandsAfterEvents (line : List LogRecord) (sure : ℕ) (disk : D) (left : Option WorldState) : Type 0 where
     pub honest : IsHonest (state disk)
     -- whatever a crash now leaves means the world after some of the line, from the first on, and after those that are sure
     pub keeps : KeepsSome functions (state disk) first line sure
@@ -101,31 +102,31 @@ module _ (functions : Functions) {D : Type 0} (state : D → State) (first : Wor
   -- What follows from these events, after such a line. An opening finds the world after some of the line, and after those that are
   -- sure: these forms are the line from then on, and sure. A refused opening is no word on the files. A call adds the forms that it
   -- took, of which those are sure that it acknowledged; of a call that was stopped none is.
-  abbrev pub Follows : (line : List LogRecord) (sure : ℕ) (disk : D) (left : Option WorldState) → List (Event D) → Type 0
-  Follows line sure disk left [] = Stands line sure disk left
-  Follows line sure disk left (opened now world ∷ events) =
-      (found : IsAfterSome functions first line sure world) × Follows (take found.count line) found.count now (Some world) events
-  Follows line sure disk left (refused limit fault back ∷ events) =
-      IsNoWord (limit_of limit) (state disk).reads fault × Follows line sure back None events
-  Follows line sure disk left (called call ∷ events) =
-      Follows (line ++ call.taken) (length line + call.acknowledged) call.disk call.left events
-  Follows line sure disk left (stopped now ∷ events) = Follows line sure now None events
-  Follows line sure disk left (stopped_in_call call now ∷ events) = Follows (line ++ call.taken) (length line) now None events
-  Follows line sure disk left (stopped_in_opening there now ∷ events) = Follows line sure now None events
+  abbrev pub FollowsFromEvents : (line : List LogRecord) (sure : ℕ) (disk : D) (left : Option WorldState) → List (Event D) → Type 0
+  FollowsFromEvents line sure disk left [] = StandsAfterEvents line sure disk left
+  FollowsFromEvents line sure disk left (opened now world ∷ events) =
+      (found : IsAfterSome functions first line sure world) × FollowsFromEvents (take found.count line) found.count now (Some world) events
+  FollowsFromEvents line sure disk left (refused limit fault back ∷ events) =
+      IsNoWord (limit_of limit) (state disk).reads fault × FollowsFromEvents line sure back None events
+  FollowsFromEvents line sure disk left (called call ∷ events) =
+      FollowsFromEvents (line ++ call.taken) (length line + call.acknowledged) call.disk call.left events
+  FollowsFromEvents line sure disk left (stopped now ∷ events) = FollowsFromEvents line sure now None events
+  FollowsFromEvents line sure disk left (stopped_in_call call now ∷ events) = FollowsFromEvents (line ++ call.taken) (length line) now None events
+  FollowsFromEvents line sure disk left (stopped_in_opening there now ∷ events) = FollowsFromEvents line sure now None events
 
   -- How it stands after these events, whichever they were: what was sure is still there, at the front of the line.
   pub record StillStands (line : List LogRecord) (sure : ℕ) (disk : D) (left : Option WorldState) : Type 0 where
     pub more : List LogRecord
     pub now_sure : ℕ
     pub no_less : sure ≤ now_sure
-    pub stands : Stands (take sure line ++ more) now_sure disk left
+    pub stands : StandsAfterEvents (take sure line ++ more) now_sure disk left
 
--- the disk and the world of the open store after events
+-- the disk that is there after these events
 abbrev pub last_disk : {D : Type 0} → D → List (Event D) → D
 last_disk disk [] = disk
 last_disk disk (event ∷ events) = last_disk (disk_by event) events
 
--- the world after these events
+-- the world of the open store after these events; None, if none is open
 abbrev pub last_left : {D : Type 0} → Option WorldState → List (Event D) → Option WorldState
 last_left left [] = left
 last_left left (event ∷ events) = last_left (world_left_by event) events

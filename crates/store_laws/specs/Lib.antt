@@ -5,7 +5,7 @@ pub mod Batches
 -- what a session over an input comes to
 pub mod Outcomes
 -- what is handed to the recipient of a session
-pub mod Sessions
+pub mod SessionLines
 -- what a crash leaves of a store in which messages were answered
 pub mod Messages
 -- rounds of messages, one after the other

@@ -9,7 +9,7 @@ use Rattle.session_words.specs.declared.mode.Mode.{Mode}
 use Rattle.sessions.specs.declared.ending.Ended.{Ended}
 use Rattle.sessions.specs.declared.ending.Ended.TheVariants.{End, Unreadable, Unaccepted, Store}
 use Rattle.prevalence_store.specs.meaning.Acceptance.{read_in}
-use Rattle.sessions.specs.Answers.{Progress, after_forms, last_line, one_form}
+use Rattle.sessions.specs.FormAnswers.{Progress, after_forms, last_line, one_form}
 use Rattle.sessions.specs.Serve.{IsAfter}
 use Rattle.prevalence_store.specs.calls.Store.{StoreView}
 use Rattle.sessions.specs.Streams.{Writes}

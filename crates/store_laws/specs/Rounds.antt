@@ -8,8 +8,8 @@ use Rattle.prevalence_store.specs.calls.Execute.{SurvivesAs}
 use Rattle.prevalence_store.specs.calls.Store.{StoreView}
 use Rattle.messages.specs.declared.request.Replies.{Replies}
 use Rattle.messages.specs.declared.request.Request.{Request}
-use Rattle.messages.specs.Answers.{Round, round_after_requests, first_round, each_request, one_request}
-use Rattle.messages.specs.Calls.{AnswersRequests, left_after}
+use Rattle.messages.specs.MessageAnswers.{Round, round_after_requests, first_round, each_request, one_request}
+use Rattle.messages.specs.MessageCalls.{AnswersRequests, left_after}
 use Rattle.messages.specs.Position.{position_property}
 use Rattle.user_macros.specs.Functions.{Functions}
 
@@ -19,11 +19,11 @@ pub record Place : Type 0 where
   pub last : ℕ
   pub position : Option Object
 
--- before the first round, after a message of this number
+-- how far messages have come before the first round, after a message of this number
 abbrev pub place_at : ℕ → WorldState → Place
 place_at last world = record { world = world; last = last; position = position_property world }
 
--- what the next round begins with
+-- the round that goes on from there, before its first request
 abbrev pub begun_from : Place → Round
 begun_from place = first_round place.last place.world
 
@@ -35,7 +35,7 @@ with_round place round = record {
   position = if round.wrote then Some (integer (pos round.last)) else place.position;
 }
 
--- each round from where the one before it came to
+-- how far messages have come after these rounds, each from where the one before it came to
 abbrev pub after_rounds : Functions → Place → List (List Request) → Place
 after_rounds functions place rounds = fold (λ far requests. with_round far (round_after_requests functions (begun_from far) requests)) place rounds
 
@@ -75,7 +75,7 @@ abbrev pub store_by : {D R : Type 0} → Step D R → StoreView D R
 store_by (requested requests result store) = store
 store_by (quiet store) = store
 
--- the requests that were begun in it, and those that were answered
+-- the requests that a step began, answered or not
 abbrev pub begun_in : {D R : Type 0} → Step D R → List (List Request)
 begun_in (requested requests result store) = requests ∷ []
 begun_in (quiet store) = []
@@ -86,7 +86,7 @@ answered_in (requested requests (Ok replies) store) = requests ∷ []
 answered_in (requested requests (Err number) store) = []
 answered_in (quiet store) = []
 
--- the rounds that were answered, and the store after all steps
+-- the rounds that these steps answered
 abbrev pub rounds_of : {D R : Type 0} → List (Step D R) → List (List Request)
 rounds_of [] = []
 rounds_of (step ∷ steps) = answered_in step ++ rounds_of steps
@@ -97,18 +97,20 @@ store_after old [] = old
 store_after old (step ∷ steps) = store_after (store_by step) steps
 
 module _ (functions : Functions) {D R : Type 0} (state : D → State) where
-  abbrev pub IsStep : StoreView D R → Place → Step D R → Type 0
-  IsStep old place (requested requests result new) = AnswersRequests functions state old new place.world place.last requests result
-  IsStep old place (quiet new) = SurvivesAs functions state old new place.world [] 0
+  -- what a step does to a store that has come so far: it answers requests; or it takes no form, and survives
+  abbrev pub IsRoundStep : StoreView D R → Place → Step D R → Type 0
+  IsRoundStep old place (requested requests result new) = AnswersRequests functions state old new place.world place.last requests result
+  IsRoundStep old place (quiet new) = SurvivesAs functions state old new place.world [] 0
 
-  -- Each from the world and the last number that the one before it left; and the store was still open after each.
-  abbrev pub AreSteps : StoreView D R → Place → List (Step D R) → Type 0
-  AreSteps old place [] = Unit {0}
-  AreSteps old place (step ∷ steps) =
-      IsStep old place step × IsSome (store_by step).world × AreSteps (store_by step) (after_rounds functions place (answered_in step)) steps
+  -- Steps one after the other, each from the world and the last number that the one before it left; and the store was still
+  -- open after each.
+  abbrev pub AreRoundSteps : StoreView D R → Place → List (Step D R) → Type 0
+  AreRoundSteps old place [] = Unit {0}
+  AreRoundSteps old place (step ∷ steps) =
+      IsRoundStep old place step × IsSome (store_by step).world × AreRoundSteps (store_by step) (after_rounds functions place (answered_in step)) steps
 
   -- The store has come so far, and whatever a crash now leaves means its world.
-  pub record HasCome (store : StoreView D R) (place : Place) : Type 0 where
+  pub record HasComeToPlace (store : StoreView D R) (place : Place) : Type 0 where
     pub world : store.world ≡ Some place.world
     pub position : position_property place.world ≡ place.position
     pub honest : IsHonest (state store.disk)

@@ -4,7 +4,7 @@ ghost use Rattle.disk_trait.specs.Disk.{Image, IsFresh, IsHonest};
 ghost use Rattle.gate_log.specs.Layout.{LogRecord};
 ghost use Rattle.plist_state.specs.State.{WorldState, initial};
 ghost use Rattle.prevalence_store.specs.Theorem.{Call, Keeps, MeansSome};
-ghost use Rattle.store_laws.specs.Histories.{Event, Follows, Happened, IsCall, IsOpenedOrNot, Stands, StillStands, last_disk, last_left};
+ghost use Rattle.store_laws.specs.Histories.{Event, FollowsFromEvents, EventsHappened, IsCall, IsOpenedOrNot, StandsAfterEvents, StillStands, last_disk, last_left};
 ghost use Rattle.user_macros.specs.Functions.{Functions};
 
 use disk_trait::Disk;
@@ -22,26 +22,26 @@ use prevalence_store::{fresh_files, recoveries};
 pub fn histories<D: Disk>()
     ensures of_files { (functions : Functions) (start : D) (first : WorldState) (events : List (Event D))
         → IsHonest (D.state start) → Keeps functions (D.state start) first
-        → Happened functions D.state start None events
-        → Follows functions D.state first [] 0 start None events }
+        → EventsHappened functions D.state start None events
+        → FollowsFromEvents functions D.state first [] 0 start None events }
     ensures of_fresh_files { (functions : Functions) (start : D) (events : List (Event D))
         → IsFresh (D.state start)
-        → Happened functions D.state start None events
-        → Follows functions D.state initial [] 0 start None events }
+        → EventsHappened functions D.state start None events
+        → FollowsFromEvents functions D.state initial [] 0 start None events }
     ensures goes_on { (functions : Functions) (first : WorldState) (line : List LogRecord) (sure : ℕ)
         → (disk : D) (left : Option WorldState) (events : List (Event D))
-        → Stands functions D.state first line sure disk left
-        → Happened functions D.state disk left events
-        → Follows functions D.state first line sure disk left events
+        → StandsAfterEvents functions D.state first line sure disk left
+        → EventsHappened functions D.state disk left events
+        → FollowsFromEvents functions D.state first line sure disk left events
         × StillStands functions D.state first line sure (last_disk disk events) (last_left left events) }
     ensures in_call { (functions : Functions) (first : WorldState) (line : List LogRecord) (sure : ℕ)
         → (disk : D) (left : Option WorldState) (call : Call D)
-        → Stands functions D.state first line sure disk left → IsCall functions D.state disk left call
+        → StandsAfterEvents functions D.state first line sure disk left → IsCall functions D.state disk left call
         → (image : Image) → (D.state call.disk).left_since (D.state disk).moment image
         → MeansSome functions first (line ++ call.taken) (length line) image }
     ensures in_opening { (functions : Functions) (first : WorldState) (line : List LogRecord) (sure : ℕ)
         → (disk there : D) (left : Option WorldState)
-        → Stands functions D.state first line sure disk left → IsOpenedOrNot functions D.state disk there
+        → StandsAfterEvents functions D.state first line sure disk left → IsOpenedOrNot functions D.state disk there
         → (image : Image) → (D.state there).left_since (D.state disk).moment image
         → MeansSome functions first line sure image }
 {

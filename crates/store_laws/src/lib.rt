@@ -13,7 +13,7 @@
 //! - `batches`: of calls that log their forms together a crash leaves all forms of some of them, from the first on, and of none a part
 //!   (`specs/Batches.antt`)
 //! - `sessions`: what a session does between two times that it hands lines on is a call which has acknowledged their forms; so at each
-//!   moment of it, up to its end, all forms are there whose lines were handed on, and of no group a part (`specs/Sessions.antt`)
+//!   moment of it, up to its end, all forms are there whose lines were handed on, and of no group a part (`specs/SessionLines.antt`)
 //! - `each_once`: what a crash leaves of a store in which messages were answered has all of them or none, and the position that tells
 //!   so (`specs/Messages.antt`)
 //! - `rounds`: so of rounds in a row, at each moment: the messages up to the position are in, and no answered message over it wrote

@@ -7,8 +7,8 @@ ghost use Rattle.prevalence_store.specs.calls.Store.{StoreView};
 ghost use Rattle.messages.specs.declared.request.Replies.{Replies};
 ghost use Rattle.messages.specs.declared.request.Request.{Request};
 ghost use Rattle.prevalence_store.specs.meaning.Files.{MeansWorld};
-ghost use Rattle.messages.specs.Answers.{round_after_requests, first_round};
-ghost use Rattle.messages.specs.Calls.{AnswersRequests, left_after};
+ghost use Rattle.messages.specs.MessageAnswers.{round_after_requests, first_round};
+ghost use Rattle.messages.specs.MessageCalls.{AnswersRequests, left_after};
 ghost use Rattle.store_laws.specs.Messages.{IsBeforeOrAfter};
 ghost use Rattle.user_macros.specs.Functions.{Functions};
 

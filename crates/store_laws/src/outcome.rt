@@ -7,7 +7,7 @@ ghost use Rattle.session_words.specs.declared.mode.Mode.{Mode};
 ghost use Rattle.sessions.specs.declared.ending.Ended.{Ended};
 ghost use Rattle.sessions.specs.declared.ending.Place.{Place};
 ghost use Rattle.session_words.specs.declared.wanted.SessionOptions.{SessionOptions};
-ghost use Rattle.sessions.specs.Answers.{Progress};
+ghost use Rattle.sessions.specs.FormAnswers.{Progress};
 ghost use Rattle.store_laws.specs.Outcomes.{BreaksOff, Completes, HasForms, IsByInput, StopsAtRefusal};
 ghost use Rattle.user_macros.specs.Functions.{Functions};
 

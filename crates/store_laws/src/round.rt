@@ -6,7 +6,7 @@ ghost use Rattle.prevalence_store.specs.Theorem.{Keeps};
 ghost use Rattle.prevalence_store.specs.calls.Store.{StoreView};
 ghost use Rattle.messages.specs.declared.request.Request.{Request};
 ghost use Rattle.prevalence_store.specs.meaning.Files.{MeansWorld};
-ghost use Rattle.store_laws.specs.Rounds.{AreSteps, HasCome, HasWritten, IsStep, IsWorldAtPlace, IsUpToPosition, Place, Step, after_rounds, begun_in, place_at, rounds_of, store_after, store_by};
+ghost use Rattle.store_laws.specs.Rounds.{AreRoundSteps, HasComeToPlace, HasWritten, IsRoundStep, IsWorldAtPlace, IsUpToPosition, Place, Step, after_rounds, begun_in, place_at, rounds_of, store_after, store_by};
 ghost use Rattle.user_macros.specs.Functions.{Functions};
 
 use disk_trait::Disk;
@@ -25,13 +25,13 @@ pub fn rounds<D: Disk, R>()
     ensures in_between { (functions : Functions) (old : StoreView D R) (world : WorldState) (last : ℕ)
         (steps : List (Step D R))
         → old.world ≡ Some world → IsHonest (D.state old.disk) → Keeps functions (D.state old.disk) world
-        → AreSteps functions D.state old (place_at last world) steps
-        → HasCome functions D.state (store_after old steps) (after_rounds functions (place_at last world) (rounds_of steps)) }
+        → AreRoundSteps functions D.state old (place_at last world) steps
+        → HasComeToPlace functions D.state (store_after old steps) (after_rounds functions (place_at last world) (rounds_of steps)) }
     ensures any_moment { (functions : Functions) (old : StoreView D R) (world now : WorldState) (last : ℕ)
         (steps : List (Step D R)) (step : Step D R) (image : Image)
         → old.world ≡ Some world → IsHonest (D.state old.disk) → Keeps functions (D.state old.disk) world
-        → AreSteps functions D.state old (place_at last world) steps
-        → IsStep functions D.state (store_after old steps) (after_rounds functions (place_at last world) (rounds_of steps)) step
+        → AreRoundSteps functions D.state old (place_at last world) steps
+        → IsRoundStep functions D.state (store_after old steps) (after_rounds functions (place_at last world) (rounds_of steps)) step
         → (D.state (store_by step).disk).left_since (D.state (store_after old steps).disk).moment image → MeansWorld functions image now
         → IsWorldAtPlace (after_rounds functions (place_at last world) (rounds_of steps)) now
         ⊎ IsWorldAtPlace (after_rounds functions (place_at last world) (rounds_of steps ++ begun_in step)) now }

@@ -4,7 +4,7 @@ ghost use Rattle.disk_trait.specs.Disk.{IsHonest};
 ghost use Rattle.prevalence_store.specs.Theorem.{Keeps};
 ghost use Rattle.sessions.specs.Account.{Account, AreStored, AreUnderWay, with_forms};
 ghost use Rattle.prevalence_store.specs.calls.Store.{StoreView};
-ghost use Rattle.store_laws.specs.Sessions.{AreCalls, AreHanded, Handing, account_after, call_since, calls_of};
+ghost use Rattle.store_laws.specs.SessionLines.{AreCalls, AreHanded, Handing, account_after, call_since, calls_of};
 ghost use Rattle.user_macros.specs.Functions.{Functions};
 
 use crate::batch::batches;

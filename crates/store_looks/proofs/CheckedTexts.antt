@@ -16,7 +16,7 @@ use Rattle.prevalence_store.specs.calls.Store.{StoreView}
 use Rattle.store_commands.specs.Session.{half_limit}
 use Rattle.store_commands.specs.Status.{IsOfWords}
 use Rattle.store_commands.specs.declared.status.Status.{Status}
-use Rattle.store_looks.specs.CheckReports.{Checks, EndsSo, FindsIn, IsCheckText, IsTextOf, IsWorldOfFolder, TellsForms}
+use Rattle.store_looks.specs.CheckReports.{Checks, EndsCheck, FindsIn, IsCheckText, IsTextOf, IsWorldOfFolder, TellsForms}
 use Rattle.store_looks.specs.LookReports.{HasWorldThat, notation_of}
 use Rattle.store_looks.specs.FailedLooks.{status_of}
 use Rattle.store_looks.proofs.Looking.{at_world}
@@ -30,7 +30,7 @@ module _ (functions registered : Functions) {R : Type 0} (macros : R) (input hel
   pub forms_told : (asked : Check) (text seen : List ℕ) (world : WorldState) (found : Checking) (lines told : List ℕ) (all : Bool) (status : Status) → seen ≡ text → told ≡ lines
       → IsTextOf (text_of asked.file) input text → IsWorldOfFolder functions macros (text_of asked.store) world → FindsIn registered world seen found → (notation : Notation)
       → notation ≡ notation_of asked.json → IsCheckText notation found lines
-      → all ≡ (length found.1 == 0) → EndsSo all held written told status → TellsForms functions registered macros input held written asked status
+      → all ≡ (length found.1 == 0) → EndsCheck all held written told status → TellsForms functions registered macros input held written asked status
   forms_told asked text seen world found lines told all status seen_is told_is text_is world_is finds notation asked_so lines_are all_is ends = record {
     text = text;
     text_is = text_is;
@@ -40,7 +40,7 @@ module _ (functions registered : Functions) {R : Type 0} (macros : R) (input hel
     finds = subst (λ (t : List ℕ). FindsIn registered world t found) seen_is finds;
     told = lines;
     told_is = subst (λ (n : Notation). IsCheckText n found lines) asked_so lines_are;
-    tells = subst (λ (b : Bool). EndsSo b held written lines status) all_is (subst (λ (t : List ℕ). EndsSo all held written t status) told_is ends);
+    tells = subst (λ (b : Bool). EndsCheck b held written lines status) all_is (subst (λ (t : List ℕ). EndsCheck all held written t status) told_is ends);
   }
 
   module _ (words : List Text) where

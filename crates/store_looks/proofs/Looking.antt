@@ -28,11 +28,11 @@ use Rattle.store_commands.specs.Report.{IsReport}
 use Rattle.store_commands.specs.Status.{IsOfWords}
 use Rattle.store_reports.specs.Log.{IsLogText, least_records}
 use Rattle.store_commands.specs.Session.{half_limit}
-use Rattle.store_commands.specs.Texts.{TellsText}
+use Rattle.store_commands.specs.StatusAfterText.{TellsText}
 use Rattle.store_commands.specs.declared.status.Status.{Status}
 use Rattle.store_commands.specs.declared.status.Status.TheVariants as statuses
 use Rattle.store_looks.specs.Looks.{PrintsText}
-use Rattle.store_looks.specs.LookReports.{BacksUp, IsSelection, TellsProperties, WithholdsProperties, LooksAsAsked, LooksAt, System, TellsDump, TellsFigures, TellsFileFigures, TellsInfo, TellsLog, TellsLook, TellsShown, TellsVerified, Unopens, WithholdsBackup, WithholdsDump, WithholdsFigures, WithholdsFileFigures, WithholdsInfo, WithholdsLog, WithholdsLook, WithholdsShown, WithholdsVerified, notation_of, part_of, status_in}
+use Rattle.store_looks.specs.LookReports.{BacksUp, IsSelection, TellsProperties, WithholdsProperties, LooksAsAsked, LooksAt, System, TellsDump, TellsFigures, TellsFileFigures, TellsInfo, TellsLog, TellsLook, TellsShown, TellsVerified, OpensAsNoStore, WithholdsBackup, WithholdsDump, WithholdsFigures, WithholdsFileFigures, WithholdsInfo, WithholdsLog, WithholdsLook, WithholdsShown, WithholdsVerified, notation_of, part_of, status_in}
 use Rattle.store_looks.specs.FailedLooks.{IsOfBackup, of_log, of_show}
 use Rattle.store_reports.specs.Figures.{AreFiguresOf, file_info_text, info_text, verified_text}
 use Rattle.store_reports.specs.declared.backups.BackupError.{BackupError}
@@ -250,15 +250,15 @@ module _ (sight : Sight) where
   log_failed records error why none is = (error, none, is)
 
 -- the store was not opened
-pub unopens : (functions : Functions) (whole : Bool) (sight : Sight) (number : ℕ) (back : Sight) → IsUnopened functions state_of_sight sight whole half_limit number back → Unopens functions whole sight (unlooked.Fault number)
-unfolding Unopens
+pub unopens : (functions : Functions) (whole : Bool) (sight : Sight) (number : ℕ) (back : Sight) → IsUnopened functions state_of_sight sight whole half_limit number back → OpensAsNoStore functions whole sight (unlooked.Fault number)
+unfolding OpensAsNoStore
 unopens functions whole sight number back refused = (number, back, refused, refl)
 
 -- nor told of
 module _ (functions : Functions) (whole : Bool) (sight : Sight) where
-  pub verify_unopened : (given why : Unlooked) → why ≡ given → Unopens functions whole sight given → WithholdsVerified functions whole sight why
+  pub verify_unopened : (given why : Unlooked) → why ≡ given → OpensAsNoStore functions whole sight given → WithholdsVerified functions whole sight why
   unfolding WithholdsVerified
-  verify_unopened given why is not = inl (subst (Unopens functions whole sight) (sym is) not)
+  verify_unopened given why is not = inl (subst (OpensAsNoStore functions whole sight) (sym is) not)
 
   pub verify_memory : (why : Unlooked) → why ≡ unlooked.Fault NO_MEMORY → WithholdsVerified functions whole sight why
   unfolding WithholdsVerified
@@ -275,7 +275,7 @@ module _ (functions : Functions) {R : Type 0} (macros : R) (sight : Sight) where
   pub dump_unopened : (whole : Bool) (place : RecordPlace) (cut : Sight) → IsCut place.number place.generation (state_of_sight sight).reads (state_of_sight cut).reads
       → (number : ℕ) (back : Sight) → IsUnopened functions state_of_sight cut whole half_limit number back
       → WithholdsDump functions macros whole place sight (unlooked.Fault number)
-  unfolding WithholdsDump Unopens
+  unfolding WithholdsDump OpensAsNoStore
   dump_unopened whole place cut is number back refused = inr (cut, is, (number, back, refused, refl))
 
   pub dump_failed : (whole : Bool) (place : RecordPlace) (error : LogError) (why : Unlooked) → IsNoPlace place.number place.generation error (state_of_sight sight).reads → why ≡ of_log error
@@ -283,9 +283,9 @@ module _ (functions : Functions) {R : Type 0} (macros : R) (sight : Sight) where
   unfolding WithholdsDump
   dump_failed whole place error why none is = inl (error, none, is)
 
-  pub show_unopened : (whole : Bool) (shown : Shown) (given why : Unlooked) → why ≡ given → Unopens functions whole sight given → WithholdsShown functions macros whole shown sight why
+  pub show_unopened : (whole : Bool) (shown : Shown) (given why : Unlooked) → why ≡ given → OpensAsNoStore functions whole sight given → WithholdsShown functions macros whole shown sight why
   unfolding WithholdsShown
-  show_unopened whole shown given why is not = inl (subst (Unopens functions whole sight) (sym is) not)
+  show_unopened whole shown given why is not = inl (subst (OpensAsNoStore functions whole sight) (sym is) not)
 
   -- a backup was made of the world of the store that was opened, or not
   module _ (store : StoreView Sight R) (opened : IsOpened functions state_of_sight sight macros half_limit store) (made : WorldState → Type 0) (unmade : WorldState → BackupError → Type 0) where
@@ -303,9 +303,9 @@ module _ (functions : Functions) {R : Type 0} (macros : R) (sight : Sight) where
         let here : MatchResult result (λ _. made opened.world) (unmade opened.world) = at_world (λ world. MatchResult result (λ _. made world) (unmade world)) store.world opened.world opened.known backs in
         inr (error, record { opened = store; is_opened = opened; is = subst (λ (r : Result U BackupError). MatchResult r (λ _. made opened.world) (unmade opened.world)) is here }, given)
 
-  pub backup_unopened : (whole : Bool) (unmade : WorldState → BackupError → Type 0) (given why : Unlooked) → why ≡ given → Unopens functions whole sight given → WithholdsBackup functions macros whole unmade sight why
+  pub backup_unopened : (whole : Bool) (unmade : WorldState → BackupError → Type 0) (given why : Unlooked) → why ≡ given → OpensAsNoStore functions whole sight given → WithholdsBackup functions macros whole unmade sight why
   unfolding WithholdsBackup
-  backup_unopened whole unmade given why is not = inl (subst (Unopens functions whole sight) (sym is) not)
+  backup_unopened whole unmade given why is not = inl (subst (OpensAsNoStore functions whole sight) (sym is) not)
 
   module _ (whole : Bool) (measured : Result Figures HostError → Type 0) where
     -- no figures
@@ -317,10 +317,10 @@ module _ (functions : Functions) {R : Type 0} (macros : R) (sight : Sight) where
     unfolding WithholdsFigures
     info_failed error why none is = inr (inl (error, none, is))
 
-    pub info_unopened : (same : Sight) (given why : Unlooked) → why ≡ given → (state_of_sight same).reads ≡ (state_of_sight sight).reads → Unopens functions whole same given
+    pub info_unopened : (same : Sight) (given why : Unlooked) → why ≡ given → (state_of_sight same).reads ≡ (state_of_sight sight).reads → OpensAsNoStore functions whole same given
         → WithholdsFigures functions macros whole measured sight why
     unfolding WithholdsFigures
-    info_unopened same given why is reads not = inr (inr (same, reads, inl (subst (Unopens functions whole same) (sym is) not)))
+    info_unopened same given why is reads not = inr (inr (same, reads, inl (subst (OpensAsNoStore functions whole same) (sym is) not)))
 
     pub info_memory : (why : Unlooked) → why ≡ unlooked.Fault NO_MEMORY → WithholdsFigures functions macros whole measured sight why
     unfolding WithholdsFigures

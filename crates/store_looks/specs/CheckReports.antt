@@ -7,7 +7,7 @@ use Rattle.command_words.specs.CheckLine.{AsksToCheck}
 use Rattle.command_words.specs.LookLine.{text_of}
 use Rattle.command_words.specs.declared.check.Check.{Check}
 use Rattle.diagnostics.specs.Refusals.{form_of, line_of}
-use Rattle.diagnostics.specs.Texts.{WritesFront}
+use Rattle.diagnostics.specs.StreamTexts.{WritesFront}
 use Rattle.diagnostics.specs.declared.refusal.Refusal.{Refusal}
 use Rattle.diagnostics.specs.declared.refusal.Spots.{Spots}
 use Rattle.form_check.specs.Checking.{Checking, check_of_text, setting_under}
@@ -86,14 +86,14 @@ pub record IsCheckText (notation : Notation) (found : Checking) (text : List ℕ
   pub is : text ≡ flat_map (unreadable_text notation) refusals ++ counts_text notation found.0 (length found.1)
 
 -- it was written, and the status says whether all forms can be read; or a part of it, and the output failed
-unfoldable pub EndsSo : Bool → Option (List ℕ) → Option (List ℕ) → List ℕ → Status → Type 0
-EndsSo all_are_readable held written text statuses.Done = Writes held written text × (all_are_readable ≡ true)
-EndsSo all_are_readable held written text statuses.FormRefused = Writes held written text × (all_are_readable ≡ false)
-EndsSo all_are_readable held written text (statuses.Fault number) = (number ≡ OUTPUT) × WritesFront held written text
-EndsSo all_are_readable held written text statuses.Helped = ⊥
-EndsSo all_are_readable held written text statuses.Unanswered = ⊥
-EndsSo all_are_readable held written text statuses.WordsRefused = ⊥
-EndsSo all_are_readable held written text statuses.LeftOut = ⊥
+unfoldable pub EndsCheck : Bool → Option (List ℕ) → Option (List ℕ) → List ℕ → Status → Type 0
+EndsCheck all_are_readable held written text statuses.Done = Writes held written text × (all_are_readable ≡ true)
+EndsCheck all_are_readable held written text statuses.FormRefused = Writes held written text × (all_are_readable ≡ false)
+EndsCheck all_are_readable held written text (statuses.Fault number) = (number ≡ OUTPUT) × WritesFront held written text
+EndsCheck all_are_readable held written text statuses.Helped = ⊥
+EndsCheck all_are_readable held written text statuses.Unanswered = ⊥
+EndsCheck all_are_readable held written text statuses.WordsRefused = ⊥
+EndsCheck all_are_readable held written text statuses.LeftOut = ⊥
 
 -- ---- under which world a text is read
 
@@ -124,7 +124,7 @@ module _ (functions registered : Functions) {R : Type 0} (macros : R) (input hel
     pub finds : FindsIn registered world text found
     pub told : List ℕ
     pub told_is : IsCheckText (notation_of asked.json) found told
-    pub tells : EndsSo (length found.1 == 0) held written told status
+    pub tells : EndsCheck (length found.1 == 0) held written told status
 
   -- the words are refused, or ask for help; or they ask for such a text, and this is told of it, or nothing
   unfoldable pub Checks : List Text → Status → Type 0

@@ -26,7 +26,7 @@ use Rattle.prevalence_store.specs.calls.Store.{StoreView}
 use Rattle.store_commands.specs.Folders.{OpensStore}
 use Rattle.store_commands.specs.Report.{IsReport}
 use Rattle.store_commands.specs.Session.{half_limit}
-use Rattle.store_commands.specs.Texts.{TellsText}
+use Rattle.store_commands.specs.StatusAfterText.{TellsText}
 use Rattle.store_commands.specs.Status.{IsOfWords}
 use Rattle.store_commands.specs.declared.status.Status.{Status}
 use Rattle.store_commands.specs.declared.status.Status.TheVariants as statuses
@@ -36,7 +36,7 @@ use Rattle.store_looks.specs.declared.unlooked.Unlooked.TheVariants as unlooked
 use Rattle.store_reports.specs.Backup.{IsBackupMade, HasNoBackup}
 use Rattle.store_reports.specs.Figures.{AreFiguresOf, file_info_text, info_text, verified_text}
 use Rattle.store_reports.specs.Log.{IsLogText, least_records}
-use Rattle.store_reports.specs.Places.{Deed}
+use Rattle.store_reports.specs.NewStorePlaces.{Deed}
 use Rattle.store_reports.specs.PropertyCounts.{IsCountText, IsNoCount}
 use Rattle.store_reports.specs.ShownProperties.{ArePropertiesShown, ArePropertiesUnshown}
 use Rattle.store_reports.specs.declared.backups.BackupError.{BackupError}
@@ -52,8 +52,8 @@ use Rattle.user_macros.specs.Functions.{Functions}
 -- ---- the folder
 
 -- The files of a folder are opened so, of which one is a half in use; no folder has an empty name.
-unfoldable pub Sees : (Sight → Option HostError → Type 0) → (Text → IfMissing → Result Sight HostError → Type 0) → Text → Result Sight HostError → Type 0
-Sees tells opens folder result = ((folder ≡ []) × (result ≡ Err NoName)) ⊎ ((folder ≢ []) × OpensStore state_of_sight tells opens folder true result)
+unfoldable pub SeesFolder : (Sight → Option HostError → Type 0) → (Text → IfMissing → Result Sight HostError → Type 0) → Text → Result Sight HostError → Type 0
+SeesFolder tells opens folder result = ((folder ≡ []) × (result ≡ Err NoName)) ⊎ ((folder ≢ []) × OpensStore state_of_sight tells opens folder true result)
 
 -- ---- the system
 
@@ -109,7 +109,7 @@ part_of records = record {
 
 -- ---- the records of what was seen
 
--- the lines of those that are asked for were written
+-- the lines of the records that are asked for were written
 unfoldable pub TellsLog : Option (List ℕ) → Option (List ℕ) → Records → Sight → Status → Type 0
 TellsLog held written records sight status =
     (text : List ℕ) × IsLogText (part_of records) (state_of_sight sight).reads text × TellsText status held written text
@@ -138,7 +138,7 @@ WithholdsFileFigures measured sight why =
 -- ---- a store that was seen is opened in memory, with these macro functions
 
 module _ (functions : Functions) {R : Type 0} (macros : R) where
-  -- a text of its world was written
+  -- the files that were seen opened as a store, and a text of its world was written
   pub record TellsOfWorld (Is : WorldState → List ℕ → Type 0) (sight : Sight) (held written : Option (List ℕ)) (status : Status) : Type 0 where
     pub opened : StoreView Sight R
     pub is_opened : IsOpened functions state_of_sight sight macros half_limit opened
@@ -152,7 +152,7 @@ module _ (functions : Functions) {R : Type 0} (macros : R) where
     pub is_opened : IsOpened functions state_of_sight sight macros half_limit opened
     pub is : Is is_opened.world
 
-  -- a backup was made of its world
+  -- the files that were seen opened as a store, and a backup was made of its world
   unfoldable pub BacksUp : (WorldState → Type 0) → Sight → Status → Type 0
   BacksUp made sight status = HasWorldThat made sight × (status ≡ statuses.Done)
 
@@ -169,7 +169,7 @@ module _ (functions : Functions) {R : Type 0} (macros : R) where
       pub reads : (state_of_sight same).reads ≡ (state_of_sight sight).reads
       pub tells : TellsOfWorld (λ world text. text ≡ info_text notation half world files) same held written status
 
-    -- those of the half in use that was seen and of the files, or these with those of its world
+    -- the figures of the half in use that was seen and of the files, or these with the figures of its world
     unfoldable pub TellsInfo : InfoPart → (Result Figures HostError → Type 0) → Sight → Status → Type 0
     TellsInfo part measured sight status =
         ((part.files ≡ true) × TellsFileFigures held written (notation_of part.json) measured sight status)
@@ -202,14 +202,14 @@ module _ (functions : Functions) {R : Type 0} (macros : R) where
     TellsLook system folder (Dump place) sight status = TellsDump place sight status
     TellsLook system folder Verify sight status = TellsVerified sight status
 
--- it was not opened, all macro functions registered or not
-unfoldable pub Unopens : Functions → Bool → Sight → Unlooked → Type 0
-Unopens functions whole sight why =
+-- the files that were seen opened as no store, whether all macro functions are registered or not
+unfoldable pub OpensAsNoStore : Functions → Bool → Sight → Unlooked → Type 0
+OpensAsNoStore functions whole sight why =
     (number : ℕ) × (back : Sight) × IsUnopened functions state_of_sight sight whole half_limit number back × (why ≡ unlooked.Fault number)
 
--- nor, where memory was refused, told of
+-- why `verify` tells nothing: the files opened as no store, or memory ran out
 unfoldable pub WithholdsVerified : Functions → Bool → Sight → Unlooked → Type 0
-WithholdsVerified functions whole sight why = Unopens functions whole sight why ⊎ (why ≡ unlooked.Fault NO_MEMORY)
+WithholdsVerified functions whole sight why = OpensAsNoStore functions whole sight why ⊎ (why ≡ unlooked.Fault NO_MEMORY)
 
 -- why nothing is told
 module _ (functions : Functions) {R : Type 0} (macros : R) (whole : Bool) where
@@ -218,7 +218,7 @@ module _ (functions : Functions) {R : Type 0} (macros : R) (whole : Bool) where
   WithholdsFigures measured sight why =
       ((error : HostError) × measured (Err error) × (why ≡ unlooked.Host error))
       ⊎ (((error : LogError) × IsNoLog error (state_of_sight sight).reads × (why ≡ of_log error))
-      ⊎ ((same : Sight) × ((state_of_sight same).reads ≡ (state_of_sight sight).reads) × (Unopens functions whole same why ⊎ (why ≡ unlooked.Fault NO_MEMORY))))
+      ⊎ ((same : Sight) × ((state_of_sight same).reads ≡ (state_of_sight sight).reads) × (OpensAsNoStore functions whole same why ⊎ (why ≡ unlooked.Fault NO_MEMORY))))
 
   -- why `info` tells nothing
   unfoldable pub WithholdsInfo : InfoPart → (Result Figures HostError → Type 0) → Sight → Unlooked → Type 0
@@ -228,21 +228,23 @@ module _ (functions : Functions) {R : Type 0} (macros : R) (whole : Bool) where
   -- why `show` tells nothing
   unfoldable pub WithholdsShown : Shown → Sight → Unlooked → Type 0
   WithholdsShown shown sight why =
-      Unopens functions whole sight why
+      OpensAsNoStore functions whole sight why
       ⊎ ((selection : Selection) × IsSelection shown selection
       × ((error : ShowError) × HasWorldThat functions macros (λ world. WithholdsProperties shown.count selection world error) sight × (why ≡ of_show error)))
 
+  -- why `dump` tells nothing: there is no such record, or the files, cut off after it, opened as no store
   unfoldable pub WithholdsDump : RecordPlace → Sight → Unlooked → Type 0
   WithholdsDump place sight why =
       ((error : LogError) × IsNoPlace place.number place.generation error (state_of_sight sight).reads × (why ≡ of_log error))
-      ⊎ ((cut : Sight) × IsCut place.number place.generation (state_of_sight sight).reads (state_of_sight cut).reads × Unopens functions whole cut why)
+      ⊎ ((cut : Sight) × IsCut place.number place.generation (state_of_sight sight).reads (state_of_sight cut).reads × OpensAsNoStore functions whole cut why)
 
   -- the store was not opened, or a backup of its world was not made
   unfoldable pub WithholdsBackup : (WorldState → BackupError → Type 0) → Sight → Unlooked → Type 0
   WithholdsBackup unmade sight why =
-      Unopens functions whole sight why
+      OpensAsNoStore functions whole sight why
       ⊎ ((error : BackupError) × HasWorldThat functions macros (λ world. unmade world error) sight × IsOfBackup error why)
 
+  -- why a look of each kind tells nothing
   unfoldable pub WithholdsLook : System → Text → Look → Sight → Unlooked → Type 0
   WithholdsLook system folder (Show shown) sight why = WithholdsShown shown sight why
   WithholdsLook system folder (Info part) sight why = WithholdsInfo part (system.measures folder) sight why
@@ -253,7 +255,7 @@ module _ (functions : Functions) {R : Type 0} (macros : R) (whole : Bool) where
 
 -- ---- the whole look
 
--- how it ends: with what it told, or why it told nothing
+-- how a look ends: with what it told, or why it told nothing
 abbrev pub status_in : Result Status Unlooked → Status
 status_in (Ok status) = status
 status_in (Err why) = status_of why

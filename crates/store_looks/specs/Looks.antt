@@ -1,7 +1,7 @@
 -- What a command that only looks writes, and how it ends.
 use Rattle.std.specs.Prelude.{◌≡◌, ◌⊎◌, ℕ, List, Option}
 use Rattle.lisp_object.specs.declared.refusal.TheConstants.{OUTPUT}
-use Rattle.store_commands.specs.Texts.{TellsText}
+use Rattle.store_commands.specs.StatusAfterText.{TellsText}
 use Rattle.store_commands.specs.declared.status.Status.{Status}
 use Rattle.store_commands.specs.declared.status.Status.TheVariants.{Done, Helped, FormRefused, Unanswered, WordsRefused, LeftOut, Fault}
 

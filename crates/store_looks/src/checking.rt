@@ -9,7 +9,7 @@ ghost use Rattle.world_text.specs.Snapshot.{snapshot};
 ghost use Rattle.store_commands.specs.Status.{IsQuiet};
 ghost use Rattle.store_commands.specs.EndLines.{TellsFault};
 ghost use Rattle.store_commands.specs.declared.told.Remark.{Remark};
-ghost use Rattle.store_looks.specs.CheckReports.{AreRefusalsOf, Checks, EndsSo, FindsIn, IsCheckText, IsRefusalOfUnreadable, IsTextOf, IsWorldOfFolder, TellsForms, unreadable_text};
+ghost use Rattle.store_looks.specs.CheckReports.{AreRefusalsOf, Checks, EndsCheck, FindsIn, IsCheckText, IsRefusalOfUnreadable, IsTextOf, IsWorldOfFolder, TellsForms, unreadable_text};
 ghost use Rattle.store_looks.specs.LookReports.{HasWorldThat};
 
 use crate::looks::{end_unlooked, notation_for, opened, sight_of};
@@ -68,7 +68,13 @@ where
     match checked_in(rt.alloc(), words) {
         Ok(asked) => match check_asked(rt, macros, asked, input, output) {
             Ok(status) => end_with(faults, status),
-            Err(unlooked) => end_unlooked(faults, unlooked, None),
+            Err(unlooked) => {
+                let folder = match asked.store {
+                    Some(folder) => folder,
+                    None => "",
+                };
+                end_unlooked(faults, unlooked, None, folder)
+            }
         },
         Err(error) => {
             let status = answer_words(&error, output, faults);
@@ -107,9 +113,9 @@ where
 }
 
 // Writes what is told, and flushes it.
-#[tactic(auto, unfolding(crate::specs::CheckReports::EndsSo))]
+#[tactic(auto, unfolding(crate::specs::CheckReports::EndsCheck))]
 fn write_lines<O: Write>(output: &mut O, lines: &[u8], all_are_readable: bool) -> Status
-    ensures { EndsSo all_are_readable (O.contents output.old) (O.contents output.new) lines.now result }
+    ensures { EndsCheck all_are_readable (O.contents output.old) (O.contents output.new) lines.now result }
 {
     match write_out(output, lines) {
         Ok(()) if all_are_readable => Status::Done,

@@ -17,7 +17,7 @@ use store_commands::{Opening, Status};
 use store_reports::{HalfFigures, Notation, file_info, half_figures, info};
 use user_macros::MacroFunctions;
 
-// Tells figures of the store and of its files.
+// Tells figures of the store and of its files. After an error nothing is written.
 pub(crate) fn info_on<R, M, O>(
     rt: &R,
     folder: &str,

@@ -10,9 +10,9 @@ ghost use Rattle.prevalence_store.specs.calls.Open.{IsOpened};
 ghost use Rattle.store_commands.specs.Session.{half_limit};
 ghost use Rattle.command_words.specs.LookLine.{AsksToLook};
 ghost use Rattle.store_reports.specs.Backup.{IsBackupMade, HasNoBackup};
-ghost use Rattle.store_commands.specs.Texts.{TellsText};
+ghost use Rattle.store_commands.specs.StatusAfterText.{TellsText};
 ghost use Rattle.store_looks.specs.Looks.{EndsUnlooked, Prints};
-ghost use Rattle.store_looks.specs.LookReports.{BacksUp, LooksAsAsked, LooksAt, Sees, TellsDump, TellsLog, TellsLook, Unopens, WithholdsBackup, WithholdsDump, WithholdsLog, WithholdsLook, notation_of, system_of};
+ghost use Rattle.store_looks.specs.LookReports.{BacksUp, LooksAsAsked, LooksAt, SeesFolder, TellsDump, TellsLog, TellsLook, OpensAsNoStore, WithholdsBackup, WithholdsDump, WithholdsLog, WithholdsLook, notation_of, system_of};
 ghost use Rattle.store_looks.specs.FailedLooks.{status_of};
 ghost use Rattle.user_macros.specs.Functions.{are_registered};
 
@@ -70,7 +70,7 @@ where
     ensures looks { LooksAsAsked M.Meaning.functions macros
         (are_registered M.Meaning.functions (M.functions macros))
         (system_of (R.measures rt.now) R.Disk.state (R.does rt.now)) (R.lacks rt.now)
-        (Sees ⟦<Sight as TellsCause>⟧.tells (L.opens folders.now))
+        (SeesFolder ⟦<Sight as TellsCause>⟧.tells (L.opens folders.now))
         (map S.text words.now) (O.contents output.old) (O.contents output.new) result }
     ensures told { (told : Remark) × TellsFault result told (F.contents faults.old) (F.contents faults.new) }
     ensures quiet { IsQuiet result → faults.new ≡ faults.old }
@@ -78,7 +78,10 @@ where
     match looked_in(rt.alloc(), words) {
         Ok(looked) => match look_at(rt, folders, macros, looked, output) {
             Ok(status) => end_with(faults, status),
-            Err(unlooked) => end_unlooked(faults, unlooked, Some(looked.look)),
+            Err(unlooked) => {
+                let folder = folder_meant(looked, &unlooked);
+                end_unlooked(faults, unlooked, Some(looked.look), folder)
+            }
         },
         Err(error) => {
             let status = answer_words(&error, output, faults);
@@ -87,11 +90,21 @@ where
     }
 }
 
-// Ends where nothing is told of a store, by such a look if it was one, and says why.
+// The folder of the store in which something failed, if it is known which: a backup has two.
+fn folder_meant<'a>(looked: Looked<'a>, unlooked: &Unlooked) -> &'a str {
+    match (looked.look, unlooked) {
+        (_, Unlooked::Host(HostError::NoStore)) => looked.folder,
+        (Look::Backup(_), _) => "",
+        _ => looked.folder,
+    }
+}
+
+// Ends where nothing is told of the store in a folder, by such a look if it was one, and says why. An empty folder is not told.
 pub(crate) fn end_unlooked<F: Write>(
     faults: &mut F,
     unlooked: Unlooked,
     look: Option<Look<'_>>,
+    folder: &str,
 ) -> Status
     ensures told { (told : Remark) × TellsFault result told (F.contents faults.old) (F.contents faults.new) }
     ensures quiet { IsQuiet result → faults.new ≡ faults.old }
@@ -102,7 +115,7 @@ pub(crate) fn end_unlooked<F: Write>(
         Unlooked::Fault(number) => end_with(faults, Status::Fault(number)),
         Unlooked::Host(error) => {
             let status = Status::of_host(&error);
-            end_with_told(faults, status, &Remark::Cause(error))
+            end_with_told(faults, status, &Remark::Cause(error), folder)
         }
         Unlooked::Show(error) => {
             match name_sought(look, &error) {
@@ -153,13 +166,13 @@ fn tell_error<F: Write, E: Display>(faults: &mut F, error: &E) {
 }
 
 // What the files of a folder hold at one moment, of which one is a half in use.
-#[tactic(auto, unfolding(crate::specs::LookReports::Sees))]
+#[tactic(auto, unfolding(crate::specs::LookReports::SeesFolder))]
 pub(crate) fn sight_of<L: Folders<Disk = Sight>>(
     folders: &L,
     folder: &str,
 ) -> Result<Sight, HostError>
     ensures room { IfOk result (λ sight. (⟦<Sight as Disk>⟧.state sight).failures ≡ 0) }
-    ensures sees { Sees ⟦<Sight as TellsCause>⟧.tells (L.opens folders.now) folder.now result }
+    ensures sees { SeesFolder ⟦<Sight as TellsCause>⟧.tells (L.opens folders.now) folder.now result }
 {
     open_folder(folders, folder, true)
 }
@@ -183,7 +196,7 @@ where
     ensures looks { LooksAt M.Meaning.functions macros
         (are_registered M.Meaning.functions (M.functions macros))
         (system_of (R.measures rt.now) R.Disk.state (R.does rt.now)) (R.lacks rt.now)
-        (Sees ⟦<Sight as TellsCause>⟧.tells (L.opens folders.now))
+        (SeesFolder ⟦<Sight as TellsCause>⟧.tells (L.opens folders.now))
         looked.entry.folder.now looked.entry.look (O.contents output.old) (O.contents output.new) result }
 {
     let seed = match rt.seed() {
@@ -321,7 +334,7 @@ pub(crate) fn opened<M: MacroFunctions + Drop>(
     requires room { (⟦<Sight as Disk>⟧.state sight).failures < 2 ^ 64 - 1 }
     ensures opened { IfOk result
         (λ store. IsOpened M.Meaning.functions ⟦<Sight as Disk>⟧.state sight macros half_limit store) }
-    ensures refused { IfErr result (Unopens M.Meaning.functions
+    ensures refused { IfErr result (OpensAsNoStore M.Meaning.functions
         (are_registered M.Meaning.functions (M.functions macros)) sight) }
 {
     match Store::open_with_seed(alloc, sight, macros, HALF_LIMIT, seed) {

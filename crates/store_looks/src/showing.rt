@@ -17,7 +17,7 @@ use store_commands::Status;
 use store_reports::{Layout, Selection, ShowError, count, show};
 use user_macros::MacroFunctions;
 
-// Shows properties, or counts them.
+// Shows properties, or counts them. After an error nothing is written.
 pub(crate) fn show_on<M, O>(
     alloc: Global,
     sight: Sight,

@@ -16,8 +16,8 @@ use Rattle.gate_log.specs.declared.error.StartError.TheVariants as starting
 use Rattle.lisp_object.specs.declared.refusal.TheConstants.{DEVICE}
 use Rattle.plist_state.specs.State.{WorldState}
 use Rattle.world_text.specs.Snapshot.{snapshot}
-use Rattle.store_reports.specs.Numbers.{open_number, read_number, start_number}
-use Rattle.store_reports.specs.Places.{Deed, begun, not_begun, opened, told, placed, not_placed, taken_away}
+use Rattle.store_reports.specs.LogRefusals.{open_number, read_number, start_number}
+use Rattle.store_reports.specs.NewStorePlaces.{Deed, begun, not_begun, opened, told, placed, not_placed, taken_away}
 use Rattle.store_reports.specs.declared.backups.BackupError.{BackupError}
 use Rattle.store_reports.specs.declared.backups.BackupError.TheVariants as errors
 

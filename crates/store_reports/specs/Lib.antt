@@ -4,6 +4,6 @@ pub mod EscapedText
 pub mod Figures
 pub mod Json
 pub mod Log
-pub mod Numbers
-pub mod Places
+pub mod LogRefusals
+pub mod NewStorePlaces
 pub mod ShownProperties

@@ -18,7 +18,7 @@ use Rattle.store_reports.specs.declared.selection.Selection.{Selection}
 use Rattle.store_reports.specs.declared.showing.ShowError.{ShowError}
 use Rattle.store_reports.specs.declared.showing.ShowError.TheVariants as showing
 
--- the sum over the symbols that are at home in a package, and over those of all packages
+-- the sum of a number of each symbol that is at home in a package
 unfoldable pub sum_at_home : WorldState → (Symbol → ℕ) → Name → ℕ
 sum_at_home world f home = sum_by (λ name. f (home, name)) (own_names world.packages home)
 
@@ -35,11 +35,11 @@ module _ (wanted : Selection) (world : WorldState) where
   unfoldable pub is_printed_so : List ℕ → Symbol → Bool
   is_printed_so text x = takes_symbol wanted x && is_asked wanted text (shown_symbol world.packages x) x.1
 
-  -- what it counts for then
+  -- how many properties of a symbol are asked for, if it is asked for by this text; else 0
   unfoldable pub printed_properties : List ℕ → Symbol → ℕ
   printed_properties text x = if is_printed_so text x then taken_properties x else 0
 
-  -- one, if the symbol is printed as this text, and else none
+  -- 1, if the symbol is asked for by this text; else 0
   unfoldable pub printed_symbols : List ℕ → Symbol → ℕ
   printed_symbols text x = if is_printed_so text x then 1 else 0
 
@@ -49,7 +49,8 @@ module _ (wanted : Selection) (world : WorldState) where
       option_map_or (λ (text : Bor (List ℕ)). sum_at_homes world (printed_properties text.now)) wanted.symbol
       (sum_by taken_properties (symbols_with_properties world))
 
-  -- And of how many symbols: that one, also without properties, or those with a property that is shown.
+  -- Of how many symbols properties are shown: that which is asked for by its text, also without properties, or those with a
+  -- property that is shown.
   abbrev pub shown_symbols : ℕ
   shown_symbols =
       option_map_or (λ (text : Bor (List ℕ)). sum_at_homes world (printed_symbols text.now)) wanted.symbol

@@ -6,7 +6,7 @@ ghost use Rattle.gate_log.specs.HalfInUse.{IsAt, Shows};
 ghost use Rattle.gate_log.specs.Layout.{Contents};
 ghost use Rattle.gate_log.specs.Log.{FilesMean};
 ghost use Rattle.store_reports.specs.Backup.{HoldsWorld, HoldsNoRecord, HoldsTextAlone, IsCompared, IsBackupMade, IsNotBegun, HasItsName, IsToldAs, IsUncompared, HasNoBackup, IsBackupUnopened, IsCopyUnplaced, IsHalfUnread, IsCopyUnwritten, IsCopyWritten};
-ghost use Rattle.store_reports.specs.Numbers.{open_number, read_number, start_number};
+ghost use Rattle.store_reports.specs.LogRefusals.{open_number, read_number, start_number};
 ghost use Rattle.store_reports.specs.declared.backups.BackupError.TheVariants as errors;
 
 use crate::places::StorePlaces;
@@ -205,8 +205,10 @@ fn make_and_place<P: StorePlaces>(
         (IsCopyUnplaced P.Disk.state (P.does places.now) limit world.now.0 dir.now) }
 {
     write_at(alloc, places, world, dir, limit)?;
-    compare_at(alloc, places, world, dir, limit)?;
-    places.place(dir)
+    match compare_at(alloc, places, world, dir, limit) {
+        Ok(()) => places.place(dir),
+        Err(error) => Err(error),
+    }
 }
 
 // Writes a world to new files, which are closed then.

@@ -1,6 +1,6 @@
 //! Where new stores are made.
 ghost use Rattle.std.specs.Prelude.{◌≡◌, ℕ, List, IfOk, MatchResult, ⊤};
-ghost use Rattle.store_reports.specs.Places.{Deed, begun, not_begun, opened, told, placed, not_placed, taken_away};
+ghost use Rattle.store_reports.specs.NewStorePlaces.{Deed, begun, not_begun, opened, told, placed, not_placed, taken_away};
 
 use crate::backups::BackupError;
 use disk_trait::{Disk, HostDisk, HostError, IfMissing};
@@ -41,7 +41,7 @@ pub trait StorePlaces {
         ensures room { IfOk result (λ disk. (Self.Disk.state disk).failures ≡ 0) }
         ensures opens { does self.now (opened dir.now if_missing result) };
 
-    /// The system's error of the last call of a disk that failed, if there is one.
+    /// The last call of a disk that failed, with the system's error, if there is one.
     fn cause(&self, disk: &Self::Disk) -> Option<HostError>
         ensures { does self.now (told disk.now result) };
 
@@ -79,8 +79,8 @@ impl StorePlaces for HostRuntime {
     }
 
     fn cause(&self, disk: &HostDisk) -> Option<HostError> {
-        match disk.cause() {
-            Some(cause) => Some(HostError::System(cause)),
+        match disk.failed_call() {
+            Some(failed) => Some(HostError::Failed(failed)),
             None => None,
         }
     }

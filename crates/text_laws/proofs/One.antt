@@ -25,7 +25,7 @@ use Rattle.lisp_operators.specs.Properties.{set}
 use Rattle.evaluator.specs.Value.{value_by, values_by, value_over}
 use Rattle.form_eval.specs.Acceptance.{accept, accepted_by}
 use Rattle.form_eval.proofs.KnownSymbols.{known_symbols}
-use Rattle.world_forms.specs.Tokens.{is_too_long}
+use Rattle.world_forms.specs.NameTokens.{is_too_long}
 use Rattle.text_laws.specs.Objects.{call, symbol_form, property_object}
 use Rattle.text_laws.proofs.There.{lisp_there, nil_there, pair_there, there_alone}
 

@@ -25,7 +25,7 @@ use Rattle.lisp_reading.specs.Setting.{Setting}
 use Rattle.lisp_reading.specs.Reading.{Piece, item, piece_of, next_item_turn, next_item, one_piece, completed_call, inner, attempt}
 use Rattle.lisp_reading.proofs.Steps.{and_then, run_then}
 use Rattle.lisp_reading.proofs.Turns.{attempt_ends, loop_is, next_item_guarded}
-use Rattle.world_text.specs.Tokens.{AreTokensWithin, ends_with_token}
+use Rattle.world_text.specs.PrintedTokens.{AreTokensWithin, ends_with_token}
 use Rattle.world_text.proofs.Atoms.{ReadsAs}
 use Rattle.world_text.proofs.Begun.{under, begun, plain_call, quote_begun}
 use Rattle.world_text.proofs.Lists.{is_open, tail, tail_closed, tail_next}

@@ -34,7 +34,7 @@ use Rattle.world_text.proofs.Characters.{by_table}
 use Rattle.world_text.proofs.Marked.{name_marks, plain_marks, quoted_marks}
 use Rattle.world_text.proofs.Sizes.{barred_count, count_both, name_count, plain_count}
 use Rattle.world_text.proofs.Spelling.{IsAscii, first, others}
-use Rattle.world_forms.specs.Tokens.{call_text, is_portable_name, is_plain_after, is_too_long, name_text, prefix_length, quoted_text, symbol_text, text_argument, value_text}
+use Rattle.world_forms.specs.NameTokens.{call_text, is_portable_name, is_plain_after, is_too_long, name_text, prefix_length, quoted_text, symbol_text, text_argument, value_text}
 use Rattle.text_laws.specs.Objects.{call, symbol_form}
 use Rattle.text_laws.proofs.PartsRead.{AreRead, IsRead, listed_is_read, no_more, object_is_read, one_more, quoted_is_read, token_is_read}
 

@@ -3,7 +3,7 @@ use Rattle.std.specs.Prelude.{if◌then◌else◌, List, [], ◌∷◌, codes}
 use Rattle.lisp_object.specs.Object.{Object, symbol, text, list_of}
 use Rattle.package_table.specs.Table.{Name, common_lisp}
 use Rattle.plist_state.specs.Properties.{Symbol}
-use Rattle.world_forms.specs.Tokens.{is_too_long}
+use Rattle.world_forms.specs.NameTokens.{is_too_long}
 
 -- a call of an operator of COMMON-LISP
 abbrev pub call : Name → List Object → Object

@@ -18,7 +18,7 @@ use Rattle.lisp_object.specs.Object.{Object, integer, rational, character, text,
 use Rattle.lisp_object.specs.Datum.{object_of}
 use Rattle.lisp_object.specs.declared.refusal.TheConstants.{ARGUMENT_KIND, INTEGER_RANGE}
 use Rattle.lisp_object.proofs.ProperLists.{no_list_object, nil_symbol}
-use Rattle.lisp_operators.specs.Kinds.{is_pair, an_integer}
+use Rattle.lisp_operators.specs.ArgumentKinds.{is_pair, an_integer}
 use Rattle.lisp_operators.specs.EvaluationAnswers.{objects}
 use Rattle.value_functions.specs.FunctionAnswers.{FunctionValue, if_of_kind, then_value, if_within}
 use Rattle.value_functions.specs.Equality.{is_eql}

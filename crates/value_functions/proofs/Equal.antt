@@ -5,8 +5,8 @@ use Rattle.std.proofs.Common.{◌≡◌, ℕ, ℤ, Bool, false, ◌&&◌, ◌==�
 use Rattle.std.specs.Ordering.{int_eq}
 use Rattle.std.specs.Option.{option_map_or}
 use Rattle.lisp_object.specs.Object.{Object, integer, rational, character, text, symbol, uninterned, pair, vector}
-use Rattle.lisp_operators.specs.Kinds.{a_symbol, a_character, an_integer}
-use Rattle.value_functions.specs.Kinds.{a_ratio}
+use Rattle.lisp_operators.specs.ArgumentKinds.{a_symbol, a_character, an_integer}
+use Rattle.value_functions.specs.ArgumentsByKind.{a_ratio}
 use Rattle.value_functions.specs.Equality.{is_eql}
 
 pub eql_integer : (m : ℤ) (y : Object) → is_eql (integer m) y ≡ option_map_or (λ n. int_eq m n) (an_integer y) false

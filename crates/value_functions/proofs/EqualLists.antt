@@ -16,7 +16,7 @@ use Rattle.lisp_object.specs.Object.{Object, integer, rational, character, text,
 use Rattle.lisp_object.specs.Datum.{object_of, object_step, is_proper, is_list}
 use Rattle.lisp_object.proofs.Objects.{object_of-List, object_of-dotted}
 use Rattle.lisp_object.proofs.ProperLists.{no_list_object, end_of_proper}
-use Rattle.lisp_operators.specs.Kinds.{is_pair, a_text}
+use Rattle.lisp_operators.specs.ArgumentKinds.{is_pair, a_text}
 use Rattle.lisp_operators.specs.EvaluationAnswers.{objects, or_nil}
 use Rattle.value_functions.specs.Equality.{is_eql, is_equal}
 use Rattle.value_functions.proofs.Ends.{no_pair}

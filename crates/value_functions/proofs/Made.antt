@@ -11,7 +11,7 @@ use Rattle.lisp_object.specs.Object.{Object, integer, rational, character, text,
 use Rattle.package_table.specs.Table as packages
 use Rattle.package_table.proofs.Names.{same_some, none_some}
 use Rattle.plist_state.specs.Sound.{IsSymbolStorable, IsValue}
-use Rattle.lisp_operators.specs.Kinds.{a_character}
+use Rattle.lisp_operators.specs.ArgumentKinds.{a_character}
 use Rattle.lisp_operators.proofs.Storable.{AreValues, nil_value, text_value}
 use Rattle.value_functions.specs.FunctionAnswers.{FunctionValue, then_value}
 use Rattle.value_functions.specs.Equality.{is_eql}

@@ -6,7 +6,7 @@ use Rattle.std.specs.List.{list_all}
 use Rattle.std.specs.Option.{option_map_or}
 use Rattle.std.specs.Ordering.{int_eq}
 use Rattle.lisp_object.specs.Object.{Object, integer, text, symbol, pair, vector, nil, is_nil, object_is_list, list_of, object_depth, object_size}
-use Rattle.lisp_operators.specs.Kinds.{is_pair, an_integer}
+use Rattle.lisp_operators.specs.ArgumentKinds.{is_pair, an_integer}
 use Rattle.lisp_operators.specs.Properties.{is_in_range}
 use Rattle.lisp_operators.proofs.Numbered.{IsNumber}
 use Rattle.value_functions.specs.declared.functions.ValueFunction.{ValueFunction}
@@ -27,7 +27,7 @@ use Rattle.value_functions.specs.Equality.{is_eql, is_same}
 use Rattle.value_functions.specs.Predicates.{has_predicate}
 use Rattle.value_functions.specs.Comparisons.{is_number, is_chain, furthest}
 use Rattle.value_functions.specs.Arithmetic.{integer_in, operation, from_left, result_of, rounded_down, left_over, division_value, division}
-use Rattle.value_functions.specs.Texts.{a_symbol_name, a_string, less_at, place_or_nil, on_texts}
+use Rattle.value_functions.specs.TextValues.{a_symbol_name, a_string, less_at, place_or_nil, on_texts}
 use Rattle.value_functions.specs.Lists.{past_end, car, cdr, nth_in, nth_at, member, assoc, adjoin, on_lists}
 use Rattle.value_functions.specs.Sequences.{a_sequence, a_vector, item_in, item_at, object_of_sequence, length_of, reversed, without, on_sequences}
 use Rattle.value_functions.specs.Building.{followed_by, appended_lists}

@@ -3,7 +3,7 @@
 use Rattle.std.proofs.Common.{◌≡◌, ◌≤◌, ◌<◌, ◌+◌, ◌==◌, ℕ, nat_lt, cond, List, [], ◌∷◌, length, drop, slice_index_or, Option, Some, None, refl, ap, ◌∙◌, arith}
 use Rattle.std.proofs.lemmas.Bool.Decides.{nat_tests}
 use Rattle.std.proofs.lemmas.List.{drop_all, drop_more}
-use Rattle.value_functions.specs.Texts.{less_at}
+use Rattle.value_functions.specs.TextValues.{less_at}
 
 none_left : (at : ℕ) (a : List ℕ) → less_at at a [] ≡ None
 none_left at [] = refl

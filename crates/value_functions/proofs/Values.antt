@@ -12,7 +12,7 @@ use Rattle.lisp_object.specs.Object.{Object, integer, text, symbol, uninterned, 
 use Rattle.package_table.specs.Table as packages
 use Rattle.package_table.proofs.Names.{same_some, none_some}
 use Rattle.plist_state.specs.Sound.{IsValue}
-use Rattle.lisp_operators.specs.Kinds.{is_pair, an_integer}
+use Rattle.lisp_operators.specs.ArgumentKinds.{is_pair, an_integer}
 use Rattle.lisp_operators.specs.Properties.{t, is_in_range}
 use Rattle.lisp_operators.proofs.Storable.{AreValues, t_value, nil_value, text_value, value_parts, pair_value}
 use Rattle.value_functions.specs.declared.functions.ValueFunction.{ValueFunction}
@@ -34,7 +34,7 @@ use Rattle.value_functions.specs.Equality.{is_eql, is_same}
 use Rattle.value_functions.specs.Predicates.{has_predicate}
 use Rattle.value_functions.specs.Comparisons.{is_number, is_chain, furthest, is_further}
 use Rattle.value_functions.specs.Arithmetic.{integer_in, operation, from_left, result_of, rounded_down, left_over, division_value, division}
-use Rattle.value_functions.specs.Texts.{a_symbol_name, a_string, less_at, place_or_nil, on_texts}
+use Rattle.value_functions.specs.TextValues.{a_symbol_name, a_string, less_at, place_or_nil, on_texts}
 use Rattle.value_functions.specs.Lists.{past_end, car, cdr, nth_in, nth_at, member, assoc, on_lists}
 use Rattle.value_functions.specs.Sequences.{a_sequence, a_vector, item_in, item_at, object_of_sequence, length_of, reversed, without, on_sequences}
 use Rattle.value_functions.specs.Building.{appended_lists}

@@ -6,7 +6,7 @@ use Rattle.std.specs.Ordering.{int_eq}
 use Rattle.lisp_object.specs.Object.{Object, integer}
 use Rattle.lisp_object.specs.declared.refusal.TheConstants.{ARGUMENT_KIND, INTEGER_RANGE}
 use Rattle.lisp_operators.specs.Properties.{is_in_range}
-use Rattle.lisp_operators.specs.Kinds.{an_integer}
+use Rattle.lisp_operators.specs.ArgumentKinds.{an_integer}
 use Rattle.value_functions.specs.declared.functions.Arithmetic.{Arithmetic}
 use Rattle.value_functions.specs.declared.functions.Arithmetic.TheVariants.{Plus, Minus, Times}
 use Rattle.value_functions.specs.declared.functions.Division.{Division}

@@ -23,7 +23,7 @@ use Rattle.value_functions.specs.Comparisons.{comparison}
 use Rattle.value_functions.specs.Comparisons.{extreme}
 use Rattle.value_functions.specs.Arithmetic.{arithmetic}
 use Rattle.value_functions.specs.Arithmetic.{division}
-use Rattle.value_functions.specs.Texts.{on_texts}
+use Rattle.value_functions.specs.TextValues.{on_texts}
 use Rattle.value_functions.specs.Lists.{on_lists}
 use Rattle.value_functions.specs.Sequences.{on_sequences}
 use Rattle.value_functions.specs.Building.{building}

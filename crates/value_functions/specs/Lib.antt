@@ -1,7 +1,7 @@
 pub mod FunctionAnswers
-pub mod Kinds
+pub mod ArgumentsByKind
 pub mod Equality
-pub mod Texts
+pub mod TextValues
 pub mod Predicates
 pub mod Comparisons
 pub mod Arithmetic

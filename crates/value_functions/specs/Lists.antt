@@ -2,7 +2,7 @@
 use Rattle.std.specs.Prelude.{ℕ, zero, suc, ℤ, pos, negsuc, if◌then◌else◌, List, [], ◌∷◌, Ok, Err}
 use Rattle.lisp_object.specs.Object.{Object, symbol, pair, nil, is_nil, object_is_list}
 use Rattle.lisp_object.specs.declared.refusal.TheConstants.{ARGUMENT_KIND, INTEGER_RANGE}
-use Rattle.lisp_operators.specs.Kinds.{is_pair, an_integer}
+use Rattle.lisp_operators.specs.ArgumentKinds.{is_pair, an_integer}
 use Rattle.value_functions.specs.declared.functions.OnLists.{OnLists}
 use Rattle.value_functions.specs.declared.functions.OnLists.TheVariants.{Cons, Car, Cdr, Nth, Member, Assoc, Adjoin}
 use Rattle.value_functions.specs.FunctionAnswers.{FunctionValue, if_of_kind, if_within, then_value}

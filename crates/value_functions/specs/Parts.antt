@@ -4,7 +4,7 @@ use Rattle.std.specs.Borrow.{Bor}
 use Rattle.lisp_object.specs.declared.datum.Datum.{Datum}
 use Rattle.lisp_object.specs.Object.{Object, pairs, object_is_list}
 use Rattle.lisp_object.specs.Datum.{object_of, is_proper, is_list}
-use Rattle.lisp_operators.specs.Kinds.{is_pair}
+use Rattle.lisp_operators.specs.ArgumentKinds.{is_pair}
 use Rattle.lisp_operators.specs.EvaluationAnswers.{or_nil, objects}
 use Rattle.value_functions.specs.FunctionAnswers.{FunctionValue}
 use Rattle.value_functions.specs.Lists.{past_end}

@@ -2,11 +2,11 @@
 use Rattle.std.specs.Prelude.{Bool, true, false, not, is_some, List, [], ◌∷◌, Ok, Err}
 use Rattle.lisp_object.specs.Object.{Object, text, vector}
 use Rattle.lisp_object.specs.declared.refusal.TheConstants.{ARGUMENT_KIND}
-use Rattle.lisp_operators.specs.Kinds.{is_true, is_pair, an_integer, a_character, a_text}
+use Rattle.lisp_operators.specs.ArgumentKinds.{is_true, is_pair, an_integer, a_character, a_text}
 use Rattle.value_functions.specs.declared.functions.Predicate.{Predicate}
 use Rattle.value_functions.specs.declared.functions.Predicate.TheVariants.{Not, Consp, Symbolp, Stringp, Integerp, Characterp, Vectorp}
 use Rattle.value_functions.specs.FunctionAnswers.{FunctionValue, truth_value}
-use Rattle.value_functions.specs.Texts.{a_symbol_name}
+use Rattle.value_functions.specs.TextValues.{a_symbol_name}
 
 -- a vector, or a text, which is a vector of characters (standard 16.1)
 abbrev pub is_vector : Object → Bool

@@ -3,7 +3,7 @@ use Rattle.std.specs.Prelude.{ℕ, zero, suc, ℤ, pos, negsuc, ◌==◌, not, i
 use Rattle.std.specs.List.{filter}
 use Rattle.lisp_object.specs.Object.{Object, text, symbol, pair, vector, is_nil, list_of}
 use Rattle.lisp_object.specs.declared.refusal.TheConstants.{ARGUMENT_KIND, INTEGER_RANGE}
-use Rattle.lisp_operators.specs.Kinds.{a_character, an_integer}
+use Rattle.lisp_operators.specs.ArgumentKinds.{a_character, an_integer}
 use Rattle.value_functions.specs.declared.functions.OnSequences.{OnSequences}
 use Rattle.value_functions.specs.declared.functions.OnSequences.TheVariants.{Length, Reverse, Remove, Svref}
 use Rattle.value_functions.specs.FunctionAnswers.{FunctionValue, if_of_kind, if_in_range}

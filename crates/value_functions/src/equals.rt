@@ -2,7 +2,7 @@
 ghost use Rattle.std.specs.Prelude.{◌≡◌, ◌&&◌, true, false, option_map, IfOk, IfSome};
 ghost use Rattle.lisp_object.specs.Object.{Object, pairs};
 ghost use Rattle.lisp_object.specs.Datum.{object_of, is_proper, is_list};
-ghost use Rattle.lisp_operators.specs.Kinds.{is_pair};
+ghost use Rattle.lisp_operators.specs.ArgumentKinds.{is_pair};
 ghost use Rattle.lisp_operators.specs.EvaluationAnswers.{or_nil, IsProper, AreProper, objects};
 ghost use Rattle.value_functions.specs.Equality.{is_eql, is_equal, equality};
 ghost use Rattle.value_functions.specs.FunctionAnswers.{AnswersValue};

@@ -1,10 +1,10 @@
 //! What an argument is, where it is of a kind.
 ghost use Rattle.std.specs.Prelude.{◌≡◌, option_map};
 ghost use Rattle.lisp_object.specs.Datum.{object_of};
-ghost use Rattle.lisp_operators.specs.Kinds.{a_character, a_text, an_integer};
+ghost use Rattle.lisp_operators.specs.ArgumentKinds.{a_character, a_text, an_integer};
 ghost use Rattle.lisp_operators.specs.EvaluationAnswers.{IsProper};
-ghost use Rattle.value_functions.specs.Kinds.{a_ratio};
-ghost use Rattle.value_functions.specs.Texts.{a_string, a_symbol_name};
+ghost use Rattle.value_functions.specs.ArgumentsByKind.{a_ratio};
+ghost use Rattle.value_functions.specs.TextValues.{a_string, a_symbol_name};
 
 use lisp_object::Datum;
 use std::slice;

@@ -2,7 +2,7 @@
 ghost use Rattle.std.specs.Prelude.{◌≡◌, ◌<◌, false, length, IfOk, IfSome};
 ghost use Rattle.lisp_object.specs.Object.{Object, pair, pairs};
 ghost use Rattle.lisp_object.specs.Datum.{object_of};
-ghost use Rattle.lisp_operators.specs.Kinds.{is_pair};
+ghost use Rattle.lisp_operators.specs.ArgumentKinds.{is_pair};
 ghost use Rattle.lisp_operators.specs.EvaluationAnswers.{IsProper, AreProper, objects};
 ghost use Rattle.value_functions.specs.Lists.{car, cdr, nth_value, member, assoc, adjoin, of_list, function_of_list, on_lists};
 ghost use Rattle.value_functions.specs.Parts.{end_of, IsListEnd, from_place};

@@ -2,7 +2,7 @@
 ghost use Rattle.std.specs.Prelude.{◌≡◌, not, reverse, option_map, IfErr, IfOk, IfSome};
 ghost use Rattle.std.specs.List.{filter};
 ghost use Rattle.lisp_object.specs.Datum.{object_of};
-ghost use Rattle.lisp_operators.specs.Kinds.{a_character};
+ghost use Rattle.lisp_operators.specs.ArgumentKinds.{a_character};
 ghost use Rattle.lisp_operators.specs.EvaluationAnswers.{IsProper, AreProper, IsAscii, objects};
 ghost use Rattle.lisp_operators.specs.declared.error.EvaluationError.TheVariants.{OutOfMemory};
 ghost use Rattle.value_functions.specs.Equality.{is_eql};

@@ -2,7 +2,7 @@
 ghost use Rattle.std.specs.Prelude.{◌≡◌, true, pos, map, IfOk, is_some};
 ghost use Rattle.std.specs.List.{list_all};
 ghost use Rattle.lisp_object.specs.Datum.{object_of};
-ghost use Rattle.lisp_operators.specs.Kinds.{an_integer};
+ghost use Rattle.lisp_operators.specs.ArgumentKinds.{an_integer};
 ghost use Rattle.lisp_operators.specs.EvaluationAnswers.{IsProper, AreProper, objects};
 ghost use Rattle.value_functions.specs.Arithmetic.{integer_in, operation, if_operation, from_left, result_of, arithmetic};
 ghost use Rattle.value_functions.specs.FunctionAnswers.{AnswersValue};

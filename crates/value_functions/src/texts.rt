@@ -2,7 +2,7 @@
 ghost use Rattle.std.specs.Prelude.{◌≡◌, bytes_eq, Ok, IfOk};
 ghost use Rattle.lisp_object.specs.Datum.{object_of};
 ghost use Rattle.lisp_operators.specs.EvaluationAnswers.{IsProper, AreProper, objects};
-ghost use Rattle.value_functions.specs.Texts.{less_at, place_or_nil, with_text, of_text, on_texts};
+ghost use Rattle.value_functions.specs.TextValues.{less_at, place_or_nil, with_text, of_text, on_texts};
 ghost use Rattle.value_functions.specs.FunctionAnswers.{AnswersValue, truth_value};
 
 use crate::functions::OnTexts;

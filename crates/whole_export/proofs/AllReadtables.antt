@@ -27,7 +27,7 @@ use Rattle.snapshot_text.specs.NamedFunctions.{are_covered}
 use Rattle.snapshot_text.proofs.NamedTables.{put_named}
 use Rattle.world_forms.specs.Readtables.{named_lines, readtable_lines, table_lines}
 use Rattle.world_text.specs.Snapshot.{table_named}
-use Rattle.export_laws.specs.Texts.{Makes}
+use Rattle.export_laws.specs.ExportedTexts.{Makes}
 use Rattle.whole_export.specs.Standard.{ReadsStandard}
 use Rattle.whole_export.proofs.OneReadtable.{table_made}
 

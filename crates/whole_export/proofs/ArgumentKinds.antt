@@ -21,7 +21,7 @@ use Rattle.evaluator.specs.Value.{value_by, value_over}
 use Rattle.prevalence_store.specs.meaning.Acceptance.{form_limits}
 use Rattle.world_text.proofs.Atoms.{home_ascii, own_ascii}
 use Rattle.world_text.proofs.Spelling.{IsAscii}
-use Rattle.world_forms.specs.Tokens.{call_text, is_too_long, symbol_text, text_argument, value_text}
+use Rattle.world_forms.specs.NameTokens.{call_text, is_too_long, symbol_text, text_argument, value_text}
 use Rattle.text_laws.specs.Objects.{call}
 use Rattle.text_laws.proofs.One.{interned_value}
 use Rattle.export_laws.proofs.PackageText.{name_short as name_text_short, room, text_short}

@@ -9,7 +9,7 @@ use Rattle.canon_printer.specs.Written.{printed_text}
 use Rattle.session_words.specs.declared.content.Content.TheVariants.{World}
 use Rattle.world_forms.specs.Forms.{base_form, current_form, package_form, reading_forms, readtable_form}
 use Rattle.world_forms.specs.Readtables.{set_case_line, table_argument, table_end}
-use Rattle.world_forms.specs.Tokens.{keyword_argument, line_of_form, value_text}
+use Rattle.world_forms.specs.NameTokens.{keyword_argument, line_of_form, value_text}
 
 left_3 : (a b c rest : List ℕ) → (a ++ b ++ c) ++ rest ≡ a ++ (b ++ (c ++ rest))
 left_3 a b c rest = append_assoc (a ++ b) c rest ∙ append_assoc a b (c ++ rest)

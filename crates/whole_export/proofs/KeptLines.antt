@@ -22,9 +22,9 @@ use Rattle.snapshot_text.specs.BuiltWorlds.{with_each, with_properties}
 use Rattle.snapshot_text.proofs.KeysSoFar.{AreApart, keys_apart}
 use Rattle.snapshot_text.proofs.PropertyParts.{each_is_list}
 use Rattle.world_forms.specs.Properties.{is_form, plist_lines, property_form, property_line, property_lines}
-use Rattle.world_forms.specs.Tokens.{line_of_form}
+use Rattle.world_forms.specs.NameTokens.{line_of_form}
 use Rattle.text_laws.specs.Objects.{property_object}
-use Rattle.export_laws.specs.Texts.{Makes, ReadsAsExported}
+use Rattle.export_laws.specs.ExportedTexts.{Makes, ReadsAsExported}
 use Rattle.export_laws.proofs.All.{MayBe, all_may_be, each_put}
 use Rattle.text_laws.proofs.One.{property_set}
 use Rattle.export_laws.proofs.OneForm.{one_more_made}

@@ -26,9 +26,9 @@ use Rattle.lisp_reading.specs.declared.found.Found.TheVariants.{One as one}
 use Rattle.prevalence_store.specs.meaning.Acceptance.{form_limits, transaction_value}
 use Rattle.session_words.specs.declared.content.Content.TheVariants.{World}
 use Rattle.world_forms.specs.Forms.{current_form}
-use Rattle.world_forms.specs.Tokens.{value_text}
+use Rattle.world_forms.specs.NameTokens.{value_text}
 use Rattle.text_laws.specs.Objects.{call}
-use Rattle.export_laws.specs.Texts.{Makes, ReadsAsExported}
+use Rattle.export_laws.specs.ExportedTexts.{Makes, ReadsAsExported}
 use Rattle.export_laws.proofs.Current.{enter_object, enter_value, is_enter, is_progn}
 use Rattle.export_laws.proofs.OneForm.{next_made}
 use Rattle.export_laws.proofs.PackageText.{IsOperator, operator_read, room}

@@ -21,7 +21,7 @@ use Rattle.snapshot_text.specs.BuiltWorlds.{CanBeMade, IsNamedEntry}
 use Rattle.snapshot_text.proofs.Filling.{filled, put_all, updates}
 use Rattle.snapshot_text.proofs.ReadtableParts.{entry_update, entry_updates, with_entries}
 use Rattle.world_forms.specs.Readtables.{case_line, changed_lines, entry_lines, table_end, table_lines}
-use Rattle.export_laws.specs.Texts.{Makes}
+use Rattle.export_laws.specs.ExportedTexts.{Makes}
 use Rattle.whole_export.specs.Standard.{ReadsStandard}
 use Rattle.whole_export.proofs.OneEntry.{entry_made}
 use Rattle.whole_export.proofs.Steps.{MadeTable, case_made, copied_made}

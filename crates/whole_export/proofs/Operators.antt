@@ -20,7 +20,7 @@ use Rattle.plist_state.specs.declared.error.ReadtableError.TheVariants.{NoReadta
 use Rattle.plist_state.specs.Changes.{changed_readtable, with_sub_function, in_state, with_case, with_dispatch, with_dispatching, with_macro}
 use Rattle.plist_state.specs.State.{WorldState, standard_name}
 use Rattle.lisp_operators.specs.Evaluation.{Evaluation, also, and_then, gives, of_kind, writes}
-use Rattle.lisp_operators.specs.Kinds.{case_named}
+use Rattle.lisp_operators.specs.ArgumentKinds.{case_named}
 use Rattle.lisp_operators.specs.Properties.{t as t_object}
 use Rattle.lisp_operators.specs.Readtables.{a_function, value_after, copy_readtable, is_function, make_dispatch, set_case, set_dispatch, set_macro, set_syntax, with_readtables}
 use Rattle.evaluator.specs.Value.{value_by, values_by, value_over}

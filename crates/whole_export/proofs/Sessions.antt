@@ -15,13 +15,13 @@ use Rattle.sessions.specs.declared.ending.Ended.{Ended}
 use Rattle.sessions.specs.declared.ending.Ended.TheVariants.{End, Unreadable, Unaccepted, Store}
 use Rattle.session_words.specs.declared.wanted.SessionOptions.{SessionOptions}
 use Rattle.prevalence_store.specs.meaning.Acceptance.{read_in}
-use Rattle.sessions.specs.Answers.{Progress, after_forms, one_form, one_form_more, onward}
+use Rattle.sessions.specs.FormAnswers.{Progress, after_forms, one_form, one_form_more, progress_onward}
 use Rattle.store_laws.specs.Outcomes.{EndsAtRefusal, HasForms, IsEndBy}
 use Rattle.store_laws.proofs.Outcomes.{completed, fewer_first, one_count, stopped}
 use Rattle.session_words.specs.declared.content.Content.TheVariants.{World}
 use Rattle.world_forms.specs.Forms.{forms, last_newline}
-use Rattle.export_laws.specs.Texts.{Makes}
-use Rattle.whole_export.specs.Sessions.{EndsWith}
+use Rattle.export_laws.specs.ExportedTexts.{Makes}
+use Rattle.whole_export.specs.ExportSession.{EndsWith}
 
 -- ---- no form is refused, where none of all is
 
@@ -39,7 +39,7 @@ module _ (functions : Functions) (world : WorldState) (mode : Mode) (text : List
   at_most : (n m : ℕ) (far p : Progress) → HasForms functions world mode text n far → after m ≡ Some p → m ≤ n
   at_most n m far p all is = elim (cases_lt n m) [
     | inl over ↦
-        let none = none_after (suc n) m (omega arith) (ap (option_and_then (one_form_more functions mode)) all.far_is ∙ ap (option_map (onward far)) all.no_more) in
+        let none = none_after (suc n) m (omega arith) (ap (option_and_then (one_form_more functions mode)) all.far_is ∙ ap (option_map (progress_onward far)) all.no_more) in
         absurd (cc)
     | inr within ↦ within
   ]

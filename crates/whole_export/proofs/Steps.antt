@@ -30,9 +30,9 @@ use Rattle.canon_printer.specs.Written.{printed_character}
 use Rattle.snapshot_text.specs.BuiltWorlds.{CanBeMade, IsSubFunction, IsWritable, with_table}
 use Rattle.snapshot_text.proofs.TableParts.{made_writable, table_twice}
 use Rattle.world_forms.specs.Readtables.{like_line, set_case_line, kind_argument, macro_line, sub_line, table_argument, table_end}
-use Rattle.world_forms.specs.Tokens.{character_argument, keyword_argument, line_of_form, symbol_text, value_text}
+use Rattle.world_forms.specs.NameTokens.{character_argument, keyword_argument, line_of_form, symbol_text, value_text}
 use Rattle.text_laws.specs.Objects.{call}
-use Rattle.export_laws.specs.Texts.{Makes, ReadsAsExported}
+use Rattle.export_laws.specs.ExportedTexts.{Makes, ReadsAsExported}
 use Rattle.export_laws.proofs.OneForm.{one_more_made}
 use Rattle.export_laws.proofs.PackageText.{IsOperator}
 use Rattle.whole_export.specs.Standard.{ReadsStandard}

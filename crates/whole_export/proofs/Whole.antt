@@ -24,7 +24,7 @@ use Rattle.world_forms.specs.Packages.{package_lines}
 use Rattle.world_forms.specs.Properties.{left_out_lines, property_lines}
 use Rattle.world_forms.specs.Readtables.{readtable_lines}
 use Rattle.text_laws.specs.Objects.{call}
-use Rattle.export_laws.specs.Texts.{Makes, ReadsAsExported}
+use Rattle.export_laws.specs.ExportedTexts.{Makes, ReadsAsExported}
 use Rattle.export_laws.proofs.Front.{without_newline}
 use Rattle.export_laws.proofs.Lines.{lines_made}
 use Rattle.export_laws.proofs.OneForm.{nothing_made, one_more_made}

@@ -3,4 +3,4 @@ pub mod Standard
 -- a state without the properties that are left out
 pub mod KeptWorld
 -- how a session over an export ends
-pub mod Sessions
+pub mod ExportSession

@@ -35,9 +35,9 @@ ghost use Rattle.session_words.specs.declared.content.Content.TheVariants.{World
 ghost use Rattle.world_forms.specs.Forms.{forms, last_newline};
 ghost use Rattle.world_forms.specs.Properties.{left_out_lines};
 ghost use Rattle.world_forms.specs.Readtables.{readtable_lines};
-ghost use Rattle.export_laws.specs.Texts.{Makes};
+ghost use Rattle.export_laws.specs.ExportedTexts.{Makes};
 ghost use Rattle.whole_export.specs.KeptWorld.{IsWithoutLeftOut};
-ghost use Rattle.whole_export.specs.Sessions.{EndsWith};
+ghost use Rattle.whole_export.specs.ExportSession.{EndsWith};
 ghost use Rattle.whole_export.specs.Standard.{ReadsStandard};
 
 use disk_trait::Disk;

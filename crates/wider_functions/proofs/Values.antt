@@ -14,14 +14,14 @@ use Rattle.package_table.specs.Symbols.{symbols}
 use Rattle.package_table.specs.Table.{Name, Table as Packages, common_lisp}
 use Rattle.plist_state.specs.State.{WorldState, standard_name}
 use Rattle.plist_state.specs.Changes.{with_macro, with_dispatch, with_packages}
-use Rattle.lisp_operators.specs.Kinds.{a_character, a_keyword, given_or, given_or_nil, is_true}
+use Rattle.lisp_operators.specs.ArgumentKinds.{a_character, a_keyword, given_or, given_or_nil, is_true}
 use Rattle.lisp_operators.specs.Evaluation.{Done, Evaluation, gives, also, and_then, of_kind}
 use Rattle.lisp_operators.specs.Properties.{t}
 use Rattle.lisp_operators.specs.Readtables.{a_function, after_first, changeable, is_function, set_dispatch, set_macro, with_readtables}
 use Rattle.evaluator.specs.Operators.{Operator, operator_named, operator_of, pazturrok, pazturrok_operator}
 use Rattle.evaluator.specs.Value.{value_by, symbol_value_by}
 use Rattle.evaluator.proofs.Widening.{Widens, OperatorWidens, widens_same, widens_also, widens_if, widens_value, widens_same_operator, called_widens}
-use Rattle.form_eval.specs.Acceptance.{accept_by, accepted_by, with_symbols}
+use Rattle.form_eval.specs.Acceptance.{accept_by, accepted_by, with_symbols_interned}
 use Rattle.prevalence_store.specs.meaning.Acceptance.{transaction_value}
 use Rattle.prevalence_store.specs.meaning.Forgetting.{forgetting, is_forgetting}
 
@@ -132,7 +132,7 @@ module _ (fewer more : List Name) (among : (name : Name) → IsTrue (is_among fe
 
   accepting_widens : (s : WorldState) (x : Object) (d : Done Object) → accept_by true fewer s x ≡ Ok d → accept_by true more s x ≡ Ok d
   accepting_widens s x d is =
-      (subst (λ o. Widens o (accept_by true more s x)) is (widens_accepted s (with_symbols s.packages (symbols x)) x)).same
+      (subst (λ o. Widens o (accept_by true more s x)) is (widens_accepted s (with_symbols_interned s.packages (symbols x)) x)).same
 
   pub transacting_widens : (s : WorldState) (x : Object) (d : Done Object) → transaction_value fewer s x ≡ Ok d → transaction_value more s x ≡ Ok d
   transacting_widens s x d = by_test (is_forgetting x)

@@ -11,7 +11,7 @@ use Rattle.plist_state.specs.State.{WorldState}
 use Rattle.canon_printer.specs.Written.{printed_text}
 use Rattle.session_words.specs.declared.content.Content.{Content}
 use Rattle.session_words.specs.declared.content.Content.TheVariants.{World, Data}
-use Rattle.world_forms.specs.Tokens.{line_of_form, value_text}
+use Rattle.world_forms.specs.NameTokens.{line_of_form, value_text}
 use Rattle.world_forms.specs.Packages.{package_lines}
 use Rattle.world_forms.specs.Properties.{property_lines}
 use Rattle.world_forms.specs.Readtables.{readtable_lines}
@@ -21,17 +21,19 @@ abbrev pub newline_in : Table → List ℕ
 newline_in t = if syntax_number (entry_at t 10).syntax == syntax_number Whitespace then 10 ∷ [] else []
 
 module _ (s : WorldState) where
-  -- what makes the package, the base of numbers and the readtable current
+  -- the form that makes the package current
   unfoldable pub package_form : List ℕ
   package_form = codes "(IN-PACKAGE " ++ printed_text s.current_package ++ codes ")"
 
+  -- the form that sets the base of numbers
   unfoldable pub base_form : List ℕ
   base_form = codes "(SETF *READ-BASE* " ++ decimal s.read_base ++ codes ")"
 
+  -- the form that makes the readtable current
   unfoldable pub readtable_form : List ℕ
   readtable_form = codes "(IN-READTABLE " ++ value_text [] [] keyword s.current_readtable ++ codes ")"
 
-  -- the last two, each after a space
+  -- the forms for the base and the readtable, each after a space; nothing, where only data are exported
   unfoldable pub reading_forms : Content → List ℕ
   reading_forms World = codes " " ++ base_form ++ codes " " ++ readtable_form
   reading_forms Data = []

@@ -2,4 +2,4 @@ pub mod Forms
 pub mod Packages
 pub mod Properties
 pub mod Readtables
-pub mod Tokens
+pub mod NameTokens

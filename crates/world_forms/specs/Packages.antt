@@ -7,7 +7,7 @@ use Rattle.package_table.specs.Table.{Name, Table, common_lisp, common_lisp_user
 use Rattle.package_table.specs.Lookup.{is_present}
 use Rattle.package_table.specs.Readers.{package_names, used_names, own_names, external_names, imports}
 use Rattle.canon_printer.specs.Written.{printed_text}
-use Rattle.world_forms.specs.Tokens.{line_of_form, call_text, value_text}
+use Rattle.world_forms.specs.NameTokens.{line_of_form, call_text, value_text}
 
 -- a package that is there from the first
 unfoldable pub is_first : Name → Bool
@@ -41,17 +41,18 @@ use_line p u =
     else line_of_form (call_text (codes "USE-PACKAGE") (u ∷ p ∷ []))
 
 module _ (t : Table) where
-  -- the symbols at home in a package
+  -- the forms that make the symbols at home in a package
   unfoldable pub own_lines : Name → List ℕ
   own_lines p = flat_map (own_line p) (own_names t p)
 
-  -- its symbols from other homes, and the external ones; COMMON-LISP never changes, and of KEYWORD all are external
+  -- The forms that import symbols into a package from other homes, and make symbols external. Nothing for COMMON-LISP, which
+  -- never changes, and for KEYWORD, of which all are external.
   unfoldable pub shown_lines : Name → List ℕ
   shown_lines p =
       if bytes_eq p common_lisp || bytes_eq p keyword then []
       else flat_map (import_line p) (imports t p) ++ flat_map (export_form_line p) (external_names t p)
 
-  -- the packages that it uses
+  -- the forms by which a package uses those that it uses
   unfoldable pub use_lines : Name → List ℕ
   use_lines p = flat_map (use_line p) (used_names t p)
 

@@ -13,7 +13,7 @@ use Rattle.plist_state.specs.Properties.{Symbol}
 use Rattle.plist_state.specs.State.{WorldState}
 use Rattle.plist_state.specs.Changes.{plist}
 use Rattle.plist_state.specs.Readers.{symbols_with_properties}
-use Rattle.world_forms.specs.Tokens.{line_of_form, symbol_text, quoted_text, told_text}
+use Rattle.world_forms.specs.NameTokens.{line_of_form, symbol_text, quoted_text, told_text}
 
 -- the form that sets a property of a symbol
 unfoldable pub property_form : Table → Symbol → Symbol × Object → List ℕ
@@ -36,20 +36,22 @@ unfoldable pub is_form : Table → List ℕ → Bool
 is_form t text = ends_at (reads (form_setting t) (line_of_form text)) (length text)
 
 module _ (t : Table) (x : Symbol) where
-  -- the form of a property, if it is one
+  -- the line of the form that sets a property; nothing for one that no form can set
   unfoldable pub property_line : Symbol × Object → List ℕ
   property_line p = if is_form t (property_form t x p) then line_of_form (property_form t x p) else []
 
-  -- else the symbol and the indicator: the property is left out
+  -- the line on a property that no form can set, with its symbol and its indicator; nothing for another one
   unfoldable pub left_out_line : Symbol × Object → List ℕ
   left_out_line p =
       if is_form t (property_form t x p) then []
       else line_of_form (told_text (symbol_text x.0 x.1 ++ codes " " ++ symbol_text p.0.0 p.0.1))
 
 module _ (s : WorldState) where
+  -- the lines of the forms that set the properties of a symbol
   unfoldable pub plist_lines : Symbol → List ℕ
   plist_lines x = flat_map (property_line s.packages x) (plist s x)
 
+  -- the lines on the properties of a symbol that no form can set
   unfoldable pub plist_left_out : Symbol → List ℕ
   plist_left_out x = flat_map (left_out_line s.packages x) (plist s x)
 
@@ -57,6 +59,6 @@ module _ (s : WorldState) where
   unfoldable pub property_lines : List ℕ
   property_lines = flat_map plist_lines (symbols_with_properties s)
 
-  -- the lines of those that none can
+  -- the lines on all properties that no form can set
   unfoldable pub left_out_lines : List ℕ
   left_out_lines = flat_map plist_left_out (symbols_with_properties s)

@@ -5,7 +5,7 @@ ghost use Rattle.std.specs.List.{flat_map};
 ghost use Rattle.canon_printer.specs.Written.{AddsText};
 ghost use Rattle.package_table.specs.Table.{initial as initial_packages};
 ghost use Rattle.package_table.specs.Readers.{names_of};
-ghost use Rattle.world_forms.specs.Tokens.{line_of_form, call_text};
+ghost use Rattle.world_forms.specs.NameTokens.{line_of_form, call_text};
 ghost use Rattle.world_forms.specs.Packages.{is_first, package_line, own_line, change_line, import_line, export_form_line, use_line};
 ghost use Rattle.world_forms.specs.Packages.{own_lines, shown_lines, use_lines, package_lines};
 

@@ -5,7 +5,7 @@ ghost use Rattle.std.specs.List.{flat_map, range_with_len};
 ghost use Rattle.readtable_core.specs.Cases.{case_name};
 ghost use Rattle.readtable_core.specs.Tables.{entry_at, standard as standard_table};
 ghost use Rattle.canon_printer.specs.Written.{AddsText};
-ghost use Rattle.world_forms.specs.Tokens.{character_argument};
+ghost use Rattle.world_forms.specs.NameTokens.{character_argument};
 ghost use Rattle.world_forms.specs.Readtables.{character_of_type, kind_argument, table_argument, table_end, like_line, syntax_line, macro_line, sub_line, dispatch_lines};
 ghost use Rattle.world_forms.specs.Readtables.{entry_lines, changed_lines, set_case_line, case_line, table_lines, named_lines, readtable_lines};
 
@@ -284,7 +284,7 @@ fn push_kind(text: &mut Vec<u8>, syntax: Syntax) -> Result<(), AllocError>
     }
 }
 
-/// The function of a sub-character in an entry.
+/// The function of a sub-character in an entry; None where it has none, or the entry is of no dispatching character.
 fn function_at(entry: &CharacterSlot, sub: u8) -> Option<FnName>
     ensures { result ≡ get_or entry.now.dispatch sub None }
 {

@@ -4,9 +4,9 @@ ghost use Rattle.std.specs.List.{list_all, flat_map};
 ghost use Rattle.canon_printer.specs.Names.{with_backslashes, is_escaped_in_bars, is_invalid};
 ghost use Rattle.canon_printer.specs.Written.{AddsText, printed_text};
 ghost use Rattle.package_table.specs.Readers.{names_of};
-ghost use Rattle.world_forms.specs.Tokens.{is_portable_name, is_plain_after, name_text, prefix_text, symbol_text, prefix_length, is_too_long};
-ghost use Rattle.world_forms.specs.Tokens.{text_argument, call_text, value_text, quoted_text, character_argument, keyword_argument};
-ghost use Rattle.world_forms.specs.Tokens.{hex_digit, told_character, told_text};
+ghost use Rattle.world_forms.specs.NameTokens.{is_portable_name, is_plain_after, name_text, prefix_text, symbol_text, prefix_length, is_too_long};
+ghost use Rattle.world_forms.specs.NameTokens.{text_argument, call_text, value_text, quoted_text, character_argument, keyword_argument};
+ghost use Rattle.world_forms.specs.NameTokens.{hex_digit, told_character, told_text};
 
 use canon_printer::print;
 use lisp_object::Datum;
@@ -114,7 +114,7 @@ fn push_prefix(text: &mut Vec<u8>, home: &[u8]) -> Result<(), AllocError>
 }
 
 /// Adds the token of a symbol: the name alone if its home is COMMON-LISP-USER, and else after its home.
-#[tactic(auto, unfolding(crate::specs::Tokens::symbol_text))]
+#[tactic(auto, unfolding(crate::specs::NameTokens::symbol_text))]
 pub(crate) fn push_symbol(text: &mut Vec<u8>, home: &[u8], name: &[u8]) -> Result<(), AllocError>
     ensures { OnOk result (AddsText text.old text.new (symbol_text home.now name.now)) }
 {
@@ -136,7 +136,7 @@ fn prefix_len(home: &[u8]) -> usize
 }
 
 /// Whether the token of a symbol has more characters than one in a form may have.
-#[tactic(auto, unfolding(crate::specs::Tokens::is_too_long))]
+#[tactic(auto, unfolding(crate::specs::NameTokens::is_too_long))]
 fn is_too_long(home: &[u8], name: &[u8]) -> bool
     ensures { result ≡ is_too_long home.now name.now }
 {
@@ -145,7 +145,7 @@ fn is_too_long(home: &[u8], name: &[u8]) -> bool
 
 /// Adds what evaluates to a symbol, with the marks round a token that keep it from being evaluated. A symbol whose token would be too
 /// long is the value of INTERN, which finds it.
-#[tactic(auto, unfolding(crate::specs::Tokens::value_text))]
+#[tactic(auto, unfolding(crate::specs::NameTokens::value_text))]
 pub(crate) fn push_value(
     text: &mut Vec<u8>,
     before: &[u8],
@@ -176,7 +176,7 @@ fn push_arguments(text: &mut Vec<u8>, texts: &[&[u8]]) -> Result<(), AllocError>
 }
 
 /// Adds a call of an operator with texts.
-#[tactic(auto, unfolding(crate::specs::Tokens::call_text))]
+#[tactic(auto, unfolding(crate::specs::NameTokens::call_text))]
 pub(crate) fn push_call(
     text: &mut Vec<u8>,
     operator: &[u8],

@@ -10,7 +10,7 @@ use Rattle.lisp_reading.specs.Reading.{form, space_at, reads}
 use Rattle.plist_state.specs.State.{WorldState}
 use Rattle.plist_state.specs.Sound.{IsSoundWorldState}
 use Rattle.world_text.specs.Lines.{snapshot_limits, IsLineRead}
-use Rattle.world_text.specs.Tokens.{ends_with_token}
+use Rattle.world_text.specs.PrintedTokens.{ends_with_token}
 use Rattle.world_text.specs.Snapshot.{packages_object, properties_object, tables_object_in}
 use Rattle.world_text.proofs.Whole.{object_read_back}
 use Rattle.world_text.proofs.WithinLimits.{tokens_short, packages_depth, properties_depth, third_depth}

@@ -28,7 +28,7 @@ use Rattle.plist_state.specs.Readers.{symbols_with_properties}
 use Rattle.plist_state.specs.Sound as state
 use Rattle.plist_state.specs.Sound.{IsSymbolStorable, IsSymbol, IsValue, IsPlist}
 use Rattle.plist_state.proofs.Orders.{symbol_tied}
-use Rattle.world_text.specs.Tokens.{token_length, AreTokensWithin, ends_with_token}
+use Rattle.world_text.specs.PrintedTokens.{token_length, AreTokensWithin, ends_with_token}
 use Rattle.world_text.specs.Snapshot.{symbol_object, plist_object, properties_object}
 use Rattle.world_text.proofs.Spelling.{met_text}
 use Rattle.world_text.proofs.Whole.{object_read_back}

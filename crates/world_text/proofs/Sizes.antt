@@ -11,7 +11,7 @@ use Rattle.package_table.specs.Table.{Name, Table, keyword}
 use Rattle.canon_printer.specs.Names as names
 use Rattle.package_table.specs.Lookup.{is_symbol, is_external}
 use Rattle.canon_printer.specs.Printed.{is_accessible}
-use Rattle.world_text.specs.Tokens.{token_length}
+use Rattle.world_text.specs.PrintedTokens.{token_length}
 use Rattle.world_text.proofs.Marked.{plain_marks, quoted_marks, name_marks, printed_marks}
 
 pub count_both : (xs ys : List Mark) → character_count (xs ++ ys) ≡ character_count xs + character_count ys

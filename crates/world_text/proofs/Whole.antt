@@ -36,7 +36,7 @@ use Rattle.lisp_reading.specs.Reading.{finished_plan, inner, completed_call, tex
 use Rattle.lisp_reading.proofs.Forms.{reads_is}
 use Rattle.form_reader.proofs.Stacks.{then_moves}
 use Rattle.lisp_reading.proofs.Steps.{and_then, run_then}
-use Rattle.world_text.specs.Tokens.{AreTokensWithin, ends_with_token}
+use Rattle.world_text.specs.PrintedTokens.{AreTokensWithin, ends_with_token}
 use Rattle.world_text.proofs.Marked.{name_marks}
 use Rattle.world_text.proofs.Spelling.{met_text, starts_token, begins_token, token_of, IsAscii}
 use Rattle.world_text.proofs.Names.{is_name, not_empty}

@@ -26,7 +26,7 @@ use Rattle.plist_state.specs.Changes.{plist}
 use Rattle.plist_state.specs.Readers.{readtable_names, symbols_with_properties}
 use Rattle.plist_state.specs.Sound as state
 use Rattle.plist_state.specs.Sound.{IsSymbolStorable, IsValue}
-use Rattle.world_text.specs.Tokens.{token_length, AreTokensWithin}
+use Rattle.world_text.specs.PrintedTokens.{token_length, AreTokensWithin}
 use Rattle.world_text.specs.Snapshot.{texts, made_names, shown_names, imported_name, package_object, packages_object, symbol_object, plist_object, properties_object, number, dispatch_object, dispatch_objects, entry_object, entry_objects, readtable_object, table_named, readtables_object, tables_object, tables_object_1, tables_object_in}
 use Rattle.world_text.proofs.Versions.{third_by}
 

@@ -1,5 +1,5 @@
 pub mod Snapshot
-pub mod Tokens
+pub mod PrintedTokens
 pub mod Lines
-pub mod Texts
+pub mod ObjectTexts
 pub mod KeptNames

@@ -16,7 +16,7 @@ ghost use Rattle.plist_state.specs.State.{WorldState};
 ghost use Rattle.plist_state.specs.Sound.{IsSoundWorldState as IsSoundState};
 ghost use Rattle.world_text.specs.Lines.{snapshot_limits, IsLineRead};
 ghost use Rattle.world_text.specs.Snapshot.{packages_object, properties_object, tables_object_in, snapshot_in};
-ghost use Rattle.world_text.specs.Tokens.{AreTokensWithin, ends_with_token};
+ghost use Rattle.world_text.specs.PrintedTokens.{AreTokensWithin, ends_with_token};
 ghost use Rattle.user_macros.specs.Functions.{Functions};
 
 /// The printed text of an object is read back (standard 22.1.3): with sound packages that have its symbols, under the

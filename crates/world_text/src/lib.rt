@@ -6,7 +6,7 @@
 //! either. The law `one_text_one_state` says that a text of a version is that of one sound state, and
 //! `snapshot_lines_are_read` that each of its lines is read. `printed_objects_read_back` is the law of any object: its
 //! printed text is read, under the standard readtable and in the same packages, as the same object. What it asks of the tokens in
-//! the text, specs/Tokens.antt says. snapshot_text reads the text.
+//! the text, specs/PrintedTokens.antt says. snapshot_text reads the text.
 //!
 //! - `writer`: `write`, `write_in`, and `write_kept`, which leaves out names that a test does not keep; `name_test`: `NameTest`;
 //!   `package_rows`, `property_texts`: packages and property lists as text, `table_rows`: readtables as data; `texts`: lists of texts;

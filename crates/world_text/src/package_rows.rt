@@ -10,7 +10,7 @@ ghost use Rattle.package_table.specs.Lookup.{is_present};
 ghost use Rattle.world_text.specs.KeptNames.{kept_names};
 ghost use Rattle.world_text.specs.Snapshot.{texts, imported_name, shown_names, package_with, packages_with};
 ghost use Rattle.package_table.specs.Readers.{used_names, own_names, imports};
-ghost use Rattle.world_text.specs.Texts.{later_text, object_text};
+ghost use Rattle.world_text.specs.ObjectTexts.{later_text, object_text};
 
 use crate::name_test::NameTest;
 use crate::printing::push_printed;

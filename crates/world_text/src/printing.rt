@@ -1,7 +1,7 @@
 //! Printed objects, added to a text.
 ghost use Rattle.std.specs.Prelude.{◌≡◌, ◌++◌, true, OnOk};
 ghost use Rattle.lisp_object.specs.Datum.{object_of, is_proper};
-ghost use Rattle.world_text.specs.Texts.{object_text};
+ghost use Rattle.world_text.specs.ObjectTexts.{object_text};
 
 use canon_printer::print;
 use lisp_object::Datum;

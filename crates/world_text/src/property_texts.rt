@@ -5,7 +5,7 @@ ghost use Rattle.std.specs.List.{list_all, flat_map};
 ghost use Rattle.lisp_object.specs.Datum.{object_of, is_proper};
 ghost use Rattle.lisp_object.specs.Ascii.{is_ascii};
 ghost use Rattle.world_text.specs.Snapshot.{symbol_object, plist_object, properties_object};
-ghost use Rattle.world_text.specs.Texts.{later_text, object_text, row_of};
+ghost use Rattle.world_text.specs.ObjectTexts.{later_text, object_text, row_of};
 
 use crate::printing::push_printed;
 use lisp_object::{Bytes, Datum};

@@ -7,7 +7,7 @@ ghost use Rattle.lisp_object.specs.Object.{list_of};
 ghost use Rattle.lisp_object.specs.Datum.{object_of, is_proper};
 ghost use Rattle.lisp_object.specs.Ascii.{is_ascii};
 ghost use Rattle.world_text.specs.Snapshot.{texts, imported_name};
-ghost use Rattle.world_text.specs.Texts.{later_text, object_text};
+ghost use Rattle.world_text.specs.ObjectTexts.{later_text, object_text};
 
 use crate::printing::push_printed;
 use lisp_object::{Bytes, Datum};

@@ -1,5 +1,7 @@
 // What stands in a folder's place, and how a missing folder is made. Outside every proof, as all of `HostDisk`.
 
+use crate::failed_call::tried;
+use crate::{HostCall, HostError, HostFile};
 use std::fs::File;
 use std::path::Path;
 use std::rt::Files;
@@ -9,7 +11,7 @@ use std::{fs, io};
 pub(super) fn make_folder<R: Files<File = File> + AllocGlobal>(
     rt: &R,
     dir: &str,
-) -> io::Result<()> {
+) -> Result<(), HostError> {
     let folder = Path::new(dir);
     let missing = missing_folders(rt, folder);
     if missing == 0 {
@@ -17,11 +19,20 @@ pub(super) fn make_folder<R: Files<File = File> + AllocGlobal>(
     }
     // a name under which no half can stand is refused before anything is made
     let half = folder.join(rt.alloc(), "half-a")?;
-    is_at(rt, half.as_path())?;
-    fs::create_dir_all(rt, dir)?;
+    tried(HostCall::LookAt, HostFile::HalfA, is_at(rt, half.as_path()))?;
+    tried(
+        HostCall::Make,
+        HostFile::Folder,
+        fs::create_dir_all(rt, dir),
+    )?;
     for made in folder.ancestors().take(missing) {
         let above = made.join(rt.alloc(), "..")?;
-        File::open(rt, above.as_path())?.sync_all()?;
+        let above = tried(
+            HostCall::Open,
+            HostFile::Above,
+            File::open(rt, above.as_path()),
+        )?;
+        tried(HostCall::Sync, HostFile::Above, above.sync_all())?;
     }
     Ok(())
 }

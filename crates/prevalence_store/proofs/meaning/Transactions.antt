@@ -28,7 +28,7 @@ use Rattle.lisp_operators.specs.EvaluationAnswers.{Answers, done}
 use Rattle.lisp_operators.specs.Readtables.{AreCovered}
 use Rattle.evaluator.specs.Operators.{Operator, OperatorTable, pazturrok}
 use Rattle.evaluator.specs.Value.{Parts, form_value_by, value_over}
-use Rattle.form_eval.specs.Acceptance.{accept, accept_over, accepted_over, with_symbols}
+use Rattle.form_eval.specs.Acceptance.{accept, accept_over, accepted_over, with_symbols_interned}
 use Rattle.form_eval.proofs.Accepted.{accepted_covers, accepted_numbered, accepted_silent}
 use Rattle.forgotten_names.specs.WorldsWithoutNames.{forgettable, without_unneeded_symbols}
 use Rattle.forgotten_names.proofs.NothingForgotten.{nothing_forgotten}
@@ -155,5 +155,5 @@ module _ (based : Bool) (table : OperatorTable) (none : table forget_names ≡ N
     where
       by_test : (forgets : Bool) → is_forgetting x ≡ forgets → forgets ≡ false
       by_test true same =
-          absurd (after_symbols s (with_symbols s.packages (symbols form)) d (subst (λ y. accept_over based table s y ≡ Ok d) (its_form x same) is))
+          absurd (after_symbols s (with_symbols_interned s.packages (symbols form)) d (subst (λ y. accept_over based table s y ≡ Ok d) (its_form x same) is))
       by_test false same = refl

@@ -13,12 +13,12 @@ use Rattle.prevalence_store.specs.declared.outcome.Outcome.TheVariants.{Accepted
 use Rattle.session_words.specs.declared.mode.Mode.{Mode}
 use Rattle.prevalence_store.specs.meaning.Acceptance.{Acceptance, accepts, after, accepted_record, records_of}
 use Rattle.prevalence_store.specs.calls.Execute.{Executes, IsProperOutcome, IsValueIn, SurvivesAs}
-use Rattle.prevalence_store.specs.calls.ExecuteAll.{FailsTogether, IsTogether, LogsAll, texts_in_turn}
+use Rattle.prevalence_store.specs.calls.ExecuteAll.{FailsToLogTexts, AreTextsLoggedTogether, LogsAll, progress_of_texts}
 use Rattle.prevalence_store.specs.calls.Store.{StoreView}
 use Rattle.prevalence_store.specs.steps.Batch.{FailsBatch, StoresBatch, TakesBatch}
 use Rattle.prevalence_store.specs.steps.Failure.{failure_number}
-use Rattle.prevalence_store.specs.steps.Group.{AreTurns, IsTurn}
-use Rattle.prevalence_store.specs.steps.Together.{HasFailedIn, IsMade, IsNotMade}
+use Rattle.prevalence_store.specs.steps.Group.{AreTextsEvaluated, IsTurn}
+use Rattle.prevalence_store.specs.steps.Together.{HasFailedInTurn, IsTurnLogged, IsTurnNotLogged}
 use Rattle.prevalence_store.proofs.calls.Executing.{out_of_memory, turned_down}
 use Rattle.prevalence_store.proofs.meaning.Numbered.{acceptance_is_numbered}
 use Rattle.prevalence_store.proofs.steps.Grouping.{all_replayed, one_replayed}
@@ -29,7 +29,7 @@ use Rattle.user_macros.specs.Functions.{Functions}
 module _ (functions : Functions) {D R : Type 0} (state : D → State) (old new : StoreView D R) (world : WorldState) where
   -- by what logging its records did
   pub not_made : (left : WorldState) (records : List LogRecord) (Makes : WorldState → List LogRecord → Type 0) → Makes left records → (cause : Unlogged) {T : Type 0}
-      → TakesBatch functions state old new world left records {T = T} (Err cause) → IsNotMade functions state old new world Makes cause
+      → TakesBatch functions state old new world left records {T = T} (Err cause) → IsTurnNotLogged functions state old new world Makes cause
   not_made left records Makes makes cause took = record {
     unchanged = took.unchanged;
     full = λ is. let over = took.full is in record { left = left; records = records; makes = makes; some = over.0; over = over.1 };
@@ -37,7 +37,7 @@ module _ (functions : Functions) {D R : Type 0} (state : D → State) (old new :
   }
 
   -- no memory
-  pub untouched : (Makes : WorldState → List LogRecord → Type 0) → new ≡ old → IsNotMade functions state old new world Makes OutOfMemory
+  pub untouched : (Makes : WorldState → List LogRecord → Type 0) → new ≡ old → IsTurnNotLogged functions state old new world Makes OutOfMemory
   untouched Makes same = record { unchanged = λ _. same; full = λ is. absurd (cc); stopped = λ is. absurd (cc) }
 
 -- ---- a text
@@ -93,7 +93,7 @@ module _ (functions : Functions) (mode : Mode) (w : WorldState) (text : List ℕ
     by_given (Ok given) is outcome left records turn stores = as_accepted given is outcome left records turn stores
     by_given (Err number) is outcome left records turn stores = as_refused number is outcome left records turn stores
 
-    pub text_executed : (outcome : Outcome) → IsMade functions state old new w (λ left records. MakesText outcome left records) → Executes functions state old new w mode text outcome
+    pub text_executed : (outcome : Outcome) → IsTurnLogged functions state old new w (λ left records. MakesText outcome left records) → Executes functions state old new w mode text outcome
     text_executed outcome made = by_given (accepts functions w mode text) refl outcome made.left made.records made.makes.0 made.stores
 
     -- ---- it was not
@@ -137,7 +137,7 @@ module _ (functions : Functions) (mode : Mode) (w : WorldState) (text : List ℕ
         })))
     met_fault (Err number) is outcome left records turn fails = absurd (omega (arith, fails.some, ap length turn.entries))
 
-    pub text_unlogged : (cause : Unlogged) → IsNotMade functions state old new w (λ left records. (outcome : Outcome) × MakesText outcome left records) cause
+    pub text_unlogged : (cause : Unlogged) → IsTurnNotLogged functions state old new w (λ left records. (outcome : Outcome) × MakesText outcome left records) cause
         → Executes functions state old new w mode text (Refused (failure_number cause))
     text_unlogged OutOfMemory unmade =
         let same = unmade.unchanged refl in out_of_memory functions state old new w mode text same (unchanged_survives functions state sound old new w same)
@@ -151,28 +151,28 @@ module _ (functions : Functions) (mode : Mode) (w : WorldState) (text : List ℕ
 
 module _ (functions : Functions) (mode : Mode) (w : WorldState) (texts : List (Bor (List ℕ))) where
   -- their records make the world that they left, and fit the log
-  pub texts_again : (v : WorldState) (records : List LogRecord) (outcomes : List Outcome) → AreTurns (texts_in_turn functions w mode texts) outcomes v records → after functions w records ≡ Some v
+  pub texts_again : (v : WorldState) (records : List LogRecord) (outcomes : List Outcome) → AreTextsEvaluated (progress_of_texts functions w mode texts) outcomes v records → after functions w records ≡ Some v
   texts_again v records outcomes turns = ap (after functions w) turns.entries ∙ (all_replayed functions mode w texts).again ∙ ap (λ s. Some s) (sym turns.left)
 
-  pub texts_fit : (v : WorldState) (records : List LogRecord) (outcomes : List Outcome) → AreTurns (texts_in_turn functions w mode texts) outcomes v records → AllByRecursion IsLogRecord records
+  pub texts_fit : (v : WorldState) (records : List LogRecord) (outcomes : List Outcome) → AreTextsEvaluated (progress_of_texts functions w mode texts) outcomes v records → AllByRecursion IsLogRecord records
   texts_fit v records outcomes turns = subst (λ (es : List LogRecord). AllByRecursion IsLogRecord es) (sym turns.entries) (all_replayed functions mode w texts).fit
 
   module _ {D R : Type 0} (state : D → State) (old new : StoreView D R) where
     -- what was made of them
     abbrev MakesTexts : List Outcome → WorldState → List LogRecord → Type 0
-    MakesTexts outcomes left records = AreTurns (texts_in_turn functions w mode texts) outcomes left records × All IsProperOutcome outcomes
+    MakesTexts outcomes left records = AreTextsEvaluated (progress_of_texts functions w mode texts) outcomes left records × All IsProperOutcome outcomes
 
-    pub texts_executed : (outcomes : List Outcome) → IsMade functions state old new w (λ left records. MakesTexts outcomes left records) → IsTogether functions state old new w mode texts outcomes
+    pub texts_executed : (outcomes : List Outcome) → IsTurnLogged functions state old new w (λ left records. MakesTexts outcomes left records) → AreTextsLoggedTogether functions state old new w mode texts outcomes
     texts_executed outcomes made =
         let turns = made.makes.0 in
-        let stores : StoresBatch functions state old new w (texts_in_turn functions w mode texts).left (texts_in_turn functions w mode texts).entries =
-        subst (λ (v : WorldState). StoresBatch functions state old new w v (texts_in_turn functions w mode texts).entries) turns.left
+        let stores : StoresBatch functions state old new w (progress_of_texts functions w mode texts).left (progress_of_texts functions w mode texts).entries =
+        subst (λ (v : WorldState). StoresBatch functions state old new w v (progress_of_texts functions w mode texts).entries) turns.left
         (subst (λ (es : List LogRecord). StoresBatch functions state old new w made.left es) turns.entries made.stores) in
         record { told = turns.told; logs = stores.logs; survives = stores.survives; all_or_none = stores.all_or_none }
 
-    pub texts_failed : {V : Type 0} (items : V → List Outcome) → HasFailedIn functions state old new w (λ left records. (made : V) × MakesTexts (items made) left records) → FailsTogether functions state old new w mode texts
+    pub texts_failed : {V : Type 0} (items : V → List Outcome) → HasFailedInTurn functions state old new w (λ left records. (made : V) × MakesTexts (items made) left records) → FailsToLogTexts functions state old new w mode texts
     texts_failed items stopped =
         let turns = stopped.makes.1.0 in
-        let fails : FailsBatch functions state old new w stopped.left (texts_in_turn functions w mode texts).entries =
+        let fails : FailsBatch functions state old new w stopped.left (progress_of_texts functions w mode texts).entries =
         subst (λ (es : List LogRecord). FailsBatch functions state old new w stopped.left es) turns.entries stopped.fails in
         record { some = fails.some; fits = fails.fits; failed = fails.failed; survives = fails.survives; all_or_none = fails.all_or_none }

@@ -29,6 +29,6 @@ pub record IsWholeForm (functions : Functions) (world : WorldState) (mode : Mode
   pub may : MayEvaluate world.packages read
 
 -- the text is a form, or it is refused with this number
-abbrev pub IsWhole : Functions → WorldState → Mode → List ℕ → WholeText → Type 0
-IsWhole functions world mode text (whole.Form read start stop) = IsWholeForm functions world mode text read start stop
-IsWhole functions world mode text (whole.Refused number) = accepts functions world mode text ≡ Err number
+abbrev pub IsTextReadWhole : Functions → WorldState → Mode → List ℕ → WholeText → Type 0
+IsTextReadWhole functions world mode text (whole.Form read start stop) = IsWholeForm functions world mode text read start stop
+IsTextReadWhole functions world mode text (whole.Refused number) = accepts functions world mode text ≡ Err number

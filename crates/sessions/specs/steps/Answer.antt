@@ -26,8 +26,8 @@ use Rattle.session_words.specs.declared.wanted.SessionOptions.{SessionOptions}
 use Rattle.sessions.specs.declared.ending.Ending.{Ending}
 use Rattle.sessions.specs.declared.ending.Ending.TheVariants.{End, Reader, Store}
 use Rattle.prevalence_store.specs.meaning.Acceptance.{between, read_in, records_of, transaction_value}
-use Rattle.sessions.specs.Answers.{Progress, first_progress, refusal_line, value_line}
-use Rattle.sessions.specs.Pace.{Fill, LogsWithRoom, Pace, Paces, fill_of, fill_with_record}
+use Rattle.sessions.specs.FormAnswers.{Progress, first_progress, refusal_line, value_line}
+use Rattle.sessions.specs.Pace.{Fill, LogsWithRoom, Pace, PacesForms, fill_of, fill_with_record}
 use Rattle.sessions.specs.Serve.{Advances, IsOver, IsFormUnaccepted, Serves, ServesInPace}
 use Rattle.prevalence_store.specs.calls.Store.{StoreView}
 use Rattle.sessions.specs.Streams.{Writes, WritesPart}
@@ -38,7 +38,7 @@ use Rattle.plist_state.specs.State.{WorldState}
 use Rattle.user_macros.specs.Functions.{Functions}
 
 -- the text begins with this form, and this is its own text
-pub record BeginsWith (functions : Functions) (world : WorldState) (mode : Mode) (text : List ℕ) (object : Object) (own : List ℕ) (next : ℕ) : Type 0 where
+pub record BeginsWithForm (functions : Functions) (world : WorldState) (mode : Mode) (text : List ℕ) (object : Object) (own : List ℕ) (next : ℕ) : Type 0 where
   pub start : ℕ
   pub stop : ℕ
   pub reads : read_in functions world mode text ≡ form object start stop next
@@ -48,7 +48,7 @@ pub record BeginsWith (functions : Functions) (world : WorldState) (mode : Mode)
 -- known to be there, they are.
 pub record IsFormOf (functions : Functions) (left : Option WorldState) (mode : Mode) (read : ReadForm) (own : List ℕ) : Type 0 where
   pub is_open : IsSome left
-  pub begins : (world : WorldState) → left ≡ Some world → (text : List ℕ) × ((next : ℕ) × BeginsWith functions world mode text (object_of read.datum) own next)
+  pub begins : (world : WorldState) → left ≡ Some world → (text : List ℕ) × ((next : ℕ) × BeginsWithForm functions world mode text (object_of read.datum) own next)
   pub proper : is_proper read.datum ≡ true
   pub sound : IsSound (object_of read.datum)
   pub all_there : (world : WorldState) → left ≡ Some world → read.known ≡ true → are_there world.packages (object_of read.datum) ≡ true
@@ -62,7 +62,8 @@ LeavesRecord Logged taken fill now wrote =
 abbrev pub LogsAtOnce : ℕ → (fill now : Fill) → LogRecord → Type 0
 LogsAtOnce limit fill now entry = (fill.size + (6 + length entry.text) ≤ limit) × (now ≡ fill_with_record entry fill)
 
--- what became of a form that has a line
+-- what became of a form that has a line: it was accepted, and logged or not, or refused with a number. Of one that failed
+-- without a line nothing is meant.
 abbrev pub answered_of : Result Evaluated Failure → Answered
 answered_of (Ok evaluated) = Accepted evaluated.wrote
 answered_of (Err (failure.Refused number)) = Refused number
@@ -81,7 +82,7 @@ abbrev pub was_logged : Answered → Bool
 was_logged (Accepted logged) = logged
 was_logged (Refused number) = false
 
--- the number of the refusal, if it ends a session that may be strict
+-- the number of a refusal, if it ends the session, as it does in a strict one; else None
 abbrev pub refusal_that_ends : (strict : Bool) → Answered → Option ℕ
 refusal_that_ends strict (Accepted logged) = None
 refusal_that_ends true (Refused number) = Some number
@@ -121,7 +122,7 @@ module _ (functions : Functions) {D R : Type 0} (state : D → State) (old new :
   abbrev pub IsFormLeft : Unlogged → Type 0
   IsFormLeft cause = TakesForm functions state old new mode own object (Err (of_unlogged cause))
 
--- it was refused, or not
+-- what is told of the form that a text begins with is so: it was accepted, or refused with this number
 abbrev pub TellsForm : Functions → WorldState → Mode → List ℕ → Progress → Answered → Type 0
 TellsForm functions world mode text far (Accepted logged) = far.refused ≡ []
 TellsForm functions world mode text far (Refused number) = (far.refused ≡ number ∷ []) × ((start : ℕ) × IsFormUnaccepted functions world mode text number start)
@@ -171,7 +172,7 @@ module _ (functions : Functions) {D R : Type 0} (state : D → State) (old new :
   abbrev pub AnswersForm : (pace later : Pace) → List ℕ → Option (List ℕ) → Option (List ℕ) → Result Answered ℕ → Type 0
   AnswersForm pace later text held written (Ok answered) =
       (far : Progress) × Advances functions state old new world mode text held written 1 far
-      × Paces functions old.limit world far.taken pace later (fill_of old) (fill_of new)
+      × PacesForms functions old.limit world far.taken pace later (fill_of old) (fill_of new)
       × TellsForm functions world mode text far answered
   AnswersForm pace later text held written (Err number) =
       (stops : StopsInForm text held written number) × ServesInPace functions state pace old new world mode text held written (Store number) stops.serves
@@ -183,7 +184,7 @@ module _ (functions : Functions) {D R : Type 0} (state : D → State) (course la
   pub record PassesForm (refusals : List ℕ) : Type 0 where
     pub far : Progress
     pub advances : Advances functions state old new world wanted.mode text held written 1 far
-    pub paced : Paces functions old.limit world far.taken course.pace later.pace (fill_of old) (fill_of new)
+    pub paced : PacesForms functions old.limit world far.taken course.pace later.pace (fill_of old) (fill_of new)
     pub forms : later.forms ≡ course.forms + 1
     pub bytes : later.bytes ≡ course.bytes + next
     pub refused_are : far.refused ≡ refusals

@@ -14,19 +14,19 @@ pub record Course : Type 0 where
 abbrev pub course_of : CourseOf → Course
 course_of course = record { pace = pace_of course.schedule; forms = course.forms; bytes = course.bytes }
 
--- as a session begins
+-- how far a session has come as it begins
 abbrev pub first_course : Pace → Course
 first_course pace = record { pace = pace; forms = 0; bytes = 0 }
 
--- a form more, which took so many bytes
+-- how far a session has come with a form more, which took so many bytes
 abbrev pub pass : ℕ → Course → Course
 pass bytes course = record { pace = course.pace; forms = course.forms + 1; bytes = course.bytes + bytes }
 
--- so many forms more, which took so many bytes
+-- how far a session has come with so many forms more, which took so many bytes
 abbrev pub pass_all : ℕ → ℕ → Course → Course
 pass_all forms bytes course = record { pace = course.pace; forms = course.forms + forms; bytes = course.bytes + bytes }
 
 -- from one to the other so many forms of this text were answered, and this is left of it
-pub record Comes (from to : Course) (forms : ℕ) (text left : List ℕ) : Type 0 where
+pub record CourseComesOn (from to : Course) (forms : ℕ) (text left : List ℕ) : Type 0 where
   pub forms_are : to.forms ≡ forms + from.forms
   pub bytes_are : to.bytes + length left ≡ from.bytes + length text

@@ -36,13 +36,13 @@ is_device Full = false
 is_device DeviceFault = true
 is_device OutOfMemory = false
 
--- a form that was not logged was not accepted
+-- why a form was not accepted that was not logged
 abbrev pub of_unlogged : Unlogged → Failure
 of_unlogged unlogged.Full = Full
 of_unlogged unlogged.DeviceFault = DeviceFault
 of_unlogged unlogged.OutOfMemory = OutOfMemory
 
--- what was evaluated to this has written something
+-- evaluation gave a value, and the form wrote
 abbrev pub EvaluationHasWritten : Evaluation Object → Type 0
 EvaluationHasWritten given = (done : Done Object) × (given ≡ Ok done) × (done.wrote ≡ true)
 

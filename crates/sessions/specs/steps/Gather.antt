@@ -23,12 +23,12 @@ use Rattle.sessions.specs.declared.whole_forms.WholeForms.{WholeForms}
 use Rattle.sessions.specs.Serve.{room_of}
 use Rattle.prevalence_store.specs.calls.Store.{StoreView}
 use Rattle.prevalence_store.specs.meaning.Acceptance.{after, between, read_in, transaction_value}
-use Rattle.sessions.specs.Answers.{Progress, after_forms, form_progress}
+use Rattle.sessions.specs.FormAnswers.{Progress, after_forms, form_progress}
 use Rattle.sessions.specs.steps.Course.{Course}
 use Rattle.prevalence_store.specs.steps.Batch.{entries_in}
 use Rattle.sessions.specs.steps.Input.{IsPending}
-use Rattle.sessions.specs.steps.Serve.{GoesOn, HasEndedAt}
-use Rattle.prevalence_store.specs.steps.Together.{HasFailedIn, IsMade}
+use Rattle.sessions.specs.steps.Serve.{SessionGoesOn, HasEndedAt}
+use Rattle.prevalence_store.specs.steps.Together.{HasFailedInTurn, IsTurnLogged}
 use Rattle.user_macros.specs.Functions.{Functions}
 
 -- The text begins with this form, whatever follows it, and this is its own text. So many bytes are passed with it.
@@ -43,16 +43,16 @@ pub record BeginsWhole (functions : Functions) (world : WorldState) (mode : Mode
 abbrev pub record_size : (logged : Bool) → List ℕ → ℕ
 record_size logged own = if logged then 6 + length own else 0
 
--- no form is there yet
-pub record HoldsNone (gathered : GatheredForms) : Type 0 where
+-- no form is gathered yet
+pub record HoldsNoForm (gathered : GatheredForms) : Type 0 where
   pub lines : gathered.lines.items ≡ []
   pub records : gathered.records ≡ 0
   pub record_bytes : gathered.record_bytes ≡ 0
   pub forms : gathered.forms ≡ 0
   pub bytes : gathered.bytes ≡ 0
 
--- There are some, of which no more wrote than the limit says, and their records take no more bytes. The first takes so many bytes of the
--- input, and the others are among so many.
+-- Some forms are gathered, of which no more wrote than the limit says, and their records take no more bytes. The first takes
+-- so many bytes of the input, and the others are among so many.
 pub record AreWithinLimit (next many : ℕ) (limit : GroupLimit) (gathered : GatheredForms) : Type 0 where
   pub some : 0 < gathered.forms
   pub forms : gathered.forms ≤ gathered.bytes
@@ -113,11 +113,11 @@ module _ (functions : Functions) (wanted : SessionOptions) where
   module _ {D R : Type 0} (state : D → State) (old new : StoreView D R) (world : WorldState) (text : List ℕ) where
     -- the forms of a group were logged together, and the store has the world that they left
     abbrev pub TakesForms : GatheredForms → Type 0
-    TakesForms gathered = IsMade functions state old new world (λ left records. AreFormsGathered world text left records gathered)
+    TakesForms gathered = IsTurnLogged functions state old new world (λ left records. AreFormsGathered world text left records gathered)
 
-    -- the device failed as they were logged
+    -- the device failed as the forms of a group were logged
     abbrev pub FailsForms : Type 0
-    FailsForms = HasFailedIn functions state old new world (λ left records. (gathered : GatheredForms) × (0 < gathered.forms) × AreFormsGathered world text left records gathered)
+    FailsForms = HasFailedInTurn functions state old new world (λ left records. (gathered : GatheredForms) × (0 < gathered.forms) × AreFormsGathered world text left records gathered)
 
     -- the forms of a group were taken, or none was, or the device failed
     abbrev pub TakesGroup : Result (Option GatheredForms) Unlogged → Type 0
@@ -127,12 +127,13 @@ module _ (functions : Functions) (wanted : SessionOptions) where
     TakesGroup (Err DeviceFault) = FailsForms
     TakesGroup (Err OutOfMemory) = new ≡ old
 
-  -- They were answered, and so many bytes of what follows the first are passed with the others, so that none of those is pending; or the
-  -- session has ended in them, whatever follows the text; or they were left.
+  -- The forms of a group were answered, and so many bytes of what follows the first are passed with the others, so that none
+  -- of those is pending; or the session has ended in them, whatever follows the text; or they were left, and nothing has
+  -- changed.
   abbrev pub AnswersGroup : {D R : Type 0} (state : D → State) (course later : Course) (old new : StoreView D R) (world : WorldState) (text rest : List ℕ) (held written : Option (List ℕ)) → Grouped → Type 0
   AnswersGroup state course later old new world text rest held written (grouped.Answered count) =
       (pending : Pending) → ((in_world : WorldState) → IsPending functions in_world wanted.mode pending [])
-      → GoesOn functions state wanted.strict course later old new world wanted.mode text held written pending (drop count rest)
+      → SessionGoesOn functions state wanted.strict course later old new world wanted.mode text held written pending (drop count rest)
   AnswersGroup state course later old new world text rest held written (grouped.Ended ended) =
       (more : List ℕ) → HasEndedAt functions state wanted course old new world wanted.mode (text ++ more) held written ended
   AnswersGroup state course later old new world text rest held written grouped.Left = (new ≡ old) × (written ≡ held) × (later ≡ course)

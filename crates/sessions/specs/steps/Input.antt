@@ -48,11 +48,11 @@ pub record HasRefusal (functions : Functions) (world : WorldState) (mode : Mode)
   pub reads : (more : List ℕ) → read_in functions world mode (bytes ++ more) ≡ refused number at
 
 -- what these bytes are, the last of which were fed now
-abbrev pub Feeds : Functions → WorldState → Mode → Pending → List ℕ → Fed → Type 0
-Feeds functions world mode pending bytes Nothing = IsPending functions world mode pending bytes
-Feeds functions world mode pending bytes (Form it left) =
+abbrev pub FeedsInput : Functions → WorldState → Mode → Pending → List ℕ → Fed → Type 0
+FeedsInput functions world mode pending bytes Nothing = IsPending functions world mode pending bytes
+FeedsInput functions world mode pending bytes (Form it left) =
     (has : HasForm functions world mode pending bytes (object_of it.read.datum) it.own.items left) × (has.start ≡ it.start) × (has.next ≡ it.next)
-Feeds functions world mode pending bytes (Refused number start at) =
+FeedsInput functions world mode pending bytes (Refused number start at) =
     (is : HasRefusal functions world mode bytes number) × (is.at ≡ at) × BeginsAt (setting_in functions world mode) bytes start
     × IsDecidedFrom (setting_in functions world mode) bytes start
 

@@ -3,7 +3,7 @@ use Rattle.std.specs.Prelude.{◌≡◌, ℕ, List, Some, Ok, Err, Result}
 use Rattle.lisp_object.specs.Datum.{object_of}
 use Rattle.lisp_operators.specs.declared.evaluated.Evaluated.{Evaluated}
 use Rattle.sessions.specs.steps.Forms.{Failure, Refused, Full, DeviceFault, OutOfMemory}
-use Rattle.sessions.specs.Answers.{refusal_line, value_line}
+use Rattle.sessions.specs.FormAnswers.{refusal_line, value_line}
 use Rattle.prevalence_store.specs.calls.Store.{StoreView}
 use Rattle.plist_state.specs.State.{WorldState}
 

@@ -22,7 +22,7 @@ IsBeforeDue pace count = (count < pace.left) ⊎ ((count ≡ 0) ⊎ ((pace.left 
 abbrev pub IsBeforeGrown : ℕ → Fill → ℕ → Type 0
 IsBeforeGrown ratio fill more = 0 < more → HasHalfGrown ratio (fill.size + more) fill.first_size → ⊥
 
--- they were counted
+-- so many forms that were logged were counted, one after the other, and no snapshot was due by their number
 abbrev pub CountsAll : ℕ → Pace → Pace → Type 0
 CountsAll zero pace later = later ≡ pace
 CountsAll (suc count) pace later = (counted : Pace) × CountsLoggedForm pace counted × (IsDueByCount pace → ⊥) × CountsAll count counted later
@@ -30,10 +30,11 @@ CountsAll (suc count) pace later = (counted : Pace) × CountsLoggedForm pace cou
 -- ---- a snapshot in a session
 
 module _ (functions : Functions) {D R : Type 0} (state : D → State) (old new : StoreView D R) (world : WorldState) where
-  -- it was taken, or it was refused with this number
-  abbrev pub Renewing : Result Unit ℕ → Type 0
-  Renewing (Ok done) = IsSnapshotted functions state old new world
-  Renewing (Err number) =
+  -- a snapshot was taken; or it was refused with this number, as there is no half for it, the device failed or memory ran
+  -- out
+  abbrev pub RenewsOrIsRefused : Result Unit ℕ → Type 0
+  RenewsOrIsRefused (Ok done) = IsSnapshotted functions state old new world
+  RenewsOrIsRefused (Err number) =
       HasNoHalf functions state old new world number
       ⊎ (IsSnapshotFault functions state old new world number ⊎ HasNoSnapshotMemory functions state old new world number)
 

@@ -10,10 +10,10 @@ use Rattle.sessions.specs.declared.ending.Place.{Place}
 use Rattle.session_words.specs.declared.wanted.SessionOptions.{SessionOptions}
 use Rattle.sessions.specs.declared.ending.Ending.{Ending}
 use Rattle.sessions.specs.declared.ending.Ending.TheVariants.{End, Reader, Store}
-use Rattle.sessions.specs.Answers.{Progress, after_forms}
-use Rattle.sessions.specs.Pace.{Pace, Paces, fill_of}
+use Rattle.sessions.specs.FormAnswers.{Progress, after_forms}
+use Rattle.sessions.specs.Pace.{Pace, PacesForms, fill_of}
 use Rattle.sessions.specs.steps.Input.{IsPending}
-use Rattle.sessions.specs.steps.Course.{Comes, Course}
+use Rattle.sessions.specs.steps.Course.{CourseComesOn, Course}
 use Rattle.sessions.specs.Serve.{Advances, AreFormsAccepted, RefusesAt, Serves, ServesInPace, StaysAnswered, StaysRefused, StaysStopped, StopsStrict}
 use Rattle.prevalence_store.specs.calls.Store.{StoreView}
 use Rattle.plist_state.specs.State.{WorldState}
@@ -34,13 +34,13 @@ ending_of (ways.Store number) = Store number
 
 -- Forms were answered, and the same ones of any text that goes on. Of what is left of the text the reader was fed all but these
 -- last bytes. If the session is strict, none of the forms was refused.
-pub record GoesOn (functions : Functions) {D R : Type 0} (state : D → State) (strict : Bool) (course later : Course) (old new : StoreView D R) (world : WorldState) (mode : Mode) (text : List ℕ)
+pub record SessionGoesOn (functions : Functions) {D R : Type 0} (state : D → State) (strict : Bool) (course later : Course) (old new : StoreView D R) (world : WorldState) (mode : Mode) (text : List ℕ)
     (held written : Option (List ℕ)) (pending : Pending) (left : List ℕ) : Type 0 where
   pub forms : ℕ
   pub far : Progress
   pub advances : Advances functions state old new world mode text held written forms far
-  pub paced : Paces functions old.limit world far.taken course.pace later.pace (fill_of old) (fill_of new)
-  pub comes : Comes course later forms text far.rest
+  pub paced : PacesForms functions old.limit world far.taken course.pace later.pace (fill_of old) (fill_of new)
+  pub comes : CourseComesOn course later forms text far.rest
   pub accepted : strict ≡ true → far.refused ≡ []
   pub stays : (more : List ℕ) → after_forms functions forms world mode (text ++ more) ≡ Some (record far { rest = far.rest ++ more })
   pub bytes : List ℕ
@@ -71,7 +71,7 @@ module _ (functions : Functions) {D R : Type 0} (state : D → State) (wanted : 
       × ServesInPace functions state course.pace old new world mode text held written ending served
       × (wanted.strict ≡ true → AreFormsAccepted served.forms served.lines served.far served.answered)
 
-  -- the same, with the place of a refusal
+  -- a session over the text that ended so, with the place of a refusal
   abbrev pub EndsAt : Ended → Type 0
   EndsAt ways.End = ServesStrict End
   EndsAt (ways.Unreadable number place) =
@@ -80,7 +80,7 @@ module _ (functions : Functions) {D R : Type 0} (state : D → State) (wanted : 
       (wanted.strict ≡ true) × StopsStrict functions state old new world mode text held written course.pace course.forms course.bytes number place
   EndsAt (ways.Store number) = ServesStrict (Store number) × (number ≢ INPUT)
 
-  -- the session has ended, before the end of the text
+  -- the session ended so before the end of the text, with the place of a refusal; it has not come to the end of the input
   abbrev pub HasEndedAt : Ended → Type 0
   HasEndedAt ways.End = ⊥
   HasEndedAt (ways.Unreadable number place) =
@@ -97,13 +97,13 @@ module _ (functions : Functions) {D R : Type 0} (state : D → State) (wanted : 
 module _ (functions : Functions) {D R : Type 0} (state : D → State) (wanted : SessionOptions) (course later : Course) (old new : StoreView D R) (world : WorldState) (mode : Mode) (text : List ℕ) (held written : Option (List ℕ)) (pending : Pending) where
   -- The session goes on; or it has ended, whatever follows the text.
   abbrev pub AnswersPiece : Option Ended → Type 0
-  AnswersPiece None = GoesOn functions state wanted.strict course later old new world mode text held written pending []
+  AnswersPiece None = SessionGoesOn functions state wanted.strict course later old new world mode text held written pending []
   AnswersPiece (Some ended) = (more : List ℕ) → HasEndedAt functions state wanted course old new world mode (text ++ more) held written ended
 
   -- What a piece comes to, if the text ends with it: so many bytes of it are done with, and those after them are left; or the
   -- session has ended.
   abbrev pub PieceComesTo : List ℕ → Result ℕ Ended → Type 0
-  PieceComesTo piece (Ok count) = GoesOn functions state wanted.strict course later old new world mode text held written pending (drop count piece)
+  PieceComesTo piece (Ok count) = SessionGoesOn functions state wanted.strict course later old new world mode text held written pending (drop count piece)
   PieceComesTo piece (Err ended) = AnswersPiece (Some ended)
 
 -- Of so many bytes some are done with; or none, if what was pending before them is a form, and the first of them follows it. Before

@@ -8,9 +8,9 @@ use Rattle.sessions.specs.Account.{Account, AreUnderWay}
 use Rattle.prevalence_store.specs.calls.Store.{StoreView}
 use Rattle.session_words.specs.declared.mode.Mode.{Mode}
 use Rattle.sessions.specs.declared.input.Pending.{Pending}
-use Rattle.sessions.specs.Answers.{Progress, after_forms}
+use Rattle.sessions.specs.FormAnswers.{Progress, after_forms}
 use Rattle.prevalence_store.specs.meaning.Acceptance.{read_in}
-use Rattle.sessions.specs.steps.Answer.{BeginsWith}
+use Rattle.sessions.specs.steps.Answer.{BeginsWithForm}
 use Rattle.sessions.specs.steps.Gather.{BeginsWhole}
 use Rattle.sessions.specs.steps.Input.{IsPending}
 use Rattle.lisp_reading.specs.Reading.{refused}
@@ -46,32 +46,33 @@ module _ (functions : Functions) {D R : Type 0} (state : D → State) where
   abbrev pub StandsBefore : Option (Account D) → StoreView D R → WorldState → Mode → List ℕ → Type 0
   StandsBefore told store world mode bytes = (account : Account D) → told ≡ Some account → StandsAfterLines account store world mode bytes
 
-  -- and the bytes are all that is left of the input, also of what was not read yet
+  -- a recipient that keeps account was handed the lines of all forms before these bytes, which are all that is left of the
+  -- input, also of what was not read yet
   abbrev pub StandsBeforeAll : Option (Account D) → StoreView D R → WorldState → Mode → List ℕ → Type 0
   StandsBeforeAll told store world mode bytes = (account : Account D) → told ≡ Some account
       → (stands : StandsAfterLines account store world mode bytes) × ((all : List ℕ) → account.input ≡ Some all → stands.text ≡ all)
 
-  -- before these bytes that are pending, and a piece
+  -- the recipient stands before what is pending in the world of the store, and a piece after it
   abbrev pub StandsInPiece : Option (Account D) → StoreView D R → Mode → Pending → List ℕ → Type 0
   StandsInPiece told store mode pending piece = (world : WorldState) → store.world ≡ Some world
       → (bytes : List ℕ) × IsPending functions world mode pending bytes × StandsBefore told store world mode (bytes ++ piece)
 
-  -- before these bytes that are pending, at the end of the input
+  -- the recipient stands before what is pending in the world of the store, at the end of the input
   abbrev pub StandsAtEnd : Option (Account D) → StoreView D R → Mode → Pending → Type 0
   StandsAtEnd told store mode pending = (world : WorldState) → store.world ≡ Some world
       → (bytes : List ℕ) × IsPending functions world mode pending bytes × StandsBeforeAll told store world mode bytes
 
-  -- before a form with this text of its own
+  -- the recipient stands before all that is left of the input, which begins with this form and its own text
   abbrev pub StandsAtForm : Option (Account D) → StoreView D R → Mode → Object → List ℕ → Type 0
   StandsAtForm told store mode object own = (world : WorldState) → store.world ≡ Some world
-      → (text : List ℕ) × (next : ℕ) × BeginsWith functions world mode text object own next × StandsBeforeAll told store world mode text
+      → (text : List ℕ) × (next : ℕ) × BeginsWithForm functions world mode text object own next × StandsBeforeAll told store world mode text
 
-  -- before a form that is whole in what was read, and what follows it
+  -- the recipient stands before a form that is whole in what was read, and what follows it
   abbrev pub StandsAtWhole : Option (Account D) → StoreView D R → Mode → Object → List ℕ → (next : ℕ) → (rest : List ℕ) → Type 0
   StandsAtWhole told store mode object own next rest = (world : WorldState) → store.world ≡ Some world
       → (text : List ℕ) × BeginsWhole functions world mode text object own next × (drop next text ≡ rest) × StandsBefore told store world mode text
 
-  -- before what the reader refuses with this number
+  -- the recipient stands before all that is left of the input, which the reader refuses with this number
   abbrev pub StandsAtRefusal : Option (Account D) → StoreView D R → Mode → ℕ → Type 0
   StandsAtRefusal told store mode number = (world : WorldState) → store.world ≡ Some world
       → (text : List ℕ) × (at : ℕ) × (read_in functions world mode text ≡ refused number at) × StandsBeforeAll told store world mode text
@@ -81,6 +82,6 @@ module _ (functions : Functions) {D R : Type 0} (state : D → State) where
   HandsOn from to told now store = (later : Account D) → now ≡ Some later → (world : WorldState) → store.world ≡ Some world
       → (account : Account D) × (told ≡ Some account) × IsLaterAccount from to account later × IsAtRest later store world
 
-  -- what was done since they were handed on acknowledges none
+  -- what was done since lines were last handed on acknowledges no form
   abbrev pub AcknowledgesNone : Option (Account D) → StoreView D R → Type 0
   AcknowledgesNone told store = (account : Account D) → told ≡ Some account → AreUnderWay functions state account store

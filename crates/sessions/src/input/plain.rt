@@ -6,7 +6,7 @@ ghost use Rattle.form_reader.specs.Reader.{fed};
 ghost use Rattle.package_table.specs.Symbols.{are_there};
 ghost use Rattle.sessions.specs.declared.input.Fed.{Fed};
 ghost use Rattle.prevalence_store.specs.meaning.Acceptance.{table_in};
-ghost use Rattle.sessions.specs.steps.Input.{Feeds, IsPending};
+ghost use Rattle.sessions.specs.steps.Input.{FeedsInput, IsPending};
 ghost use Rattle.user_macros.specs.Functions.{Functions};
 
 use super::{Pending, PlacedForm};
@@ -39,7 +39,7 @@ impl Pending {
         // A form that was found is the one that the pending bytes and the piece begin with; it is sound, and its symbols are there if it says so.
         ensures feeds { (functions : Functions) (bytes : List ℕ)
             → IsPending functions world.now.0 mode self.old bytes
-            → IfOk result (λ found. IfSome found (λ form. Feeds functions world.now.0 mode self.new
+            → IfOk result (λ found. IfSome found (λ form. FeedsInput functions world.now.0 mode self.new
             (bytes ++ take (length form.own.items) piece.now) (Fed.Form form false))) }
         ensures sound { IfOk result (λ found. IfSome found
             (λ form. (is_proper form.read.datum ≡ true) × IsSound (object_of form.read.datum))) }

@@ -1,7 +1,7 @@
 use Rattle.std.proofs.Common.{◌<◌, ◌≤◌, rules, Err, IsSome, Some, length, sym, subst}
 use Rattle.std.proofs.lemmas.Result.{IfErr-weaker}
 use Rattle.client_table.specs.declared.turn.FirstAsked.{FirstAsked}
-use Rattle.client_table.specs.Calls.{AnswersAllAsked}
+use Rattle.client_table.specs.CallsByName.{AnswersAllAsked}
 use Rattle.client_table.specs.Turn.{asked_front}
 use Rattle.client_table.proofs.Fronts.{first_answered, most_answered, some_answered}
 use Rattle.client_table.proofs.Settling.{refused_unchanged, replies_logged, replies_unlogged}

@@ -1,7 +1,7 @@
 use Rattle.std.proofs.Common.{ℕ, List, ap, ◌∙◌, arith}
 use Rattle.client_table.specs.Entries.{entry}
 use Rattle.client_table.specs.Named.{each_asked}
-use Rattle.messages.specs.Answers.{without_its_position}
+use Rattle.messages.specs.MessageAnswers.{without_its_position}
 use Rattle.client_table.proofs.Lookups.{again, once, other}
 use Rattle.client_table.proofs.Once.{all_reach, entry_cleared}
 use Rattle.client_table.proofs.NamedNear.{named_near}

@@ -2,7 +2,7 @@ use Rattle.std.proofs.Common.{false, refl, sym, ap, ◌∙◌}
 use Rattle.client_table.specs.Entries.{entry}
 use Rattle.client_table.proofs.Answering.{again_kept, again_none}
 use Rattle.client_table.proofs.table.answer_again.Goals as goal
-use Rattle.messages.specs.Answers.{with_answer}
+use Rattle.messages.specs.MessageAnswers.{with_answer}
 use Rattle.messages.specs.Rounds.{round_in}
 use Rattle.prevalence_store.proofs.steps.Taking.{ok_on}
 

@@ -6,7 +6,7 @@ use Rattle.client_table.specs.declared.asked.TheConstants.{NO_ENTRY, OTHER_TEXT}
 use Rattle.client_table.specs.declared.entry.Standing.TheVariants.{Last, Later, New, NoEntry, Old, Other}
 use Rattle.client_table.proofs.Answering.{keeps_left, later_some, memory_only, new_none, stands_as, told_made}
 use Rattle.client_table.proofs.table.answer_by_table.Goals as goal
-use Rattle.messages.specs.Answers.{refusal_text}
+use Rattle.messages.specs.MessageAnswers.{refusal_text}
 use Rattle.messages.specs.Rounds.{round_in}
 use Rattle.messages.specs.declared.request.TheConstants.{OLD_NUMBER}
 use Rattle.prevalence_store.proofs.steps.Taking.{ok_on}

@@ -5,7 +5,7 @@ use Rattle.client_table.specs.Names.{client_name_in, form_in}
 use Rattle.client_table.specs.declared.asked.TheConstants.{NO_FRAME}
 use Rattle.client_table.proofs.Answering.{keeps_by, keeps_left, memory_only, named_by, refused_named, told_made, uncleared_named, unnamed_by}
 use Rattle.client_table.proofs.table.answer_named.Goals as goal
-use Rattle.messages.specs.Answers.{Round, without_its_position, refusal_text}
+use Rattle.messages.specs.MessageAnswers.{Round, without_its_position, refusal_text}
 use Rattle.messages.specs.Rounds.{round_in}
 use Rattle.prevalence_store.proofs.steps.Taking.{ok_on}
 

@@ -6,7 +6,7 @@ use Rattle.client_table.specs.Told.{form_told}
 use Rattle.client_table.specs.declared.asked.TheConstants.{NO_ROOM}
 use Rattle.client_table.proofs.Answering.{admitted_answer, admitted_kept, admitted_new, admitted_refused, gone_new, has_room, is_full, keeps_form, keeps_left, memory_only, refused_form, refused_left, told_made, with_form_new, with_room, without_room}
 use Rattle.client_table.proofs.table.answer_new.Goals as goal
-use Rattle.messages.specs.Answers.{refusal_answer, refusal_text}
+use Rattle.messages.specs.MessageAnswers.{refusal_answer, refusal_text}
 use Rattle.messages.specs.Rounds.{round_in}
 use Rattle.prevalence_store.specs.meaning.Acceptance.{accepts}
 use Rattle.prevalence_store.proofs.steps.Taking.{ok_on}

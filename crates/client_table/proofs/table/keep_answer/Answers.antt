@@ -1,11 +1,11 @@
 use Rattle.std.proofs.Common.{IsSome, sym, ap, subst, ◌∙◌, arith}
-use Rattle.client_table.specs.Calls.{HasAnswer}
+use Rattle.client_table.specs.CallsByName.{HasAnswer}
 use Rattle.client_table.specs.Entries.{HasEntrySymbols}
 use Rattle.client_table.proofs.Answering.{kept_answer, kept_round}
 use Rattle.client_table.proofs.StayingForms.{entry_has, given_has}
 use Rattle.client_table.proofs.table.keep_answer.Given.{Over}
 use Rattle.client_table.proofs.table.keep_answer.Goals as goal
-use Rattle.messages.specs.Answers.{Round}
+use Rattle.messages.specs.MessageAnswers.{Round}
 use Rattle.messages.specs.Rounds.{round_in}
 use Rattle.plist_state.specs.State.{WorldState}
 use Rattle.session_words.specs.declared.mode.Mode.TheVariants.{Current}

@@ -1,6 +1,6 @@
 use Rattle.std.proofs.Common.{ap, ◌∙◌}
 use Rattle.client_table.proofs.table.tell.Goals as goal
-use Rattle.messages.specs.Answers.{with_answer}
+use Rattle.messages.specs.MessageAnswers.{with_answer}
 use Rattle.messages.specs.Rounds.{round_in}
 use Rattle.prevalence_store.proofs.steps.Taking.{ok_on}
 

@@ -2,8 +2,8 @@ use Rattle.std.proofs.Common.{◌≡◌, ◌∙◌, ◌++◌, ◌∷◌, [], Lis
 use Rattle.std.proofs.lemmas.Fmt.{contents_after_writes}
 use Rattle.std.specs.Prelude.{decimal}
 use Rattle.lisp_object.specs.Refusal.{name_of}
-use Rattle.sessions.specs.Answers.{refusal_line}
-use Rattle.diagnostics.specs.Texts.{WritesText}
+use Rattle.sessions.specs.FormAnswers.{refusal_line}
+use Rattle.diagnostics.specs.StreamTexts.{WritesText}
 use Rattle.diagnostics.proofs.fault.write_fault.Given as given
 use Rattle.diagnostics.proofs.fault.write_fault.Goals as goal
 

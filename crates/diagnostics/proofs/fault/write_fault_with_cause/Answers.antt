@@ -1,6 +1,6 @@
 use Rattle.std.proofs.Common.{rules, ◌≡◌, inl, inr, refl, sym, ◌∙◌, ◌∷◌, [], ◌++◌}
 use Rattle.lisp_object.specs.declared.refusal.TheConstants.{DEVICE}
-use Rattle.sessions.specs.Answers.{refusal_line}
+use Rattle.sessions.specs.FormAnswers.{refusal_line}
 use Rattle.diagnostics.proofs.Fronts.{failed, succeeded, text_after}
 use Rattle.diagnostics.proofs.fault.write_fault_with_cause.Goals as goal
 

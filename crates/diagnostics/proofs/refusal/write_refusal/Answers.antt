@@ -1,6 +1,6 @@
 use Rattle.std.proofs.Common.{◌∙◌, ap, sym, subst}
 use Rattle.diagnostics.specs.Refusals.{byte_line, form_of, line_with, place_line}
-use Rattle.diagnostics.specs.Texts.{WritesText}
+use Rattle.diagnostics.specs.StreamTexts.{WritesText}
 use Rattle.diagnostics.proofs.refusal.write_refusal.Goals as goal
 
 pub returns-in-Some : goal.returns-in-Some

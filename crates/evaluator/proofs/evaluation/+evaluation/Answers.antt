@@ -6,7 +6,7 @@ use Rattle.lisp_object.specs.Datum.{object_of}
 use Rattle.lisp_object.proofs.Objects.{object_of-Symbol, object_of-List}
 use Rattle.lisp_object.specs.declared.datum.Datum.TheViews.{sized-List, the_lemmas}
 use Rattle.lisp_object.proofs.datum.Datum.TheLaws.{the_size}
-use Rattle.lisp_operators.specs.Kinds.{is_pair}
+use Rattle.lisp_operators.specs.ArgumentKinds.{is_pair}
 use Rattle.evaluator.specs.ArgumentValues.{arguments_of, operation_value, values_after, subforms, sequence_value, asserted}
 use Rattle.evaluator.specs.declared.wanted.ValueUse.TheVariants.{Value, Nothing}
 use Rattle.evaluator.specs.StandIns.{stand_in, seen}

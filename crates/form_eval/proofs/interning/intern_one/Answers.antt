@@ -2,7 +2,7 @@ use Rattle.std.proofs.Common.{ap, sym, subst}
 use Rattle.package_table.proofs.FirstNames.{lisp_present}
 use Rattle.package_table.specs.Table.{Name, Table, IsPresent}
 use Rattle.package_table.specs.Changes.{after_intern}
-use Rattle.form_eval.specs.Acceptance.{table_of}
+use Rattle.form_eval.specs.Acceptance.{packages_of_interning}
 use Rattle.form_eval.proofs.Collected.{interned_gives, interned_there, old_there}
 use Rattle.form_eval.proofs.interning.intern_one.Goals as goal
 
@@ -19,7 +19,7 @@ returns-then-is_symbol-clause-is_new c =
     sym (old_there c.args.world.now.0.packages h n (subst (λ t. IsPresent t h n h) c.packages.ensures (c.is_symbol.ensures.present.0 c.if-is_symbol.true)))
 
 pub returns-in-Ok-clause-gives : goal.returns-in-Ok-clause-gives
-returns-in-Ok-clause-gives c = ap table_of c.in-Ok.ensures.gives
+returns-in-Ok-clause-gives c = ap packages_of_interning c.in-Ok.ensures.gives
 
 pub returns-in-Err-clause-gives : goal.returns-in-Err-clause-gives
 returns-in-Err-clause-gives c =

@@ -1,7 +1,7 @@
 use Rattle.std.proofs.Common.{[], ◌∷◌, ap, ◌∙◌}
 use Rattle.disk_trait.specs.declared.half.Half.TheVariants.{A}
 use Rattle.disk_trait.specs.Orders.{writes, syncs}
-use Rattle.deferred_disk.specs.Calls.{CallsValue}
+use Rattle.deferred_disk.specs.DiskRequests.{CallsValue}
 use Rattle.deferred_disk.specs.State.{state_after_orders}
 use Rattle.law_tests.proofs.ordered.write_and_sync.Goals as goal
 

@@ -1,5 +1,5 @@
 use Rattle.std.proofs.Common.{[], ◌∷◌, sym, subst, ◌∙◌}
-use Rattle.export_laws.specs.Texts.{Makes, with_data_of}
+use Rattle.export_laws.specs.ExportedTexts.{Makes, with_data_of}
 use Rattle.plist_state.specs.State.{initial}
 use Rattle.law_tests.proofs.parts.data_of.Goals as goal
 

@@ -1,11 +1,11 @@
 use Rattle.std.proofs.Common.{◌≡◌, ℕ, ◌<◌, Bool, true, false, if◌then◌else◌, List, [], ◌∷◌, ◌++◌, length, map, is_some, Result, Ok, refl, sym, ap, subst, ◌∙◌, arith}
-use Rattle.client_table.specs.Calls.{AnswersFirstAsked}
+use Rattle.client_table.specs.CallsByName.{AnswersFirstAsked}
 use Rattle.client_table.specs.Named.{all_answered, by_name}
 use Rattle.client_table.specs.declared.asked.AnyRequest.{AnyRequest}
 use Rattle.client_table.specs.declared.asked.AnyRequest.TheVariants as asked
 use Rattle.client_table.specs.declared.asked.Named.{Named}
 use Rattle.disk_trait.specs.Disk.{State}
-use Rattle.messages.specs.Answers.{Round, first_round, with_answer, with_its_position, without_its_position}
+use Rattle.messages.specs.MessageAnswers.{Round, first_round, with_answer, with_its_position, without_its_position}
 use Rattle.messages.specs.Position.{position_property}
 use Rattle.messages.specs.Rounds.{told_in}
 use Rattle.messages.specs.declared.request.Replies.{Replies}

@@ -1,6 +1,6 @@
 use Rattle.std.proofs.Common.{None, Some, refl, ap, ◌∙◌}
 use Rattle.std.specs.Option.{option_and_then}
-use Rattle.lisp_operators.specs.Kinds.{case_named}
+use Rattle.lisp_operators.specs.ArgumentKinds.{case_named}
 use Rattle.lisp_operators.proofs.CaseNames.{case_told}
 use Rattle.lisp_operators.proofs.kinds.case.Goals as goal
 

@@ -1,5 +1,5 @@
 use Rattle.std.proofs.Common.{true, refl}
-use Rattle.lisp_operators.specs.Kinds.{is_pair}
+use Rattle.lisp_operators.specs.ArgumentKinds.{is_pair}
 use Rattle.lisp_operators.proofs.Shapes.{pair_at}
 use Rattle.lisp_operators.proofs.kinds.is_pair.Goals as goal
 

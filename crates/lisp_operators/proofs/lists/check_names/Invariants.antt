@@ -1,7 +1,7 @@
 use Rattle.std.proofs.Common.{All, take}
 use Rattle.std.specs.Option.{IsSome}
 use Rattle.lisp_object.specs.Datum.{object_of}
-use Rattle.lisp_operators.specs.Kinds.{a_name}
+use Rattle.lisp_operators.specs.ArgumentKinds.{a_name}
 use Rattle.lisp_operators.proofs.lists.check_names.Given as goal
 
 abbrev pub invariant-loop-member : goal.invariant-loop-member

@@ -3,7 +3,7 @@ use Rattle.std.specs.Option.{IsSome}
 use Rattle.std.proofs.lemmas.List.{take_all}
 use Rattle.std.proofs.lemmas.List.Elements.{All-more}
 use Rattle.lisp_object.specs.Datum.{object_of}
-use Rattle.lisp_operators.specs.Kinds.{a_symbol}
+use Rattle.lisp_operators.specs.ArgumentKinds.{a_symbol}
 use Rattle.lisp_operators.proofs.MemberSteps.{no_member}
 use Rattle.lisp_operators.proofs.lists.check_symbols.Goals as goal
 

@@ -1,6 +1,6 @@
 use Rattle.std.proofs.Common.{Some, None, [], map, refl, sym, ◌∙◌}
 use Rattle.lisp_object.specs.Datum.{object_of}
-use Rattle.lisp_operators.specs.Kinds.{a_name}
+use Rattle.lisp_operators.specs.ArgumentKinds.{a_name}
 use Rattle.lisp_operators.proofs.MemberLists.{members_or_each}
 use Rattle.lisp_operators.proofs.MemberSteps.{each_found}
 use Rattle.lisp_operators.proofs.lists.names.Goals as goal

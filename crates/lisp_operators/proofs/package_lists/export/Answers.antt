@@ -4,7 +4,7 @@ use Rattle.lisp_object.specs.Datum.{object_of}
 use Rattle.package_table.specs.Table.{package_named, is_locked}
 use Rattle.package_table.specs.Changes.{finds_this}
 use Rattle.plist_state.specs.State.{Worlds}
-use Rattle.lisp_operators.specs.Kinds.{a_name, given_or}
+use Rattle.lisp_operators.specs.ArgumentKinds.{a_name, given_or}
 use Rattle.lisp_operators.specs.Members.{symbol_of_member}
 use Rattle.lisp_operators.specs.Packages.{export, after_exports}
 use Rattle.lisp_operators.proofs.ListSteps.{export_is, export_not_found, told}

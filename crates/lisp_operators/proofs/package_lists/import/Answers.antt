@@ -3,7 +3,7 @@ use Rattle.lisp_object.specs.Datum.{object_of}
 use Rattle.package_table.specs.Table.{package_named, is_locked}
 use Rattle.plist_state.specs.State.{Worlds}
 use Rattle.plist_state.specs.Sound.{IsSymbol}
-use Rattle.lisp_operators.specs.Kinds.{a_name, given_or}
+use Rattle.lisp_operators.specs.ArgumentKinds.{a_name, given_or}
 use Rattle.lisp_operators.specs.Members.{symbol_of_member}
 use Rattle.lisp_operators.specs.Packages.{import, after_imports}
 use Rattle.lisp_operators.proofs.MemberLists.{all_of_map}

@@ -2,7 +2,7 @@ use Rattle.std.proofs.Common.{◌≡◌, Some, map, sym, ap, subst, ◌∙◌}
 use Rattle.lisp_object.specs.Datum.{object_of}
 use Rattle.package_table.specs.Table.{package_named, full_name, is_locked}
 use Rattle.plist_state.specs.State.{Worlds}
-use Rattle.lisp_operators.specs.Kinds.{a_name, given_or}
+use Rattle.lisp_operators.specs.ArgumentKinds.{a_name, given_or}
 use Rattle.lisp_operators.specs.Members.{name_in}
 use Rattle.lisp_operators.specs.Packages.{use_package, after_uses}
 use Rattle.lisp_operators.proofs.ListSteps.{use_is, told}

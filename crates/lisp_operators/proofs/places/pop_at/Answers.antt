@@ -7,7 +7,7 @@ use Rattle.plist_state.specs.Sound.{IsSymbol}
 use Rattle.lisp_operators.specs.declared.evaluated.Evaluated.{Evaluated}
 use Rattle.lisp_operators.specs.Evaluation.{Evaluation}
 use Rattle.lisp_operators.specs.EvaluationAnswers.{IsArgument, done}
-use Rattle.lisp_operators.specs.Places.{Pops}
+use Rattle.lisp_operators.specs.PropertyPlaces.{Pops}
 use Rattle.lisp_operators.proofs.PlaceSteps.{first_popped, nothing_changed}
 use Rattle.lisp_operators.proofs.places.pop_at.Goals as goal
 

@@ -1,7 +1,7 @@
 use Rattle.std.proofs.Common.{◌≡◌, Some, map, sym, ap, subst, ◌∙◌}
 use Rattle.lisp_object.specs.Datum.{object_of}
 use Rattle.plist_state.specs.Changes.{with_dispatching, in_state}
-use Rattle.lisp_operators.specs.Kinds.{a_keyword, given_or}
+use Rattle.lisp_operators.specs.ArgumentKinds.{a_keyword, given_or}
 use Rattle.lisp_operators.specs.Properties.{t}
 use Rattle.lisp_operators.specs.Readtables.{value_after, after_first, make_dispatch}
 use Rattle.lisp_operators.specs.EvaluationAnswers.{Answers, done}

@@ -3,7 +3,7 @@ use Rattle.lisp_object.specs.Datum.{object_of}
 use Rattle.package_table.specs.Table.{keyword}
 use Rattle.plist_state.specs.Sound.{IsSymbol}
 use Rattle.plist_state.specs.Changes.{with_macro, in_state}
-use Rattle.lisp_operators.specs.Kinds.{a_keyword, given_or}
+use Rattle.lisp_operators.specs.ArgumentKinds.{a_keyword, given_or}
 use Rattle.lisp_operators.specs.Properties.{t}
 use Rattle.lisp_operators.specs.Readtables.{value_after, after_first, set_macro}
 use Rattle.lisp_operators.specs.EvaluationAnswers.{Answers, done}

@@ -1,6 +1,6 @@
 use Rattle.sessions.specs.Account.{first_account}
 use Rattle.session_ledger.specs.OutgoingLines.{handings_of}
-use Rattle.store_laws.specs.Sessions.{account_after}
+use Rattle.store_laws.specs.SessionLines.{account_after}
 use Rattle.machine_tests.proofs.InARow.{honest_after}
 use Rattle.machine_tests.proofs.in_a_row.serve_before_another.Goals as goal
 

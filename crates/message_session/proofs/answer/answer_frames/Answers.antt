@@ -2,9 +2,9 @@ use Rattle.std.proofs.Common.{◌+◌, List, map, take, drop, length, refl, sym,
 use Rattle.message_frames.specs.Frames.{sent_frame}
 use Rattle.message_frames.specs.declared.frame.MessageFrame.{MessageFrame}
 use Rattle.message_laws.proofs.Tidy.{sound_tidy}
-use Rattle.message_session.specs.Answers.{answered_bytes}
-use Rattle.message_session.specs.Sessions.{AreFramesAnswered}
-use Rattle.message_session.specs.Standing.{AnswersMore, ComeNext}
+use Rattle.message_session.specs.FrameAnswers.{answered_bytes}
+use Rattle.message_session.specs.MessageSessions.{AreFramesAnswered}
+use Rattle.message_session.specs.Standing.{AnswersMore, FramesComeNext}
 use Rattle.message_session.specs.Steps.{Breaks}
 use Rattle.message_session.proofs.Causes.{breaks_both}
 use Rattle.message_session.proofs.Frames.{answered_both, none_answered}
@@ -50,7 +50,7 @@ fronts-preserved g c =
           (c.in-Ok.ensures.answers far.after.left far.after.known)));
       rests = c.in-Ok.ensures.rests;
       next = come_after (g.O.AnswerRecipient.account c.fronts.output) now taken (map sent_frame (drop (done + count) frames))
-          (subst (ComeNext (g.O.AnswerRecipient.account c.fronts.output)) (sym (rest_more frames done count)) c.fronts.invariant.next) more;
+          (subst (FramesComeNext (g.O.AnswerRecipient.account c.fronts.output)) (sym (rest_more frames done count)) c.fronts.invariant.next) more;
       more = subst (AnswersMore (g.O.AnswerRecipient.account c.args.output.now) now) (sym (front_more frames done count))
           (more_both (g.O.AnswerRecipient.account c.args.output.now) (g.O.AnswerRecipient.account c.fronts.output) now (map sent_frame (take done frames)) taken c.fronts.invariant.more more);
       input = c.answer_front.ensures.input ∙ c.fronts.invariant.input;
@@ -86,4 +86,4 @@ returns-clause-more g c =
 
 pub answer_front-requires-clause-next : goal.answer_front-requires-clause-next
 answer_front-requires-clause-next g c =
-    subst (λ (fs : List MessageFrame). ComeNext (g.O.AnswerRecipient.account c.fronts.output) (map sent_frame fs)) (sym (behind c.args.frames.now c.fronts.done)) c.fronts.invariant.next
+    subst (λ (fs : List MessageFrame). FramesComeNext (g.O.AnswerRecipient.account c.fronts.output) (map sent_frame fs)) (sym (behind c.args.frames.now c.fronts.done)) c.fronts.invariant.next

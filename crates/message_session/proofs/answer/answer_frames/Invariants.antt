@@ -1,8 +1,8 @@
 use Rattle.std.proofs.Common.{◌≡◌, ◌≤◌, ◌-◌, Some, length, map, take, drop}
 use Rattle.message_frames.specs.Frames.{sent_frame}
-use Rattle.message_session.specs.Answers.{answered_bytes}
-use Rattle.message_session.specs.Sessions.{AreFramesAnswered}
-use Rattle.message_session.specs.Standing.{AnswersMore, ComeNext, RestsAt}
+use Rattle.message_session.specs.FrameAnswers.{answered_bytes}
+use Rattle.message_session.specs.MessageSessions.{AreFramesAnswered}
+use Rattle.message_session.specs.Standing.{AnswersMore, FramesComeNext, RestsAt}
 use Rattle.plist_state.specs.State.{WorldState}
 use Rattle.message_session.proofs.answer.answer_frames.Given as goal
 
@@ -15,7 +15,7 @@ invariant-fronts g l = record {
       → AreFramesAnswered g.R.Meaning.Meaning.functions l.fn.course.last w g.D.Disk.state l.store (g.O.AnswerRecipient.contents l.fn.output) (g.O.AnswerRecipient.contents l.output)
       (answered_bytes g.R.Meaning.Meaning.functions l.fn.course.last w) (map sent_frame (take l.done l.frames)) l.course.last;
   rests : RestsAt g.R.Meaning.Meaning.functions g.D.Disk.state (g.O.AnswerRecipient.account l.output) l.store l.course.last;
-  next : ComeNext (g.O.AnswerRecipient.account l.output) (map sent_frame (drop l.done l.frames));
+  next : FramesComeNext (g.O.AnswerRecipient.account l.output) (map sent_frame (drop l.done l.frames));
   more : AnswersMore (g.O.AnswerRecipient.account l.fn.output) (g.O.AnswerRecipient.account l.output) (map sent_frame (take l.done l.frames));
   input : g.O.AnswerRecipient.input l.output ≡ g.O.AnswerRecipient.input l.fn.output;
 }

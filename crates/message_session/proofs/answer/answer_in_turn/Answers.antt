@@ -2,9 +2,9 @@ use Rattle.std.proofs.Common.{◌≡◌, ℕ, ◌+◌, List, ◌++◌, map, take
 use Rattle.message_frames.specs.Frames.{sent_frame}
 use Rattle.message_frames.specs.declared.frame.MessageFrame.{MessageFrame}
 use Rattle.message_laws.proofs.Tidy.{sound_tidy}
-use Rattle.message_session.specs.Answers.{answered_bytes}
-use Rattle.message_session.specs.Sessions.{AreFramesAnswered}
-use Rattle.message_session.specs.Standing.{AnswersMore, ComeNext}
+use Rattle.message_session.specs.FrameAnswers.{answered_bytes}
+use Rattle.message_session.specs.MessageSessions.{AreFramesAnswered}
+use Rattle.message_session.specs.Standing.{AnswersMore, FramesComeNext}
 use Rattle.message_session.specs.Steps.{Breaks, ended_by}
 use Rattle.message_session.proofs.Causes.{breaks_both, breaks_more}
 use Rattle.message_session.proofs.Frames.{answered_both, none_answered}
@@ -40,7 +40,7 @@ frames-init g c = record {
 pub take_with_room-requires-clause-next : goal.take_with_room-requires-clause-next
 take_with_room-requires-clause-next g c =
     come_first (g.O.AnswerRecipient.account c.frames.output) (at_place c.frames.i c.args.frames.now) (map sent_frame (drop (c.frames.i + 1) c.args.frames.now))
-    (subst (ComeNext (g.O.AnswerRecipient.account c.frames.output)) (sym (others c.args.frames.now c.frames.i)) c.frames.invariant.next)
+    (subst (FramesComeNext (g.O.AnswerRecipient.account c.frames.output)) (sym (others c.args.frames.now c.frames.i)) c.frames.invariant.next)
 
 pub returns-in-Err-clause-answers : goal.returns-in-Err-clause-answers
 returns-in-Err-clause-answers g c = λ w known.
@@ -83,7 +83,7 @@ frames-preserved g c =
           (c.in-Ok.ensures.takes far.after.left far.after.known)));
       rests = c.in-Ok.ensures.rests;
       next = come_after (g.O.AnswerRecipient.account c.frames.output) now (at_place c.frames.i frames) (map sent_frame (drop (c.frames.i + 1) frames))
-          (subst (ComeNext (g.O.AnswerRecipient.account c.frames.output)) (sym (others frames c.frames.i)) c.frames.invariant.next) more;
+          (subst (FramesComeNext (g.O.AnswerRecipient.account c.frames.output)) (sym (others frames c.frames.i)) c.frames.invariant.next) more;
       more = subst (AnswersMore (g.O.AnswerRecipient.account c.args.output.now) now) (sym (one_more frames c.frames.i))
           (more_both (g.O.AnswerRecipient.account c.args.output.now) (g.O.AnswerRecipient.account c.frames.output) now (map sent_frame (take c.frames.i frames)) (at_place c.frames.i frames) c.frames.invariant.more more);
       input = c.take_with_room.ensures.input ∙ c.frames.invariant.input;

@@ -3,7 +3,7 @@ use Rattle.std.proofs.lemmas.List.{length-map, map-append, take_all, take_more}
 use Rattle.client_table.specs.declared.asked.AnyRequest.{AnyRequest}
 use Rattle.message_frames.specs.Frames.{sent_frame}
 use Rattle.message_frames.specs.declared.frame.MessageFrame.{MessageFrame}
-use Rattle.message_session.specs.Answers.{parts_of_asked}
+use Rattle.message_session.specs.FrameAnswers.{parts_of_asked}
 use Rattle.message_session.proofs.Requests.{as_many}
 use Rattle.message_session.proofs.answer.asked_of.Goals as goal
 

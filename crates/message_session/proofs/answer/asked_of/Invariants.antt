@@ -1,6 +1,6 @@
 use Rattle.std.proofs.Common.{◌≡◌, map, take}
 use Rattle.message_frames.specs.Frames.{sent_frame}
-use Rattle.message_session.specs.Answers.{parts_of_asked}
+use Rattle.message_session.specs.FrameAnswers.{parts_of_asked}
 use Rattle.message_session.proofs.answer.asked_of.Given as goal
 
 -- what the frames so far ask

@@ -3,7 +3,7 @@ use Rattle.std.specs.List.{flat_map}
 use Rattle.std.proofs.lemmas.List.{append-nil}
 use Rattle.message_frames.specs.Frames.{answer_bytes, sent_frame}
 use Rattle.message_frames.specs.declared.frame.MessageFrame.{MessageFrame}
-use Rattle.message_session.specs.Answers.{answers_to}
+use Rattle.message_session.specs.FrameAnswers.{answers_to}
 use Rattle.messages.specs.declared.request.RequestAnswer.{RequestAnswer}
 use Rattle.messages.specs.Rounds.{told_in}
 use Rattle.message_session.proofs.answer.bytes_of.Goals as goal

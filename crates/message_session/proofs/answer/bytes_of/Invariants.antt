@@ -1,7 +1,7 @@
 use Rattle.std.proofs.Common.{◌≡◌, ◌++◌, length, map}
 use Rattle.std.specs.List.{flat_map}
 use Rattle.message_frames.specs.Frames.{answer_bytes, sent_frame}
-use Rattle.message_session.specs.Answers.{answers_to}
+use Rattle.message_session.specs.FrameAnswers.{answers_to}
 use Rattle.messages.specs.Rounds.{told_in}
 use Rattle.message_session.proofs.answer.bytes_of.Given as goal
 

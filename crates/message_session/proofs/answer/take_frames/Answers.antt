@@ -2,15 +2,15 @@ use Rattle.std.proofs.Common.{◌≡◌, ℕ, List, ◌++◌, Option, Some, Ok, 
 use Rattle.std.specs.Option.{option_map}
 use Rattle.std.specs.List.{flat_map}
 use Rattle.std.proofs.lemmas.List.{take-append-drop, take-map}
-use Rattle.client_table.specs.Calls.{AnswersAllAsked}
+use Rattle.client_table.specs.CallsByName.{AnswersAllAsked}
 use Rattle.client_table.specs.declared.asked.AnyRequest.{AnyRequest}
 use Rattle.disk_trait.specs.Disk.{IsHonest}
 use Rattle.message_frames.specs.Frames.{Sent, answer_bytes, sent_frame}
 use Rattle.message_laws.proofs.Tidy.{sound_tidy}
-use Rattle.message_session.specs.Answers.{AskAlike, answered_bytes, answers_to}
+use Rattle.message_session.specs.FrameAnswers.{AskAlike, answered_bytes, answers_to}
 use Rattle.message_session.specs.Account.{MessageAccount, AnswersAreStored, with_frames}
-use Rattle.message_session.specs.Sessions.{AreFramesAnswered, HasCarriedOut}
-use Rattle.message_session.specs.Standing.{ComeNext, RestsAt}
+use Rattle.message_session.specs.MessageSessions.{AreFramesAnswered, HasCarriedOut}
+use Rattle.message_session.specs.Standing.{FramesComeNext, RestsAt}
 use Rattle.message_session.specs.Steps.{Breaks}
 use Rattle.message_session.specs.declared.answer.TheConstants.{MOST_CLIENTS}
 use Rattle.message_session.specs.declared.ended.MessagesEnd.TheVariants.{Fault}
@@ -140,7 +140,7 @@ returns-in-Err-clause-takes g c = λ w known.
 
 -- ---- the recipient
 
-come : (g : Over) (c : In-Ok-bytes_of g) → ComeNext (g.O.AnswerRecipient.account c.args.output.now) (taken g c)
+come : (g : Over) (c : In-Ok-bytes_of g) → FramesComeNext (g.O.AnswerRecipient.account c.args.output.now) (taken g c)
 come g c account is = next_taken account (map sent_frame c.args.frames.now) (count_of g c) (c.requires.next account is)
 
 pub write_answers-requires : goal.write_answers-requires

@@ -2,7 +2,7 @@ use Rattle.std.proofs.Common.{◌+◌, [], length, rules, refl, sym, ap, subst, 
 use Rattle.std.proofs.lemmas.Grind.{common_steps}
 use Rattle.message_frames.specs.Frames.{IsBegunFrame}
 use Rattle.message_laws.proofs.Tidy.{sound_tidy}
-use Rattle.message_session.specs.Sessions.{text_limit}
+use Rattle.message_session.specs.MessageSessions.{text_limit}
 use Rattle.message_session.specs.Standing.{IsReadIn}
 use Rattle.message_session.proofs.Next.{piece_read, read_next, read_on}
 use Rattle.message_session.proofs.Pieces.{HasCome, as_begun, as_malformed, begun_none, come_first, come_on, come_piece, ends_all, ends_broken, ends_by_piece, ends_malformed, ends_unheld, ends_unread}

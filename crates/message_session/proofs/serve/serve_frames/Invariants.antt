@@ -1,7 +1,7 @@
 use Rattle.std.proofs.Common.{◌≡◌, ◌≤◌, ◌*◌, ◌-◌, Some, length}
 use Rattle.std.specs.Prelude.{◌^◌}
 use Rattle.message_frames.specs.Frames.{IsBegunFrame}
-use Rattle.message_session.specs.Sessions.{text_limit}
+use Rattle.message_session.specs.MessageSessions.{text_limit}
 use Rattle.message_session.specs.Standing.{IsReadIn, RestsAt}
 use Rattle.message_session.proofs.Pieces.{HasCome}
 use Rattle.plist_state.specs.State.{WorldState}

@@ -1,7 +1,7 @@
 use Rattle.std.proofs.Common.{inl, inr, ◌++◌, refl, sym, ap, subst, ◌∙◌}
 use Rattle.message_frames.specs.Frames.{position_bytes}
 use Rattle.message_session.specs.Account.{MessageAccount}
-use Rattle.message_session.specs.Answers.{answered_bytes}
+use Rattle.message_session.specs.FrameAnswers.{answered_bytes}
 use Rattle.message_session.proofs.Next.{read_begun}
 use Rattle.message_session.proofs.Standing.{none_at_rest, rests_begun}
 use Rattle.message_session.proofs.Told.{ends_told}

@@ -1,7 +1,7 @@
 use Rattle.std.proofs.Common.{List, subst}
 use Rattle.messages.specs.declared.request.Request.{Request}
-use Rattle.messages.specs.Answers.{first_round}
-use Rattle.messages.specs.Calls.{AnswersRequests}
+use Rattle.messages.specs.MessageAnswers.{first_round}
+use Rattle.messages.specs.MessageCalls.{AnswersRequests}
 use Rattle.messages.proofs.Fronts.{first_all}
 use Rattle.messages.proofs.calls.answer_requests.Goals as goal
 

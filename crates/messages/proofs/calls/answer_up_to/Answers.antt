@@ -1,7 +1,7 @@
 use Rattle.std.proofs.Common.{rules, Err, IsSome, sym, subst}
 use Rattle.std.proofs.lemmas.Result.{IfErr-weaker}
 use Rattle.messages.specs.declared.first_requests.FirstRequests.{FirstRequests}
-use Rattle.messages.specs.Calls.{AnswersRequests}
+use Rattle.messages.specs.MessageCalls.{AnswersRequests}
 use Rattle.messages.specs.Turn.{front_requests}
 use Rattle.prevalence_store.proofs.calls.Executing.{known_world}
 use Rattle.messages.proofs.Owned.{no_device}

@@ -1,7 +1,7 @@
 use Rattle.std.proofs.Common.{length, refl, sym, subst, ◌∙◌, inr}
 use Rattle.std.proofs.lemmas.Bool.{eq-eqb, eqb-true, false≢true}
 use Rattle.session_words.specs.declared.mode.Mode.TheVariants as mode
-use Rattle.prevalence_store.specs.steps.Setting.{IsWhole}
+use Rattle.prevalence_store.specs.steps.Setting.{IsTextReadWhole}
 use Rattle.messages.proofs.Owned.{own_read, read_parts}
 use Rattle.messages.proofs.round.read_own.Goals as goal
 use Rattle.messages.proofs.round.read_own.Goals.{then-start-eq0, else-start-eq0}
@@ -11,7 +11,7 @@ pub returns-then-are_symbols_there-clause-form : goal.returns-then-are_symbols_t
 returns-then-are_symbols_there-clause-form g c =
     let f = c.in-Ok-Form in
     let text = c.args.text.now in
-    let whole = subst (IsWhole g.R.Meaning.Meaning.functions c.args.world.now.0 mode.Rescue text) f.field-0-is f.ensures in
+    let whole = subst (IsTextReadWhole g.R.Meaning.Meaning.functions c.args.world.now.0 mode.Rescue text) f.field-0-is f.ensures in
     elim c.if-start-eq0.branch [
       | then-start-eq0 s ↦
           own_read g.R.Meaning.Meaning.functions c.args.world.now.0 c.args.own text f.form f.start f.end c.requires.text whole s.if-start-eq0.true
@@ -26,7 +26,7 @@ returns-else-is_whole-clause-refused g c =
       λ own.
           let f = c.in-Ok-Form in
           let text = c.args.text.now in
-          let whole = subst (IsWhole g.R.Meaning.Meaning.functions c.args.world.now.0 mode.Rescue text) f.field-0-is f.ensures in
+          let whole = subst (IsTextReadWhole g.R.Meaning.Meaning.functions c.args.world.now.0 mode.Rescue text) f.field-0-is f.ensures in
           let parts = read_parts g.R.Meaning.Meaning.functions c.args.world.now.0 c.args.own text f.form f.start f.end c.requires.text whole own in
           elim c.else-is_whole.branch [
             | else-is_whole-via-then-is_whole+then-is_read_as+else-are_symbols_there b ↦ false≢true (sym b.if-are_symbols_there.false ∙ b.are_symbols_there.ensures ∙ own.all_there)

@@ -1,5 +1,5 @@
 use Rattle.std.proofs.Common.{Some, ap, ◌∙◌}
-use Rattle.pazturrok_c.specs.Calls.{AnswersEach}
+use Rattle.pazturrok_c.specs.EngineCalls.{AnswersEach}
 use Rattle.pazturrok_c.proofs.OnEngines.{engine_there}
 use Rattle.pazturrok_c.proofs.exports.pzt_answer_requests.Goals as goal
 

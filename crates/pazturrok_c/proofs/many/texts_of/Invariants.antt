@@ -1,5 +1,5 @@
 use Rattle.std.specs.Prelude.{◌≡◌, ◌++◌, drop, map}
-use Rattle.pazturrok_c.specs.Texts.{texts_in}
+use Rattle.pazturrok_c.specs.JoinedTexts.{texts_in}
 use Rattle.pazturrok_c.proofs.many.texts_of.Given as goal
 
 -- the texts so far, and those that are left

@@ -1,23 +1,28 @@
-use Rattle.std.proofs.Common.{◌∷◌, ◌-◌, take, drop, length}
-use Rattle.plain_reader.proofs.Fronts.{front}
+use Rattle.std.proofs.Common.{◌≡◌, ◌∷◌, true, codes, IfSome, subst}
+use Rattle.package_table.specs.Symbols.{are_there}
+use Rattle.package_table.specs.Table.{Table as Packages}
+use Rattle.plain_reader.specs.Plain.{IfStill}
+use Rattle.plain_reader.specs.Written.{lisp, literal_of}
 use Rattle.plain_reader.proofs.Writing.{setf_known, setf_sound, setf_taken}
 use Rattle.plain_reader.proofs.plain.read_setf.Goals as goal
 
-pub returns-in-Some-clause-form : goal.returns-in-Some-clause-form
-returns-in-Some-clause-form c = λ functions more h i.
-    let bytes = c.args.bytes.now in
-    setf_taken c.args.limits c.args.readtable.now c.args.base c.args.packages.now.0 c.args.current.now bytes (40 ∷ take (length bytes - 1) (drop 1 bytes)) more
-    c.in_ok-written_setf-in-len1-up.field-0 c.in-Some.taken h i functions c.if-bytes-limits.false
-    (front 40 bytes c.in-len1-up.len_at_least c.if-c-eq40.true) c.in-Some.is (c.in_ok-written_setf-in-len1-up.ensures.takes h i)
+pub returns-in-Some-2-clause-form : goal.returns-in-Some-2-clause-form
+returns-in-Some-2-clause-form c = λ functions more h i.
+    setf_taken c.args.limits c.args.readtable.now c.args.base c.args.packages.now.0 c.args.current.now c.in-Some-quoting.with c.in-Some-quoting.ensures.hands
+    c.args.bytes.now (40 ∷ c.in-Some.rest.now) more c.in_ok-written_setf.field-0 c.in-Some-2.taken h i functions c.in-Some.ensures.fits c.in-Some.ensures.behind c.in-Some-2.is
+    (c.in_ok-written_setf.ensures.takes h i)
 
-pub returns-in-Some-clause-known : goal.returns-in-Some-clause-known
-returns-in-Some-clause-known c = λ h i.
-    let call = c.in_ok-written_setf-in-len1-up.ensures in
-    setf_known c.args.packages.now.0 c.args.current.now c.in_ok-written_setf-in-len1-up.field-0 c.in-Some.taken c.written_setf.new.known h i c.soundness-in-len1-up.ensures c.in-Some.is
-    call.known call.operators
+pub returns-in-Some-2-clause-known : goal.returns-in-Some-2-clause-known
+returns-in-Some-2-clause-known c = λ h i.
+    let call = c.in_ok-written_setf.ensures in
+    let o = c.in_ok-written_setf.field-0 in
+    let same = c.in-Some-quoting.ensures.hands.packages_are in
+    setf_known c.args.packages.now.0 c.args.current.now o c.in-Some-2.taken c.written_setf.new.known h i c.soundness.ensures c.in-Some-2.is
+    (subst (λ (t : Packages). IfStill true c.written_setf.new.known (IfSome o (λ w. are_there t (literal_of w.literal) ≡ true))) same call.known)
+    (subst (λ (t : Packages). IfSome o (λ _. (are_there t (lisp (codes "SETF")) ≡ true) × (are_there t (lisp (codes "GET")) ≡ true))) same call.operators)
 
-pub returns-in-Some-clause-sound : goal.returns-in-Some-clause-sound
-returns-in-Some-clause-sound c = λ h i.
-    let call = c.in_ok-written_setf-in-len1-up.ensures in
-    setf_sound c.args.packages.now.0 c.args.current.now c.in_ok-written_setf-in-len1-up.field-0 c.in-Some.taken h i c.soundness-in-len1-up.ensures c.requires.current c.in-Some.is
+pub returns-in-Some-2-clause-sound : goal.returns-in-Some-2-clause-sound
+returns-in-Some-2-clause-sound c = λ h i.
+    let call = c.in_ok-written_setf.ensures in
+    setf_sound c.args.packages.now.0 c.args.current.now c.in_ok-written_setf.field-0 c.in-Some-2.taken h i c.soundness.ensures c.requires.current c.in-Some-2.is
     call.names call.sound

@@ -4,8 +4,8 @@ use Rattle.message_laws.specs.Batches.{all_requests, at_first, in_batches}
 use Rattle.plist_state.specs.Sound.{IsSoundWorldState}
 use Rattle.plist_state.specs.State.{WorldState}
 use Rattle.messages.specs.declared.request.Request.{Request}
-use Rattle.messages.specs.Answers.{Round, round_after_requests, first_round, each_request}
-use Rattle.messages.specs.Calls.{left_after}
+use Rattle.messages.specs.MessageAnswers.{Round, round_after_requests, first_round, each_request}
+use Rattle.messages.specs.MessageCalls.{left_after}
 use Rattle.messages.specs.Position.{position}
 use Rattle.user_macros.specs.Functions.{Functions}
 use Rattle.program_tests.proofs.cuts.answered_in_two.Goals as goal

@@ -10,7 +10,7 @@ use Rattle.session_words.specs.declared.wanted.SessionOptions.{SessionOptions}
 use Rattle.user_macros.specs.Functions.{Functions}
 use Rattle.session_words.specs.declared.content.Content.TheVariants.{World}
 use Rattle.world_forms.specs.Forms.{forms}
-use Rattle.whole_export.specs.Sessions.{EndsWith}
+use Rattle.whole_export.specs.ExportSession.{EndsWith}
 use Rattle.program_tests.proofs.exports.taken_in.Goals as goal
 
 -- the law, of a text that is that of the forms, and a session that came to the end

@@ -2,7 +2,7 @@ use Rattle.std.proofs.Common.{Some, subst}
 use Rattle.std.specs.List.{flat_map}
 use Rattle.feeding_laws.specs.Feeding.{over}
 use Rattle.message_frames.specs.Frames.{frame_bytes}
-use Rattle.message_session.specs.Sessions.{ServesMessages}
+use Rattle.message_session.specs.MessageSessions.{ServesMessages}
 use Rattle.message_session.specs.declared.ended.MessagesEnd.{MessagesEnd}
 use Rattle.program_tests.proofs.fed_again.feed_again.Goals as goal
 

@@ -5,7 +5,7 @@ use Rattle.plist_state.specs.State.{WorldState}
 use Rattle.session_words.specs.declared.mode.Mode.TheVariants.{Current}
 use Rattle.prevalence_store.specs.meaning.Acceptance.{accepts, after, records_of}
 use Rattle.prevalence_store.specs.Theorem.{Call, IsAfterSome, KeepsSome, Reopens, Survives}
-use Rattle.store_laws.specs.Histories.{Event, IsStop, opened, refused, called, stopped, Happened}
+use Rattle.store_laws.specs.Histories.{Event, IsStop, opened, refused, called, stopped, EventsHappened}
 use Rattle.user_macros.specs.Functions.{Functions}
 use Rattle.program_tests.proofs.Taken.{left_by}
 use Rattle.program_tests.proofs.lives.live_on.Goals as goal
@@ -56,7 +56,7 @@ returns g c = record {
       let second_call : Call g.row.D.Denot = record { disk = last.disk; taken = more; acknowledged = length more; left = Some twice.given.world } in
       let events : List (Event g.row.D.Denot) =
       opened store.disk w ∷ called first_call ∷ stopped c.args.stopped ∷ refused 1073741824 refusal.fault c.in-Err.refused.disk ∷ opened again.disk p.world ∷ called second_call ∷ [] in
-      let happened : Happened functions state c.args.disk None events = (
+      let happened : EventsHappened functions state c.args.disk None events = (
         record { reopens = subst (λ (u : WorldState). Reopens functions (state c.args.disk) (state store.disk) u) same_world (o.reopens honest); honest = o.honest },
         (
           subst (λ (left : Option WorldState). Survives functions (state store.disk) (state later.disk) w records (length records) left) left_once one,

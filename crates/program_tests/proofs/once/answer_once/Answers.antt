@@ -2,7 +2,7 @@ use Rattle.std.proofs.Common.{◌≡◌, ℕ, Some, Ok, pos, inl, inr, sym, ap, 
 use Rattle.std.specs.Prelude.{◌⊎◌}
 use Rattle.lisp_object.specs.Object.{integer}
 use Rattle.plist_state.specs.State.{WorldState}
-use Rattle.messages.specs.Answers.{Round, round_after_requests, first_round}
+use Rattle.messages.specs.MessageAnswers.{Round, round_after_requests, first_round}
 use Rattle.messages.specs.Position.{position_property}
 use Rattle.store_laws.specs.Messages.{IsBeforeOrAfter}
 use Rattle.program_tests.proofs.once.answer_once.Goals as goal

@@ -1,5 +1,5 @@
 use Rattle.std.proofs.Common.{List, [], ◌∷◌, Ok, IsSome, refl, sym, subst}
-use Rattle.messages.specs.Calls.{AnswersRequests}
+use Rattle.messages.specs.MessageCalls.{AnswersRequests}
 use Rattle.store_laws.specs.Rounds.{Step, requested, quiet, after_rounds, place_at}
 use Rattle.program_tests.proofs.rounds.answer_twice.Goals as goal
 

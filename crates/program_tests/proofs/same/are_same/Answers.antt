@@ -5,11 +5,11 @@ use Rattle.session_words.specs.declared.content.Content.TheVariants.{World}
 use Rattle.session_words.specs.declared.mode.Mode.{Mode}
 use Rattle.session_words.specs.declared.mode.Mode.TheVariants.{Current}
 use Rattle.prevalence_store.specs.meaning.Acceptance.{read_in}
-use Rattle.sessions.specs.Answers.{Progress, one_form}
+use Rattle.sessions.specs.FormAnswers.{Progress, one_form}
 use Rattle.store_laws.specs.Outcomes.{HasForms}
 use Rattle.user_macros.specs.Functions.{Functions}
 use Rattle.world_forms.specs.Forms.{forms, last_newline}
-use Rattle.export_laws.specs.Texts.{Makes}
+use Rattle.export_laws.specs.ExportedTexts.{Makes}
 use Rattle.program_tests.proofs.same.are_same.Goals as goal
 
 module _ (functions : Functions) (text : List ℕ) where

@@ -2,7 +2,7 @@ use Rattle.std.proofs.Common.{◌≡◌, ◌-◌, length, take, drop, sym, subst
 use Rattle.std.proofs.lemmas.Option.{same_Some}
 use Rattle.std.proofs.lemmas.Result.{IfOk-weaker}
 use Rattle.lisp_object.specs.Datum.{object_of}
-use Rattle.refused_part.specs.Places.{HasPart, with_part}
+use Rattle.refused_part.specs.PartPlaces.{HasPart, with_part}
 use Rattle.refused_part.proofs.Filled.{first_step, item_proper, rest_shorter, with_first}
 use Rattle.refused_part.proofs.filling.+filled.Goals as goal
 

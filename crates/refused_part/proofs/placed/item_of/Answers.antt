@@ -1,5 +1,5 @@
 use Rattle.std.proofs.Common.{[], ◌∷◌, ◌++◌, ap, sym, subst, ◌∙◌}
-use Rattle.refused_part.specs.Places.{HasPart}
+use Rattle.refused_part.specs.PartPlaces.{HasPart}
 use Rattle.refused_part.proofs.Searching.{item_there}
 use Rattle.refused_part.proofs.placed.item_of.Goals as goal
 

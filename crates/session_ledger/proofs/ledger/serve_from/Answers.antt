@@ -3,7 +3,7 @@ use Rattle.sessions.specs.Account.{first_account}
 use Rattle.sessions.specs.Serve.{ServesWanted}
 use Rattle.prevalence_store.specs.calls.Store.{StoreView}
 use Rattle.session_ledger.specs.Ledger.{Agrees, IsAccountOf, account_from}
-use Rattle.session_ledger.specs.OutgoingLines.{Went}
+use Rattle.session_ledger.specs.OutgoingLines.{WentOut}
 use Rattle.session_ledger.proofs.Sending.{agrees_first, begins_so, kept_first, known_world, same_name, went_so}
 use Rattle.session_ledger.proofs.ledger.serve_from.Goals as goal
 
@@ -48,8 +48,8 @@ returns-clause-went g c = λ world known.
     let there = sym (c.output-1.given.1 (sym name)) in
     let went = went_so functions g.row.M.Denot state first begun closed g.B.Origin.held (contents c.ledger.inside.output.now) c.ledger.inside.past.items is c.ledger.invariant.0
     (λ kept so. c.serve_wanted-ended.ensures.under_way c.requires.is_open kept (ap (λ v. account_from first v.past) (sym c.ledger.view_is) ∙ so)) in
-    subst (λ (o : g.row.O.Denot). Went functions state begun closed (contents c.args.output.now) (contents o)) there
-    (subst (λ held. Went functions state begun closed held (contents c.ledger.inside.output.now)) c.requires.held went)
+    subst (λ (o : g.row.O.Denot). WentOut functions state begun closed (contents c.args.output.now) (contents o)) there
+    (subst (λ held. WentOut functions state begun closed held (contents c.ledger.inside.output.now)) c.requires.held went)
 
 pub returns-clause-under_way : goal.returns-clause-under_way
 returns-clause-under_way g c = λ kept is.

@@ -3,7 +3,7 @@ use Rattle.lisp_object.specs.Datum.{object_of}
 use Rattle.lisp_object.specs.declared.refusal.TheConstants.{LOG_FULL}
 use Rattle.sessions.specs.declared.answer.Answered.{Answered}
 use Rattle.sessions.specs.Account.{Account}
-use Rattle.sessions.specs.steps.Answer.{BeginsWith}
+use Rattle.sessions.specs.steps.Answer.{BeginsWithForm}
 use Rattle.sessions.specs.steps.Standing.{HandsOn, StandsBeforeAll}
 use Rattle.prevalence_store.proofs.calls.Executing.{known_world}
 use Rattle.sessions.proofs.Handing.{stands_further, no_renewal, none_further}
@@ -74,7 +74,7 @@ try_form-requires-in-Err-clause-stands g c = λ v left.
     (subst (λ (store : StoreView g.row.D.Denot g.row.R.Denot). StandsBeforeAll functions g.D.Disk.state told store w c.args.mode s.0) (sym same) s.3)
     c.renew.ensures.honest here is.renews.left is.survives in
     let form = object_of c.args.form.now.read.now.datum in
-    subst (λ u. (text : List ℕ) × (next : ℕ) × BeginsWith functions u c.args.mode text form c.args.form.now.own.now next × StandsBeforeAll functions g.D.Disk.state (g.W.Recipient.account c.try_form.new.writer) c.renew.new.store u c.args.mode text) one
+    subst (λ u. (text : List ℕ) × (next : ℕ) × BeginsWithForm functions u c.args.mode text form c.args.form.now.own.now next × StandsBeforeAll functions g.D.Disk.state (g.W.Recipient.account c.try_form.new.writer) c.renew.new.store u c.args.mode text) one
     (s.0, s.1, s.2, subst (λ (o : Option (Account g.row.D.Denot)). StandsBeforeAll functions g.D.Disk.state o c.renew.new.store w c.args.mode s.0) (sym (ap (λ v. g.W.Recipient.account v) (c.in-Err.ensures.quiet full))) before)
 
 pub returns-in_default-clause-hands : goal.returns-in_default-clause-hands

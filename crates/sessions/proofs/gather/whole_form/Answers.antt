@@ -2,7 +2,7 @@ use Rattle.std.proofs.Common.{◌+◌, [], take, subst, arith}
 use Rattle.form_reader.specs.Reader.{fed}
 use Rattle.lisp_object.specs.Datum.{object_of}
 use Rattle.sessions.specs.declared.input.Fed.{Fed}
-use Rattle.sessions.specs.steps.Input.{AreAllThere, Feeds, IsSoundFed, PlacesAreWithin}
+use Rattle.sessions.specs.steps.Input.{AreAllThere, FeedsInput, IsSoundFed, PlacesAreWithin}
 use Rattle.sessions.proofs.Gathering.{may_add, piece_begins}
 use Rattle.sessions.proofs.gather.whole_form.Goals as goal
 
@@ -18,7 +18,7 @@ returns-in-Form-clause-begins g c =
     let n = c.in-Ok.part.count in
     let f = c.in-Form in
     let told = c.in-Ok.ensures in
-    let has = subst (λ (given : Fed). Feeds functions w mode c.feed.new.self (take n piece) given) f.is (told.feeds [] (c.new-pending.ensures.none functions w mode)) in
+    let has = subst (λ (given : Fed). FeedsInput functions w mode c.feed.new.self (take n piece) given) f.is (told.feeds [] (c.new-pending.ensures.none functions w mode)) in
     rw f.is (piece_begins functions w mode c.feed.new.self piece n (object_of f.form.read.datum) f.form.own.items f.left told.part.some told.part.within has.0 f.form.next has.2)
 
 pub returns-in-Form-clause-may : goal.returns-in-Form-clause-may
@@ -30,7 +30,7 @@ returns-in-Form-clause-may g c =
     let n = c.in-Ok.part.count in
     let f = c.in-Form in
     let told = c.in-Ok.ensures in
-    let has = subst (λ (given : Fed). Feeds functions w mode c.feed.new.self (take n piece) given) f.is (told.feeds [] (c.new-pending.ensures.none functions w mode)) in
+    let has = subst (λ (given : Fed). FeedsInput functions w mode c.feed.new.self (take n piece) given) f.is (told.feeds [] (c.new-pending.ensures.none functions w mode)) in
     let begins = piece_begins functions w mode c.feed.new.self piece n (object_of f.form.read.datum) f.form.own.items f.left told.part.some told.part.within has.0 f.form.next has.2 in
     let sound = subst IsSoundFed f.is told.part.sound in
     rw f.is (may_add functions mode w piece f.form.read f.form.own.items f.form.next begins c.soundness.ensures.present sound.0 sound.1

@@ -5,15 +5,15 @@ use Rattle.form_reader.specs.Reader.{fed}
 use Rattle.lisp_object.specs.Datum.{object_of}
 use Rattle.sessions.specs.declared.input.Fed.{Fed}
 use Rattle.sessions.specs.steps.Course.{course_of}
-use Rattle.sessions.specs.steps.Input.{AreAllThere, Feeds, IsSoundFed, PlacesAreWithin}
+use Rattle.sessions.specs.steps.Input.{AreAllThere, FeedsInput, IsSoundFed, PlacesAreWithin}
 use Rattle.sessions.specs.declared.group.Grouped.{Grouped}
 use Rattle.prevalence_store.specs.calls.Store.{StoreView}
 use Rattle.prevalence_store.specs.meaning.Acceptance.{read_in}
-use Rattle.sessions.specs.steps.Answer.{BeginsWith, IsFormOf}
+use Rattle.sessions.specs.steps.Answer.{BeginsWithForm, IsFormOf}
 use Rattle.sessions.specs.steps.Standing.{HandsOn, StandsBeforeAll}
 use Rattle.sessions.proofs.Handing.{hands_nothing, none_standing, rest_of_input}
 use Rattle.sessions.specs.steps.Gather.{AnswersGroup}
-use Rattle.sessions.specs.steps.Serve.{AnswersPiece, GoesOn, ended_at}
+use Rattle.sessions.specs.steps.Serve.{AnswersPiece, SessionGoesOn, ended_at}
 use Rattle.sessions.proofs.Answering.{answered_within, ended_within, form_answered, nothing_answered}
 use Rattle.sessions.proofs.EndedAt.{at_starts, fault_ended, memory_ended, read_ended, read_from}
 use Rattle.sessions.proofs.Pieces.{begins_here_start, begins_start, form_begins, form_begins_here, form_takes, moves_further, piece_whole_more, text_stays, whole_begins}
@@ -36,7 +36,7 @@ returns-in-Nothing-clause-answers g c = λ w known bytes p.
     let course = course_of c.args.course.now in
     answered_within functions g.D.Disk.state c.args.wanted.strict course course c.args.store.now c.args.store.now w c.args.wanted.mode held held c.feed.new.pending bytes c.args.piece.now [] n
     (nothing_answered functions g.D.Disk.state g.met.D.Disk.sound c.args.wanted.strict course c.args.store.now w c.args.wanted.mode text held c.feed.new.pending known
-    (subst (λ (f : Fed). Feeds functions w c.args.wanted.mode c.feed.new.pending text f) c.in-Nothing.is (c.in-Ok.ensures.feeds w known bytes p)))
+    (subst (λ (f : Fed). FeedsInput functions w c.args.wanted.mode c.feed.new.pending text f) c.in-Nothing.is (c.in-Ok.ensures.feeds w known bytes p)))
 
 pub returns-in-Refused-clause-answers : goal.returns-in-Refused-clause-answers
 returns-in-Refused-clause-answers g c = λ w known bytes p.
@@ -48,7 +48,7 @@ returns-in-Refused-clause-answers g c = λ w known bytes p.
     let written = g.W.Recipient.contents c.answer_fault.new.writer in
     let course = course_of c.args.course.now in
     let f = c.in-Refused in
-    let refuses = subst (λ (fed : Fed). Feeds functions w c.args.wanted.mode c.feed.new.pending text fed) f.is (c.in-Ok.ensures.feeds w known bytes p) in
+    let refuses = subst (λ (fed : Fed). FeedsInput functions w c.args.wanted.mode c.feed.new.pending text fed) f.is (c.in-Ok.ensures.feeds w known bytes p) in
     let place = c.place-place.ensures in
     subst (λ ended. AnswersPiece functions g.D.Disk.state c.args.wanted course course c.args.store.now c.answer_fault.new.store w c.args.wanted.mode (bytes ++ piece) held written c.feed.new.pending (Some ended)) (sym c.at.ensures)
     (ended_within functions g.D.Disk.state c.args.wanted course course c.args.store.now c.answer_fault.new.store w c.args.wanted.mode held written c.feed.new.pending bytes piece n (ended_at c.place-place.result c.answer_fault.result)
@@ -72,7 +72,7 @@ answer_group-requires-clause-form g c =
           let functions = g.R.Meaning.Meaning.functions in
           let p = c.requires.pending.some w known in
           let text = p.0 ++ take c.in-Ok.part.count c.args.piece.now in
-          let has = (subst (λ (fed : Fed). Feeds functions w c.args.wanted.mode c.feed.new.pending text fed) f.is (c.in-Ok.ensures.feeds w known p.0 p.1)).0 in
+          let has = (subst (λ (fed : Fed). FeedsInput functions w c.args.wanted.mode c.feed.new.pending text fed) f.is (c.in-Ok.ensures.feeds w known p.0 p.1)).0 in
           (text, (has.next, form_begins_here functions w c.args.wanted.mode c.feed.new.pending text (object_of f.form.read.datum) f.form.own.items f.left has f.form.own.items refl));
       proper = (subst IsSoundFed f.is c.in-Ok.ensures.part.sound).0;
       sound = (subst IsSoundFed f.is c.in-Ok.ensures.part.sound).1;
@@ -88,7 +88,7 @@ returns-in-Answered-clause-answers g c = λ w known bytes p.
     let more = c.in-Answered.more in
     let text = bytes ++ take n piece in
     let f = c.in-Form in
-    let has = subst (λ (fed : Fed). Feeds functions w c.args.wanted.mode c.feed.new.pending text fed) f.is (c.in-Ok.ensures.feeds w known bytes p) in
+    let has = subst (λ (fed : Fed). FeedsInput functions w c.args.wanted.mode c.feed.new.pending text fed) f.is (c.in-Ok.ensures.feeds w known bytes p) in
     let begins = whole_begins functions w c.args.wanted.mode c.feed.new.pending text (object_of f.form.read.datum) f.form.own.items f.left has.0 bytes piece n count refl c.in-Ok.ensures.part.within c.before_left-count.ensures f.form.next has.2 in
     let held = g.W.Recipient.contents c.args.writer.now in
     let written = g.W.Recipient.contents c.answer_group.new.writer in
@@ -97,7 +97,7 @@ returns-in-Answered-clause-answers g c = λ w known bytes p.
     let rest = take (length piece - count) (drop count piece) in
     let answered = subst (λ (r : Grouped). AnswersGroup functions c.args.wanted g.D.Disk.state course later c.args.store.now c.answer_group.new.store w (bytes ++ piece) rest held written r) c.in-Answered.is
     (c.answer_group.ensures.answers w known (bytes ++ piece) begins.0 (begins.1 ∙ sym (behind_piece piece count))) in
-    subst (λ t. GoesOn functions g.D.Disk.state c.args.wanted.strict course later c.args.store.now c.answer_group.new.store w c.args.wanted.mode (bytes ++ piece) held written c.feed.new.pending t)
+    subst (λ t. SessionGoesOn functions g.D.Disk.state c.args.wanted.strict course later c.args.store.now c.answer_group.new.store w c.args.wanted.mode (bytes ++ piece) held written c.feed.new.pending t)
     (ap (drop more) (behind_piece piece count) ∙ drop-drop more count piece)
     (answered c.feed.new.pending (λ v. has.0.none v c.args.wanted.mode))
 
@@ -109,7 +109,7 @@ returns-in-Ended-clause-answers g c = λ w known bytes p.
     let count = c.before_left-count.result in
     let text = bytes ++ take n piece in
     let f = c.in-Form in
-    let has = subst (λ (fed : Fed). Feeds functions w c.args.wanted.mode c.feed.new.pending text fed) f.is (c.in-Ok.ensures.feeds w known bytes p) in
+    let has = subst (λ (fed : Fed). FeedsInput functions w c.args.wanted.mode c.feed.new.pending text fed) f.is (c.in-Ok.ensures.feeds w known bytes p) in
     let begins = whole_begins functions w c.args.wanted.mode c.feed.new.pending text (object_of f.form.read.datum) f.form.own.items f.left has.0 bytes piece n count refl c.in-Ok.ensures.part.within c.before_left-count.ensures f.form.next has.2 in
     let held = g.W.Recipient.contents c.args.writer.now in
     let written = g.W.Recipient.contents c.answer_group.new.writer in
@@ -126,7 +126,7 @@ answer_group-requires-clause-stands g c = λ w known.
     let count = c.before_left-count.result in
     let text = s.0 ++ take n piece in
     let f = c.in-Form in
-    let has = subst (λ (fed : Fed). Feeds functions w c.args.wanted.mode c.feed.new.pending text fed) f.is (c.in-Ok.ensures.feeds w known s.0 s.1) in
+    let has = subst (λ (fed : Fed). FeedsInput functions w c.args.wanted.mode c.feed.new.pending text fed) f.is (c.in-Ok.ensures.feeds w known s.0 s.1) in
     let begins = whole_begins functions w c.args.wanted.mode c.feed.new.pending text (object_of f.form.read.datum) f.form.own.items f.left has.0 s.0 piece n count refl c.in-Ok.ensures.part.within c.before_left-count.ensures f.form.next has.2 in
     (s.0 ++ piece, begins.0, begins.1 ∙ sym (behind_piece piece count), s.2)
 
@@ -139,7 +139,7 @@ answer_fault-requires-clause-stands g c = λ w known.
     let piece = c.args.piece.now in
     let n = c.in-Ok.part.count in
     let text = s.0 ++ take n piece in
-    let refuses = (subst (λ (fed : Fed). Feeds functions w c.args.wanted.mode c.feed.new.pending text fed) c.in-Refused.is (c.in-Ok.ensures.feeds w known s.0 s.1)).0 in
+    let refuses = (subst (λ (fed : Fed). FeedsInput functions w c.args.wanted.mode c.feed.new.pending text fed) c.in-Refused.is (c.in-Ok.ensures.feeds w known s.0 s.1)).0 in
     let rest = rest_of_input functions g.D.Disk.state g.met.D.Disk.sound (g.W.Recipient.account c.args.writer.now) c.args.store.now w c.args.wanted.mode (s.0 ++ piece) s.2 in
     ((s.0 ++ piece) ++ rest.0, refuses.at, ap (read_in functions w c.args.wanted.mode) (sym (piece_whole_more s.0 piece rest.0 n)) ∙ refuses.reads (drop n piece ++ rest.0), rest.1)
 
@@ -156,7 +156,7 @@ answer_read-requires g c =
             let functions = g.R.Meaning.Meaning.functions in
             let p = c.requires.pending.some w known in
             let text = p.0 ++ take c.in-Ok.part.count c.args.piece.now in
-            let has = (subst (λ (fed : Fed). Feeds functions w c.args.wanted.mode c.feed.new.pending text fed) f.is (c.in-Ok.ensures.feeds w known p.0 p.1)).0 in
+            let has = (subst (λ (fed : Fed). FeedsInput functions w c.args.wanted.mode c.feed.new.pending text fed) f.is (c.in-Ok.ensures.feeds w known p.0 p.1)).0 in
             (text, (has.next, form_begins_here functions w c.args.wanted.mode c.feed.new.pending text (object_of f.form.read.datum) f.form.own.items f.left has f.form.own.items refl));
         proper = (subst IsSoundFed f.is c.in-Ok.ensures.part.sound).0;
         sound = (subst IsSoundFed f.is c.in-Ok.ensures.part.sound).1;
@@ -169,12 +169,12 @@ answer_read-requires g c =
           let piece = c.args.piece.now in
           let n = c.in-Ok.part.count in
           let text = s.0 ++ take n piece in
-          let has = (subst (λ (fed : Fed). Feeds functions w c.args.wanted.mode c.feed.new.pending text fed) f.is (c.in-Ok.ensures.feeds w known s.0 s.1)).0 in
+          let has = (subst (λ (fed : Fed). FeedsInput functions w c.args.wanted.mode c.feed.new.pending text fed) f.is (c.in-Ok.ensures.feeds w known s.0 s.1)).0 in
           let rest = rest_of_input functions g.D.Disk.state g.met.D.Disk.sound (g.W.Recipient.account c.args.writer.now) c.args.store.now w c.args.wanted.mode (s.0 ++ piece) s.2 in
           let all = (s.0 ++ piece) ++ rest.0 in (
             all,
             has.next,
-            subst (λ t. BeginsWith functions w c.args.wanted.mode t (object_of f.form.read.datum) f.form.own.items has.next) (piece_whole_more s.0 piece rest.0 n)
+            subst (λ t. BeginsWithForm functions w c.args.wanted.mode t (object_of f.form.read.datum) f.form.own.items has.next) (piece_whole_more s.0 piece rest.0 n)
                 (form_begins functions w c.args.wanted.mode c.feed.new.pending text (object_of f.form.read.datum) f.form.own.items f.left has f.form.own.items (drop n piece ++ rest.0) refl),
             subst (λ (v : g.row.W.Denot). StandsBeforeAll functions g.D.Disk.state (g.W.Recipient.account v) c.answer_group.new.store w c.args.wanted.mode all) (sym left.1)
                 (subst (λ (store : StoreView g.row.D.Denot g.row.R.Denot). StandsBeforeAll functions g.D.Disk.state (g.W.Recipient.account c.args.writer.now) store w c.args.wanted.mode all) (sym left.0) rest.1),
@@ -198,7 +198,7 @@ returns-clause-answers g c = λ w known bytes p.
     let later = course_of c.answer_read.new.course in
     let left = c.answer_group.ensures.left c.in-Left.is in
     let f = c.in-Form in
-    let has = subst (λ (fed : Fed). Feeds functions w c.args.wanted.mode c.feed.new.pending text fed) f.is (c.in-Ok.ensures.feeds w known bytes p) in
+    let has = subst (λ (fed : Fed). FeedsInput functions w c.args.wanted.mode c.feed.new.pending text fed) f.is (c.in-Ok.ensures.feeds w known bytes p) in
     let within = subst (λ (given : Fed). PlacesAreWithin (fed c.args.pending.now.reader + c.in-Ok.part.count) given) f.is c.in-Ok.ensures.part.places in
     let still = ap (λ (s : StoreView g.row.D.Denot g.row.R.Denot). s.world) left.0 ∙ known in
     ended_within functions g.D.Disk.state c.args.wanted course later c.args.store.now c.answer_read.new.store w c.args.wanted.mode held written c.feed.new.pending bytes piece n c.in-Err-answer_read.ended
@@ -218,7 +218,7 @@ returns-in-Ok-answer_read-clause-answers g c = λ w known bytes p.
     let n = c.in-Ok.part.count in
     let text = bytes ++ take n c.args.piece.now in
     let f = c.in-Form in
-    let has = subst (λ (fed : Fed). Feeds functions w c.args.wanted.mode c.feed.new.pending text fed) f.is (c.in-Ok.ensures.feeds w known bytes p) in
+    let has = subst (λ (fed : Fed). FeedsInput functions w c.args.wanted.mode c.feed.new.pending text fed) f.is (c.in-Ok.ensures.feeds w known bytes p) in
     let course = course_of c.args.course.now in
     let mid = course_of c.answer_group.new.course in
     let later = course_of c.answer_read.new.course in
@@ -247,7 +247,7 @@ returns-in-Answered-clause-some g c =
     let n = c.in-Ok.part.count in
     let text = p.0 ++ take n c.args.piece.now in
     let f = c.in-Form in
-    let has = (subst (λ (fed : Fed). Feeds functions old.0 c.args.wanted.mode c.feed.new.pending text fed) f.is (c.in-Ok.ensures.feeds old.0 old.1 p.0 p.1)).0 in
+    let has = (subst (λ (fed : Fed). FeedsInput functions old.0 c.args.wanted.mode c.feed.new.pending text fed) f.is (c.in-Ok.ensures.feeds old.0 old.1 p.0 p.1)).0 in
     moves_further (fed c.args.pending.now.reader) (fed c.feed.new.pending.reader) (length c.args.piece.now) c.before_left-count.result c.in-Answered.more
     (form_takes functions old.0 c.args.wanted.mode c.feed.new.pending text (object_of f.form.read.datum) f.form.own.items f.left has p.0 c.args.piece.now n c.before_left-count.result refl c.in-Ok.ensures.part.within
     c.before_left-count.ensures c.args.pending.now p.1)
@@ -261,7 +261,7 @@ returns-in-Ok-answer_read-clause-some g c =
     let n = c.in-Ok.part.count in
     let text = p.0 ++ take n c.args.piece.now in
     let f = c.in-Form in
-    let has = (subst (λ (fed : Fed). Feeds functions old.0 c.args.wanted.mode c.feed.new.pending text fed) f.is (c.in-Ok.ensures.feeds old.0 old.1 p.0 p.1)).0 in
+    let has = (subst (λ (fed : Fed). FeedsInput functions old.0 c.args.wanted.mode c.feed.new.pending text fed) f.is (c.in-Ok.ensures.feeds old.0 old.1 p.0 p.1)).0 in
     form_takes functions old.0 c.args.wanted.mode c.feed.new.pending text (object_of f.form.read.datum) f.form.own.items f.left has p.0 c.args.piece.now n c.before_left-count.result refl c.in-Ok.ensures.part.within
     c.before_left-count.ensures c.args.pending.now p.1
 
@@ -273,7 +273,7 @@ returns-in-Answered-clause-count g c =
     let piece = c.args.piece.now in
     let n = c.in-Ok.part.count in
     let f = c.in-Form in
-    let has = subst (λ (fed : Fed). Feeds functions old.0 c.args.wanted.mode c.feed.new.pending (p.0 ++ take n piece) fed) f.is (c.in-Ok.ensures.feeds old.0 old.1 p.0 p.1) in
+    let has = subst (λ (fed : Fed). FeedsInput functions old.0 c.args.wanted.mode c.feed.new.pending (p.0 ++ take n piece) fed) f.is (c.in-Ok.ensures.feeds old.0 old.1 p.0 p.1) in
     let none = (has.0.none old.0 c.args.wanted.mode).count in
     omega (arith, c.answer_group.ensures.bytes c.in-Answered.more c.in-Answered.is, has.0.next_is, has.2, length-append p.0 (take n piece), length-take-le n piece c.in-Ok.ensures.part.within, p.1.count, c.before_left-count.ensures, none)
 
@@ -285,7 +285,7 @@ returns-in-Answered-clause-most g c =
     let piece = c.args.piece.now in
     let n = c.in-Ok.part.count in
     let f = c.in-Form in
-    let has = subst (λ (fed : Fed). Feeds functions old.0 c.args.wanted.mode c.feed.new.pending (p.0 ++ take n piece) fed) f.is (c.in-Ok.ensures.feeds old.0 old.1 p.0 p.1) in
+    let has = subst (λ (fed : Fed). FeedsInput functions old.0 c.args.wanted.mode c.feed.new.pending (p.0 ++ take n piece) fed) f.is (c.in-Ok.ensures.feeds old.0 old.1 p.0 p.1) in
     let none = (has.0.none old.0 c.args.wanted.mode).count in
     omega (arith, c.answer_group.ensures.most, length-drop c.before_left-count.result piece, ap length (behind_piece piece c.before_left-count.result), c.in-Ok.ensures.part.within, has.0.next_is, has.2, length-append p.0 (take n piece), length-take-le n piece c.in-Ok.ensures.part.within, p.1.count, c.before_left-count.ensures, none)
 
@@ -297,7 +297,7 @@ returns-in-Ended-clause-most g c =
     let piece = c.args.piece.now in
     let n = c.in-Ok.part.count in
     let f = c.in-Form in
-    let has = subst (λ (fed : Fed). Feeds functions old.0 c.args.wanted.mode c.feed.new.pending (p.0 ++ take n piece) fed) f.is (c.in-Ok.ensures.feeds old.0 old.1 p.0 p.1) in
+    let has = subst (λ (fed : Fed). FeedsInput functions old.0 c.args.wanted.mode c.feed.new.pending (p.0 ++ take n piece) fed) f.is (c.in-Ok.ensures.feeds old.0 old.1 p.0 p.1) in
     let none = (has.0.none old.0 c.args.wanted.mode).count in
     omega (arith, c.answer_group.ensures.most, length-drop c.before_left-count.result piece, ap length (behind_piece piece c.before_left-count.result), c.in-Ok.ensures.part.within, has.0.next_is, has.2, length-append p.0 (take n piece), length-take-le n piece c.in-Ok.ensures.part.within, p.1.count, c.before_left-count.ensures, none)
 
@@ -309,7 +309,7 @@ returns-in-Ok-answer_read-clause-count g c =
     let piece = c.args.piece.now in
     let n = c.in-Ok.part.count in
     let f = c.in-Form in
-    let has = subst (λ (fed : Fed). Feeds functions old.0 c.args.wanted.mode c.feed.new.pending (p.0 ++ take n piece) fed) f.is (c.in-Ok.ensures.feeds old.0 old.1 p.0 p.1) in
+    let has = subst (λ (fed : Fed). FeedsInput functions old.0 c.args.wanted.mode c.feed.new.pending (p.0 ++ take n piece) fed) f.is (c.in-Ok.ensures.feeds old.0 old.1 p.0 p.1) in
     let none = (has.0.none old.0 c.args.wanted.mode).count in
     omega (arith, c.answer_read.ensures.bytes, ap (λ k. (course_of k).bytes) (c.answer_group.ensures.left c.in-Left.is).2, has.0.next_is, has.2, length-append p.0 (take n piece), length-take-le n piece c.in-Ok.ensures.part.within, p.1.count, c.before_left-count.ensures, none)
 

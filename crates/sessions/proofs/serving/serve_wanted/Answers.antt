@@ -6,7 +6,7 @@ use Rattle.sessions.specs.declared.ending.Ended.TheVariants as ways
 use Rattle.sessions.specs.Serve.{pace_wanted}
 use Rattle.sessions.specs.steps.Course.{Course, course_of, first_course}
 use Rattle.sessions.specs.steps.Input.{IsPending}
-use Rattle.sessions.specs.steps.Serve.{GoesOn}
+use Rattle.sessions.specs.steps.Serve.{SessionGoesOn}
 use Rattle.sessions.specs.steps.Standing.{HandsOn, StandsBefore, StandsBeforeAll}
 use Rattle.sessions.proofs.Handing.{hands_both, hands_nothing, stands_first, stands_first_all, stands_on, stands_on_all, none_handed}
 use Rattle.prevalence_store.proofs.calls.Executing.{known_world}
@@ -28,7 +28,7 @@ reads-init g c =
           let first = first_course (pace_wanted c.args.wanted) in (
             [],
             (
-              subst (λ (k : Course). GoesOn functions g.D.Disk.state c.args.wanted.strict first k c.args.store.now c.args.store.now w c.args.wanted.mode [] (g.W.Recipient.contents c.args.writer.now)
+              subst (λ (k : Course). SessionGoesOn functions g.D.Disk.state c.args.wanted.strict first k c.args.store.now c.args.store.now w c.args.wanted.mode [] (g.W.Recipient.contents c.args.writer.now)
                   (g.W.Recipient.contents c.args.writer.now) c.new-pending.result []) (sym begun)
                   (nothing_answered functions g.D.Disk.state g.met.D.Disk.sound c.args.wanted.strict first c.args.store.now w c.args.wanted.mode [] (g.W.Recipient.contents c.args.writer.now)
                   c.new-pending.result known (c.new-pending.ensures.none functions w c.args.wanted.mode)),

@@ -1,7 +1,7 @@
 use Rattle.std.proofs.Common.{◌<◌, ◌++◌, map, length, inr, ap, subst, ◌∙◌, sym, arith}
 use Rattle.snapshot_lines.specs.declared.texts.Coming.{Coming}
 use Rattle.snapshot_lines.specs.declared.texts.Coming.TheVariants.{Item, End}
-use Rattle.snapshot_lines.specs.Texts.{unescaped_pair, pair_text, items_rest, IsNextItem, LeavesLess}
+use Rattle.snapshot_lines.specs.QuotedTexts.{unescaped_pair, pair_text, items_rest, IsNextItem, LeavesFewerBytes}
 use Rattle.snapshot_lines.proofs.Quoted.{IsItem, next_item, one_more_read, all_read}
 use Rattle.snapshot_lines.proofs.texts.pairs_in.Goals as goal
 
@@ -32,6 +32,6 @@ pairs-preserved c = record {
         inr read.1,
       );
   shorter =
-      let less : length c.in-Item.item.now < length c.pairs.rest.now = subst (λ (x : Coming). LeavesLess c.pairs.rest.now x) c.in-Item.is c.in_ok-after.ensures.shorter in
+      let less : length c.in-Item.item.now < length c.pairs.rest.now = subst (λ (x : Coming). LeavesFewerBytes c.pairs.rest.now x) c.in-Item.is c.in_ok-after.ensures.shorter in
       omega (arith, less, c.in_ok-pair-in-Item.ensures.shorter, c.pairs.invariant.shorter);
 }

@@ -1,6 +1,6 @@
 use Rattle.std.proofs.Common.{◌≡◌, ◌≤◌, List, ℕ, ◌++◌, map, length}
 use Rattle.package_table.specs.Table.{Name}
-use Rattle.snapshot_lines.specs.Texts.{unescaped_pair, pair_text, pairs_text, IsAtItems}
+use Rattle.snapshot_lines.specs.QuotedTexts.{unescaped_pair, pair_text, pairs_text, IsAtItems}
 use Rattle.snapshot_lines.proofs.texts.pairs_in.Given as goal
 
 -- those so far, and those that come

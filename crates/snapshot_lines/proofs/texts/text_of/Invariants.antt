@@ -1,5 +1,5 @@
 use Rattle.std.proofs.Common.{◌≡◌, ◌++◌, drop}
-use Rattle.snapshot_lines.specs.Texts.{unescaped, unescaped_after}
+use Rattle.snapshot_lines.specs.QuotedTexts.{unescaped, unescaped_after}
 use Rattle.snapshot_lines.proofs.texts.text_of.Given as goal
 
 -- what the text so far and the rest are

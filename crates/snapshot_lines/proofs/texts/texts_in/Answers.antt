@@ -2,7 +2,7 @@ use Rattle.std.proofs.Common.{◌<◌, ◌++◌, map, length, inr, ap, subst, �
 use Rattle.canon_printer.specs.Written.{printed_text}
 use Rattle.snapshot_lines.specs.declared.texts.Coming.{Coming}
 use Rattle.snapshot_lines.specs.declared.texts.Coming.TheVariants.{Item, End}
-use Rattle.snapshot_lines.specs.Texts.{unescaped, items_rest, IsNextItem, LeavesLess}
+use Rattle.snapshot_lines.specs.QuotedTexts.{unescaped, items_rest, IsNextItem, LeavesFewerBytes}
 use Rattle.snapshot_lines.proofs.Quoted.{IsItem, next_item, one_more_read, all_read}
 use Rattle.snapshot_lines.proofs.texts.texts_in.Goals as goal
 
@@ -33,6 +33,6 @@ texts-preserved c = record {
         inr read.1,
       );
   shorter =
-      let less : length c.in-Item.item.now < length c.texts.rest.now = subst (λ (x : Coming). LeavesLess c.texts.rest.now x) c.in-Item.is c.in_ok-after.ensures.shorter in
+      let less : length c.in-Item.item.now < length c.texts.rest.now = subst (λ (x : Coming). LeavesFewerBytes c.texts.rest.now x) c.in-Item.is c.in_ok-after.ensures.shorter in
       omega (arith, less, c.in_ok-written-in-Item.ensures.shorter, c.texts.invariant.shorter);
 }

@@ -1,6 +1,6 @@
 use Rattle.std.proofs.Common.{◌≡◌, ◌≤◌, List, ℕ, ◌++◌, map, length}
 use Rattle.package_table.specs.Table.{Name}
-use Rattle.snapshot_lines.specs.Texts.{unescaped, texts_text, IsAtItems}
+use Rattle.snapshot_lines.specs.QuotedTexts.{unescaped, texts_text, IsAtItems}
 use Rattle.canon_printer.specs.Written.{printed_text}
 use Rattle.snapshot_lines.proofs.texts.texts_in.Given as goal
 

@@ -5,7 +5,7 @@ use Rattle.package_table.specs.Table.{Table, IsPresent}
 use Rattle.package_table.proofs.Growing.{grows_both}
 use Rattle.plist_state.specs.State.{Worlds}
 use Rattle.plist_state.specs.Changes.{with_packages}
-use Rattle.snapshot_lines.specs.Texts.{unescaped}
+use Rattle.snapshot_lines.specs.QuotedTexts.{unescaped}
 use Rattle.snapshot_text.proofs.Begins.{one_more}
 use Rattle.snapshot_text.proofs.own_parts.intern_each.Goals as goal
 

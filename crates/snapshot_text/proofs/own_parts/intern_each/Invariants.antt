@@ -2,7 +2,7 @@ use Rattle.std.proofs.Common.{◌≡◌, ◌≢◌, All, take}
 use Rattle.package_table.specs.Table.{Table, IsPackage, IsPresent, AreSoundPackages, common_lisp}
 use Rattle.package_table.specs.Growth.{Grows}
 use Rattle.plist_state.specs.Changes.{with_packages}
-use Rattle.snapshot_lines.specs.Texts.{unescaped}
+use Rattle.snapshot_lines.specs.QuotedTexts.{unescaped}
 use Rattle.snapshot_text.specs.Part.{IsPartOf}
 use Rattle.snapshot_text.proofs.own_parts.intern_each.Given as goal
 

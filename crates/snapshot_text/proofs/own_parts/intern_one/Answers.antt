@@ -4,7 +4,7 @@ use Rattle.lisp_object.specs.Ascii.{is_ascii}
 use Rattle.package_table.specs.declared.intern.Interned.{Interned}
 use Rattle.package_table.specs.Table.{Name, Table, IsPresent, AreSoundPackages}
 use Rattle.world_text.proofs.Ascii.{ascii_all}
-use Rattle.snapshot_lines.specs.Texts.{unescaped}
+use Rattle.snapshot_lines.specs.QuotedTexts.{unescaped}
 use Rattle.snapshot_text.proofs.Gave.{refused_same}
 use Rattle.snapshot_text.proofs.PartMakes.{intern_goes, owned_is, refused_so}
 use Rattle.snapshot_text.proofs.own_parts.intern_one.Goals as goal

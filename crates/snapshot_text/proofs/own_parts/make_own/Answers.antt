@@ -5,7 +5,7 @@ use Rattle.std.proofs.lemmas.Result.{MatchResult-weaker}
 use Rattle.package_table.specs.Table.{Name, Table, IsPackage, IsPresent, HasFirst}
 use Rattle.package_table.proofs.Growing.{grows_both}
 use Rattle.world_text.proofs.Ascii.{package_ascii}
-use Rattle.snapshot_lines.specs.Texts.{unescaped}
+use Rattle.snapshot_lines.specs.QuotedTexts.{unescaped}
 use Rattle.snapshot_text.proofs.Gave.{refused_same}
 use Rattle.snapshot_text.proofs.OwnNames.{made_are, own_all}
 use Rattle.snapshot_text.proofs.ReadRows.{of_mapped}

@@ -5,7 +5,7 @@ use Rattle.std.proofs.lemmas.List.Elements.{All-map}
 use Rattle.package_table.specs.Table.{Name, Table, keyword, IsExternal, IsPresent, AreSoundPackages}
 use Rattle.package_table.proofs.Frames.{name_cases}
 use Rattle.world_text.specs.Snapshot.{shown_names}
-use Rattle.snapshot_lines.specs.Texts.{unescaped}
+use Rattle.snapshot_lines.specs.QuotedTexts.{unescaped}
 use Rattle.snapshot_text.specs.Phases.{HasSymbols, HasExternals}
 use Rattle.snapshot_text.proofs.Begins.{symbols_grown}
 use Rattle.snapshot_text.proofs.Gave.{refused_same}

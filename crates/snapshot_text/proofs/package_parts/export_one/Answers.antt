@@ -4,7 +4,7 @@ use Rattle.std.proofs.lemmas.Result.{MatchResult-weaker}
 use Rattle.lisp_object.specs.Ascii.{is_ascii}
 use Rattle.package_table.specs.Table.{Name, Table, IsExternal, AreSoundPackages}
 use Rattle.world_text.proofs.Ascii.{ascii_all}
-use Rattle.snapshot_lines.specs.Texts.{unescaped}
+use Rattle.snapshot_lines.specs.QuotedTexts.{unescaped}
 use Rattle.snapshot_text.proofs.Gave.{refused_same}
 use Rattle.snapshot_text.proofs.PartFinds.{external_entry}
 use Rattle.snapshot_text.proofs.PartSteps.{entry_present}

@@ -7,7 +7,7 @@ use Rattle.package_table.specs.Table.{Name, Table, IsPresent}
 use Rattle.package_table.specs.Growth.{Grows}
 use Rattle.package_table.specs.Readers.{imports}
 use Rattle.package_table.proofs.Frames.{name_cases}
-use Rattle.snapshot_lines.specs.Texts.{unescaped_pair}
+use Rattle.snapshot_lines.specs.QuotedTexts.{unescaped_pair}
 use Rattle.snapshot_text.specs.Phases.{IsImport, HasImport, HasSymbols, HasItsPackages}
 use Rattle.snapshot_text.proofs.PackageLists.{imports_are, import_among}
 use Rattle.snapshot_text.proofs.PartFinds.{present_package}

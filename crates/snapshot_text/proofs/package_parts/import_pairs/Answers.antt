@@ -2,7 +2,7 @@ use Rattle.std.proofs.Common.{ℕ, List, subst, rules}
 use Rattle.std.specs.Prelude.{All}
 use Rattle.std.specs.Borrow.{Bor}
 use Rattle.std.proofs.lemmas.List.{take_all}
-use Rattle.snapshot_lines.specs.Texts.{unescaped_pair}
+use Rattle.snapshot_lines.specs.QuotedTexts.{unescaped_pair}
 use Rattle.snapshot_text.specs.Phases.{HasImport}
 use Rattle.snapshot_text.proofs.Begins.{begun_grown, one_more}
 use Rattle.snapshot_text.proofs.Gave.{refused_same}

@@ -2,7 +2,7 @@ use Rattle.std.proofs.Common.{◌≡◌, ◌≢◌, All, take}
 use Rattle.package_table.specs.Table.{Name, Table, common_lisp}
 use Rattle.package_table.specs.Growth.{Grows}
 use Rattle.plist_state.specs.Changes.{with_packages}
-use Rattle.snapshot_lines.specs.Texts.{unescaped_pair}
+use Rattle.snapshot_lines.specs.QuotedTexts.{unescaped_pair}
 use Rattle.snapshot_text.specs.Part.{IsPartOf}
 use Rattle.snapshot_text.specs.Phases.{HasItsPackages, IsImport, HasImport}
 use Rattle.snapshot_text.proofs.package_parts.import_pairs.Given as goal

@@ -3,7 +3,7 @@ use Rattle.std.specs.Borrow.{Bor}
 use Rattle.std.proofs.lemmas.Result.{MatchResult-weaker}
 use Rattle.package_table.specs.Table.{Name, Table, IsPackage}
 use Rattle.world_text.specs.Snapshot.{made_names}
-use Rattle.snapshot_lines.specs.Texts.{unescaped}
+use Rattle.snapshot_lines.specs.QuotedTexts.{unescaped}
 use Rattle.snapshot_text.specs.Phases.{HasOwn}
 use Rattle.snapshot_text.proofs.package_parts.make_each.Goals as goal
 

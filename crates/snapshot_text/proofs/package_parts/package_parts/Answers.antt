@@ -2,7 +2,7 @@ use Rattle.std.proofs.Common.{◌∷◌, ◌++◌, ◌∙◌}
 use Rattle.package_table.specs.Readers.{used_names, imports}
 use Rattle.canon_printer.specs.Written.{printed_text}
 use Rattle.world_text.specs.Snapshot.{made_names, shown_names}
-use Rattle.snapshot_lines.specs.Texts.{pairs_text}
+use Rattle.snapshot_lines.specs.QuotedTexts.{pairs_text}
 use Rattle.snapshot_text.proofs.Gave.{refused_same}
 use Rattle.snapshot_text.proofs.PackageRows.{row_apart, after_name, after_used, after_own, after_shown}
 use Rattle.snapshot_text.proofs.package_parts.package_parts.Goals as goal

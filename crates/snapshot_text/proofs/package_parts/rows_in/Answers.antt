@@ -1,10 +1,10 @@
 use Rattle.std.proofs.Common.{ℕ, ◌+◌, ◌<◌, List, [], ◌++◌, map, length, drop, get_or, inl, inr, sym, ap, subst, ◌∙◌, arith}
 use Rattle.package_table.specs.Table.{Name}
 use Rattle.world_text.specs.Snapshot.{package_object}
-use Rattle.world_text.specs.Texts.{object_text}
+use Rattle.world_text.specs.ObjectTexts.{object_text}
 use Rattle.snapshot_lines.specs.declared.texts.Coming.{Coming}
 use Rattle.snapshot_lines.specs.declared.texts.Coming.TheVariants.{Item, End}
-use Rattle.snapshot_lines.specs.Texts.{items_rest, IsNextItem, LeavesLess}
+use Rattle.snapshot_lines.specs.QuotedTexts.{items_rest, IsNextItem, LeavesFewerBytes}
 use Rattle.snapshot_lines.proofs.Quoted.{IsItem, next_item}
 use Rattle.snapshot_text.specs.declared.package_parts.PackageParts.{PackageParts}
 use Rattle.snapshot_text.specs.Phases.{AreFirstRows, IsRowOf, other_packages}
@@ -67,6 +67,6 @@ rows-preserved c = record {
         inr (read.1 ∙ ap (λ (ps : List Name). items_rest (map row ps) ++ after) first.2),
       );
   shorter =
-      let less : length c.in-Item.item.now < length c.rows.rest.now = subst (λ (x : Coming). LeavesLess c.rows.rest.now x) c.in-Item.is c.in_ok-after.ensures.shorter in
+      let less : length c.in-Item.item.now < length c.rows.rest.now = subst (λ (x : Coming). LeavesFewerBytes c.rows.rest.now x) c.in-Item.is c.in_ok-after.ensures.shorter in
       omega (arith, less, c.in_ok-parts-in-Item.ensures.shorter, c.rows.invariant.shorter);
 }

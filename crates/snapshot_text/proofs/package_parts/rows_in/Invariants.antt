@@ -1,8 +1,8 @@
 use Rattle.std.proofs.Common.{◌≡◌, ℕ, ◌≤◌, List, ◌++◌, map, length, drop}
 use Rattle.package_table.specs.Table.{Table, AreSoundPackages}
 use Rattle.world_text.specs.Snapshot.{package_object, packages_object}
-use Rattle.world_text.specs.Texts.{object_text}
-use Rattle.snapshot_lines.specs.Texts.{IsAtItems}
+use Rattle.world_text.specs.ObjectTexts.{object_text}
+use Rattle.snapshot_lines.specs.QuotedTexts.{IsAtItems}
 use Rattle.snapshot_text.specs.Phases.{AreFirstRows, other_packages}
 use Rattle.snapshot_text.proofs.package_parts.rows_in.Given as goal
 

@@ -4,7 +4,7 @@ use Rattle.std.specs.Borrow.{Bor}
 use Rattle.std.proofs.lemmas.Result.{MatchResult-weaker}
 use Rattle.std.proofs.lemmas.List.Elements.{All-map}
 use Rattle.package_table.specs.Table.{Name, Table, Uses}
-use Rattle.snapshot_lines.specs.Texts.{unescaped}
+use Rattle.snapshot_lines.specs.QuotedTexts.{unescaped}
 use Rattle.snapshot_text.proofs.PackageLists.{uses_are, use_among}
 use Rattle.snapshot_text.proofs.ReadRows.{of_mapped}
 use Rattle.snapshot_text.proofs.package_parts.use_each.Goals as goal

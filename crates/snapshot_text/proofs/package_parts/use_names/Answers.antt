@@ -3,7 +3,7 @@ use Rattle.std.specs.Prelude.{All}
 use Rattle.std.specs.Borrow.{Bor}
 use Rattle.std.proofs.lemmas.List.{take_all}
 use Rattle.package_table.specs.Table.{Uses}
-use Rattle.snapshot_lines.specs.Texts.{unescaped}
+use Rattle.snapshot_lines.specs.QuotedTexts.{unescaped}
 use Rattle.snapshot_text.proofs.Begins.{begun_grown, one_more}
 use Rattle.snapshot_text.proofs.Gave.{refused_same}
 use Rattle.snapshot_text.proofs.package_parts.use_names.Goals as goal

@@ -3,7 +3,7 @@ use Rattle.std.specs.Prelude.{Ok}
 use Rattle.package_table.specs.Table.{Name, Table, common_lisp, Uses, AreSoundPackages}
 use Rattle.package_table.specs.Changes.{after_use}
 use Rattle.package_table.proofs.KeptSound.{used_is_package}
-use Rattle.snapshot_lines.specs.Texts.{unescaped}
+use Rattle.snapshot_lines.specs.QuotedTexts.{unescaped}
 use Rattle.snapshot_text.specs.Part.{IsPartOf}
 use Rattle.snapshot_text.specs.Phases.{HasItsPackages}
 use Rattle.snapshot_text.proofs.Gave.{same_ok}

@@ -1,6 +1,6 @@
 use Rattle.std.proofs.Common.{◌+◌, ◌++◌}
 use Rattle.plist_state.specs.Changes.{plist}
-use Rattle.world_text.specs.Texts.{row_of}
+use Rattle.world_text.specs.ObjectTexts.{row_of}
 use Rattle.snapshot_text.specs.Rows.{row_symbol_at, row_text, text_after}
 use Rattle.snapshot_text.proofs.Gave.{refused_same}
 use Rattle.snapshot_lines.proofs.NextLine.{text_fits}

@@ -3,7 +3,7 @@ use Rattle.std.proofs.Math.Seq.{drop-append_seam}
 use Rattle.plist_state.specs.State.{WorldState}
 use Rattle.plist_state.specs.Changes.{with_packages}
 use Rattle.world_text.specs.Snapshot.{packages_object}
-use Rattle.world_text.specs.Texts.{object_text}
+use Rattle.world_text.specs.ObjectTexts.{object_text}
 use Rattle.snapshot_lines.proofs.NextLine.{after_byte}
 use Rattle.snapshot_text.specs.Part.{IsPartOf}
 use Rattle.snapshot_text.proofs.Gave.{refused_same}

@@ -1,7 +1,7 @@
 use Rattle.std.proofs.Common.{◌∙◌, ℕ, List, Option, subst}
 use Rattle.sessions.specs.Account.{first_account}
 use Rattle.sessions.specs.Serve.{ServesWanted}
-use Rattle.session_ledger.specs.OutgoingLines.{Went}
+use Rattle.session_ledger.specs.OutgoingLines.{WentOut}
 use Rattle.store_commands.proofs.Accounts.{known_world}
 use Rattle.store_commands.proofs.Turns.{ends_refused, first_turn, last_turn, left_open, no_more_turns, turn_after}
 use Rattle.store_commands.proofs.in_a_row.serve_in_turn.Goals as goal
@@ -42,7 +42,7 @@ sessions-preserved g c =
           (λ left there. (
             subst (λ (held : Option (List ℕ)). ServesWanted functions g.D.Disk.state c.args.wanted c.sessions.store new.store left had (g.I.Read.remaining new.input) held written c.serve_recorded-ended-in-sessions.result)
                 c.begin_again.ensures.unwritten (c.serve_recorded-ended-in-sessions.ensures.serves left there),
-            subst (λ (held : Option (List ℕ)). Went functions g.D.Disk.state (first_account left c.args.wanted.mode had c.sessions.store.disk) new.store held written)
+            subst (λ (held : Option (List ℕ)). WentOut functions g.D.Disk.state (first_account left c.args.wanted.mode had c.sessions.store.disk) new.store held written)
                 c.begin_again.ensures.unwritten (c.serve_recorded-ended-in-sessions.ensures.went left there),
           )),
       c.serve_recorded-ended-in-sessions.ensures.under_way,

@@ -2,7 +2,7 @@ use Rattle.std.proofs.Common.{◌∙◌, ℕ, List, Option, IsSome, refl, subst,
 use Rattle.sessions.specs.Account.{Account}
 use Rattle.plist_state.specs.State.{WorldState}
 use Rattle.store_commands.specs.Accounts.{BeginsAccount}
-use Rattle.store_commands.specs.Sessions.{InTurn}
+use Rattle.store_commands.specs.SessionsInRow.{AreSessionsInTurn}
 use Rattle.store_commands.proofs.in_a_row.sessions_on.Goals as goal
 
 pub serve_in_turn-ended-requires-clause-is_open : goal.serve_in_turn-ended-requires-clause-is_open
@@ -21,7 +21,7 @@ returns-clause-served g c =
         opened = store;
         is_opened = opened;
         closed = c.serve_in_turn-ended.new.store;
-        serves = subst (λ (held : Option (List ℕ)). InTurn g.M.Meaning.Meaning.functions c.args.wanted g.D.Disk.state store c.serve_in_turn-ended.new.store opened.world had
+        serves = subst (λ (held : Option (List ℕ)). AreSessionsInTurn g.M.Meaning.Meaning.functions c.args.wanted g.D.Disk.state store c.serve_in_turn-ended.new.store opened.world had
             (g.I.Read.remaining c.serve_in_turn-ended.new.input) held (g.O.Recipient.contents c.serve_in_turn-ended.new.output) c.serve_in_turn-ended.result)
             c.begin.ensures.unwritten (c.serve_in_turn-ended.ensures.serves opened.world opened.known);
         disk_is = c.close-disk.ensures.disk;

@@ -2,7 +2,7 @@ use Rattle.std.proofs.Common.{Option, subst}
 use Rattle.std.specs.Option.{IfSome}
 use Rattle.plist_state.specs.State.{WorldState}
 use Rattle.store_commands.specs.Report.{report_text}
-use Rattle.store_commands.specs.Texts.{TellsText}
+use Rattle.store_commands.specs.StatusAfterText.{TellsText}
 use Rattle.store_commands.proofs.report.report_on.Goals as goal
 
 pub returns-clause-reports : goal.returns-clause-reports

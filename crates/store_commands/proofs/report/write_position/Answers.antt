@@ -1,5 +1,5 @@
 use Rattle.std.proofs.Common.{◌≡◌, ◌++◌, subst}
-use Rattle.diagnostics.specs.Texts.{WritesOut}
+use Rattle.diagnostics.specs.StreamTexts.{WritesOut}
 use Rattle.store_commands.specs.Report.{half_line, half_line_of, position_line}
 use Rattle.store_commands.proofs.Reports.{told_by}
 use Rattle.store_commands.proofs.report.write_position.Goals as goal

@@ -3,7 +3,7 @@ use Rattle.sessions.specs.Account.{Account, first_account}
 use Rattle.sessions.specs.Serve.{ServesWanted}
 use Rattle.plist_state.specs.State.{WorldState}
 use Rattle.prevalence_store.specs.calls.Zeros.{TriesToCutZeros}
-use Rattle.session_ledger.specs.OutgoingLines.{Went}
+use Rattle.session_ledger.specs.OutgoingLines.{WentOut}
 use Rattle.store_commands.specs.Accounts.{BeginsAccount}
 use Rattle.store_commands.specs.Session.{half_limit}
 use Rattle.store_commands.proofs.Accounts.{ends_further, opened_still, went_further}
@@ -43,7 +43,7 @@ returns-clause-served g c =
         closed = closed;
         cuts = tries;
         ended_is = c.after_cut.ensures;
-        went = subst (λ (held : Option (List ℕ)). Went functions state first closed held written) c.begin.ensures.unwritten
+        went = subst (λ (held : Option (List ℕ)). WentOut functions state first closed held written) c.begin.ensures.unwritten
             (went_further functions state served closed tries first _ written (c.serve_recorded-ended.ensures.went opened.world opened.known));
         disk_is = c.close-disk.ensures.disk;
       },

@@ -1,7 +1,7 @@
 use Rattle.std.proofs.Common.{◌≡◌, ◌∙◌, ◌++◌, ap, subst}
 use Rattle.std.proofs.lemmas.Fmt.{contents_after_writes}
 use Rattle.store_commands.specs.Report.{version_line}
-use Rattle.diagnostics.specs.Texts.{WritesOut}
+use Rattle.diagnostics.specs.StreamTexts.{WritesOut}
 use Rattle.store_commands.proofs.upgrade.write_version_line.Given as given
 use Rattle.store_commands.proofs.upgrade.write_version_line.Goals as goal
 

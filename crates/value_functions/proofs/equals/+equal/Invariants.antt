@@ -1,6 +1,6 @@
 use Rattle.std.proofs.Common.{◌≡◌, false, length, drop}
 use Rattle.lisp_object.specs.Object.{Object, pairs}
-use Rattle.lisp_operators.specs.Kinds.{is_pair}
+use Rattle.lisp_operators.specs.ArgumentKinds.{is_pair}
 use Rattle.lisp_operators.specs.EvaluationAnswers.{objects}
 use Rattle.value_functions.specs.Equality.{is_equal}
 use Rattle.value_functions.proofs.equals.+equal.Given as goal

@@ -1,5 +1,5 @@
 use Rattle.std.proofs.Common.{None, refl}
-use Rattle.lisp_operators.specs.Kinds.{a_character}
+use Rattle.lisp_operators.specs.ArgumentKinds.{a_character}
 use Rattle.lisp_operators.proofs.Shapes.{pair_at}
 use Rattle.value_functions.proofs.kinds.character.Goals as goal
 

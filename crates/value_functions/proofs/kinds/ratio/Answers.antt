@@ -1,5 +1,5 @@
 use Rattle.std.proofs.Common.{None, refl}
-use Rattle.value_functions.specs.Kinds.{a_ratio}
+use Rattle.value_functions.specs.ArgumentsByKind.{a_ratio}
 use Rattle.lisp_operators.proofs.Shapes.{pair_at}
 use Rattle.value_functions.proofs.kinds.ratio.Goals as goal
 

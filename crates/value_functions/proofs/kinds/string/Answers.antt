@@ -1,5 +1,5 @@
 use Rattle.std.proofs.Common.{None, refl}
-use Rattle.value_functions.specs.Texts.{a_string}
+use Rattle.value_functions.specs.TextValues.{a_string}
 use Rattle.lisp_operators.proofs.Shapes.{pair_at}
 use Rattle.value_functions.proofs.kinds.string.Goals as goal
 

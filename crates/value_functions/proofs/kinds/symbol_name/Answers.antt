@@ -1,5 +1,5 @@
 use Rattle.std.proofs.Common.{None, refl}
-use Rattle.value_functions.specs.Texts.{a_symbol_name}
+use Rattle.value_functions.specs.TextValues.{a_symbol_name}
 use Rattle.lisp_operators.proofs.Shapes.{pair_at}
 use Rattle.value_functions.proofs.kinds.symbol_name.Goals as goal
 

@@ -1,7 +1,7 @@
 use Rattle.std.proofs.Common.{◌≡◌, false, drop}
 use Rattle.lisp_object.specs.Object.{Object, pairs}
 use Rattle.lisp_object.specs.Datum.{object_of}
-use Rattle.lisp_operators.specs.Kinds.{is_pair}
+use Rattle.lisp_operators.specs.ArgumentKinds.{is_pair}
 use Rattle.lisp_operators.specs.EvaluationAnswers.{objects}
 use Rattle.value_functions.specs.Lists.{member}
 use Rattle.value_functions.proofs.lists.place.Given as goal

@@ -1,6 +1,6 @@
 use Rattle.std.proofs.Common.{◌≡◌, drop, is_some}
 use Rattle.std.specs.List.{list_all}
-use Rattle.lisp_operators.specs.Kinds.{an_integer}
+use Rattle.lisp_operators.specs.ArgumentKinds.{an_integer}
 use Rattle.lisp_operators.specs.EvaluationAnswers.{objects}
 use Rattle.value_functions.proofs.sums.are_integers.Given as goal
 

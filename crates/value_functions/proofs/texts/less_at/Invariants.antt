@@ -1,5 +1,5 @@
 use Rattle.std.proofs.Common.{◌≡◌, ◌≤◌, length, drop}
-use Rattle.value_functions.specs.Texts.{less_at}
+use Rattle.value_functions.specs.TextValues.{less_at}
 use Rattle.value_functions.proofs.texts.less_at.Given as goal
 
 abbrev pub invariant-loop-at : goal.invariant-loop-at

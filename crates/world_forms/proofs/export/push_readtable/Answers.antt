@@ -1,7 +1,7 @@
 use Rattle.std.proofs.Common.{◌∙◌, ◌++◌, [], ap, codes}
 use Rattle.package_table.specs.Table.{keyword}
 use Rattle.world_forms.specs.Forms.{readtable_form}
-use Rattle.world_forms.specs.Tokens.{value_text}
+use Rattle.world_forms.specs.NameTokens.{value_text}
 use Rattle.world_forms.proofs.Added.{three_added}
 use Rattle.world_forms.proofs.export.push_readtable.Goals as goal
 

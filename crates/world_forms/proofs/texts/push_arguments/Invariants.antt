@@ -1,7 +1,7 @@
 use Rattle.std.proofs.Common.{◌≡◌, ◌++◌, take}
 use Rattle.std.specs.List.{flat_map}
 use Rattle.package_table.specs.Readers.{names_of}
-use Rattle.world_forms.specs.Tokens.{text_argument}
+use Rattle.world_forms.specs.NameTokens.{text_argument}
 use Rattle.world_forms.proofs.texts.push_arguments.Given as goal
 
 -- the texts so far

@@ -1,5 +1,5 @@
 use Rattle.std.proofs.Common.{◌≡◌, ◌++◌, take}
-use Rattle.world_forms.specs.Tokens.{told_text}
+use Rattle.world_forms.specs.NameTokens.{told_text}
 use Rattle.world_forms.proofs.texts.push_told.Given as goal
 
 -- the characters so far

@@ -1,10 +1,10 @@
 use Rattle.std.proofs.Common.{◌≡◌, [], ◌∷◌, Some, length, length-append, refl, sym, ap, subst, ◌∙◌, arith}
-use Rattle.client_table.specs.Calls.{KeepsAnswers, RefusesAnyOwn}
+use Rattle.client_table.specs.CallsByName.{KeepsAnswers, RefusesAnyOwn}
 use Rattle.client_table.specs.Named.{all_answered}
 use Rattle.client_table.specs.Turn.{asked_front, first_asked}
 use Rattle.client_table.proofs.Settling.{replied_silent, replied_written, round as round_of}
 use Rattle.client_table.proofs.turn.FirstAsked.answer.Goals as goal
-use Rattle.messages.specs.Answers.{Round, first_round}
+use Rattle.messages.specs.MessageAnswers.{Round, first_round}
 use Rattle.messages.specs.Rounds.{IfRefused, MayBeLogged, round_in}
 use Rattle.messages.specs.declared.request.TheConstants.{ANSWER_BYTES}
 use Rattle.plist_state.specs.State.{Worlds}

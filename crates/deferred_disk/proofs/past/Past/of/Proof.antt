@@ -30,7 +30,7 @@ use Rattle.std.specs.contracts.vec.Vec as Vec
 use Rattle.std.specs.contracts.alloc.Global as Heap
 use Rattle.std.specs.contracts.impls.GlobalAllocator.TheImpl.{ghosts}
 use Rattle.deferred_disk.specs.contracts.past.Past as Past
-use Rattle.deferred_disk.specs.Calls.{first_calls}
+use Rattle.deferred_disk.specs.DiskRequests.{first_calls}
 use Rattle.deferred_disk.specs.contracts.past.Past.of as F
 use Rattle.deferred_disk.specs.contracts.past.Past.of.Key.{name as #self}
 use Rattle.deferred_disk.proofs.past.Past.of.Statement as stated

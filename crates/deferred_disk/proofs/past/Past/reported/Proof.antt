@@ -27,7 +27,7 @@ use denote.Triple.Table.{entered}
 use denote.Triple.Walked.{says, Stays, stay_dropped, walk_of, ends_at, walk_Meets, Goes-dropped}
 use Rattle.deferred_disk.proofs.Walks.{none, none_made}
 use Rattle.deferred_disk.specs.contracts.past.Past as Past
-use Rattle.deferred_disk.specs.Calls.{after_report}
+use Rattle.deferred_disk.specs.DiskRequests.{after_report}
 use Rattle.deferred_disk.specs.contracts.past.Past.reported as F
 use Rattle.deferred_disk.specs.contracts.past.Past.reported.Key.{name as #self}
 use Rattle.deferred_disk.proofs.past.Past.reported.Statement as stated

@@ -28,7 +28,7 @@ use denote.Triple.Walked.{says, Stays, stay_dropped, walk_of, ends_at, walk_Meet
 use Rattle.deferred_disk.proofs.Walks.{none, none_made}
 use Rattle.deferred_disk.specs.contracts.past.Past as Past
 use Rattle.deferred_disk.specs.contracts.order.Order as Order
-use Rattle.deferred_disk.specs.Calls.{with_order}
+use Rattle.deferred_disk.specs.DiskRequests.{with_order}
 use Rattle.deferred_disk.specs.NotedOrders.{order_value}
 use Rattle.deferred_disk.specs.contracts.past.Past.then as F
 use Rattle.deferred_disk.specs.contracts.past.Past.then.Key.{name as #self}

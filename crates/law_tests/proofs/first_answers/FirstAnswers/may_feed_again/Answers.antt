@@ -1,6 +1,6 @@
 use Rattle.std.proofs.Common.{◌≡◌, ◌++◌, ℕ, List, [], Option, None, Some, map, sym, ap, subst}
 use Rattle.std.specs.Option.{option_map_or}
-use Rattle.feeding_laws.specs.Feeding.{FeedsAgain, FrameHanding, IsFirst}
+use Rattle.feeding_laws.specs.Feeding.{FeedsAgain, FrameHanding, IsFirstMessageAccount}
 use Rattle.message_frames.specs.Frames.{Sent, sent_frame}
 use Rattle.message_session.specs.Account.{MessageAccount}
 use Rattle.prevalence_store.specs.calls.Store.{StoreView}
@@ -18,6 +18,6 @@ returns g c = λ kept is told sound honest keeps more image now unnamed later le
     let frames = map sent_frame c.args.frames.now in
     let none = none_answered c.args.self.now.position c.args.self.now.start.value kept is in
     let one : FrameHanding g.row.D.Denot g.row.M.Denot = record { store = c.args.store.now; bytes = c.args.bytes.now; frames = frames } in
-    let first : IsFirst kept = record { none = none; told = told; sound = sound } in
+    let first : IsFirstMessageAccount kept = record { none = none; told = told; sound = sound } in
     subst (λ (answered : List Sent). FeedsAgain functions kept.last kept.now (answered ++ (frames ++ more)) now) none
     (c.feeding_again.ensures.while_stored functions kept [] one more image now first honest keeps tt (c.requires.stored kept is) unnamed later left means)

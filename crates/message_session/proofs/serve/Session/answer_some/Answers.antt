@@ -3,7 +3,7 @@ use Rattle.std.specs.Borrow.{Bor}
 use Rattle.message_frames.specs.Frames.{AreFrames, sent_frame}
 use Rattle.message_frames.specs.declared.frame.MessageFrame.{MessageFrame}
 use Rattle.message_laws.proofs.Tidy.{sound_tidy}
-use Rattle.message_session.specs.Sessions.{text_limit}
+use Rattle.message_session.specs.MessageSessions.{text_limit}
 use Rattle.message_session.specs.Steps.{ComesAfter}
 use Rattle.message_session.proofs.Causes.{breaks_in_none, breaks_of}
 use Rattle.message_session.proofs.Held.{comes_after, shorter}

@@ -1,6 +1,6 @@
 use Rattle.std.proofs.Common.{◌≡◌, List, Some, length}
 use Rattle.message_frames.specs.Frames.{Sent}
-use Rattle.message_session.specs.Standing.{AnswersFirstOf, ComesNext, RestsAt}
+use Rattle.message_session.specs.Standing.{AnswersFirstOf, BytesComeNext, RestsAt}
 use Rattle.message_session.specs.Steps.{PassesFrames}
 use Rattle.plist_state.specs.State.{WorldState}
 use Rattle.message_session.proofs.serve.Session.answer_whole.Given as goal
@@ -12,7 +12,7 @@ invariant-rounds g l = record {
   answered : (w : WorldState) → l.fn.store.world ≡ Some w
       → (frames : List Sent) × PassesFrames g.R.Meaning.Meaning.functions l.fn.self l.self w g.D.Disk.state l.store (g.O.AnswerRecipient.contents l.fn.output) (g.O.AnswerRecipient.contents l.output) frames;
   rests : RestsAt g.R.Meaning.Meaning.functions g.D.Disk.state (g.O.AnswerRecipient.account l.output) l.store l.self.course.last;
-  next : ComesNext (g.O.AnswerRecipient.account l.output) l.self.held;
+  next : BytesComeNext (g.O.AnswerRecipient.account l.output) l.self.held;
   more : AnswersFirstOf (g.O.AnswerRecipient.account l.fn.output) (g.O.AnswerRecipient.account l.output) l.fn.self.held l.self.held;
   input : g.O.AnswerRecipient.input l.output ≡ g.O.AnswerRecipient.input l.fn.output;
 }

@@ -1,8 +1,8 @@
 use Rattle.std.proofs.Common.{◌≡◌, [], ◌∷◌, length, length-append, refl, sym, ap, subst, ◌∙◌, arith}
 use Rattle.plist_state.specs.State.{Worlds}
 use Rattle.prevalence_store.specs.declared.failure.Unadded.{Unadded}
-use Rattle.messages.specs.Answers.{Round, round_after_requests, first_round}
-use Rattle.messages.specs.Calls.{RefusesOwn}
+use Rattle.messages.specs.MessageAnswers.{Round, round_after_requests, first_round}
+use Rattle.messages.specs.MessageCalls.{RefusesOwn}
 use Rattle.messages.specs.Fronts.{first_of}
 use Rattle.messages.specs.Rounds.{IfRefused, MayBeLogged, round_in}
 use Rattle.messages.specs.Turn.{round_of}

@@ -1,5 +1,5 @@
 use Rattle.std.proofs.Common.{false, ap, ◌∙◌}
-use Rattle.messages.specs.Answers.{with_answer}
+use Rattle.messages.specs.MessageAnswers.{with_answer}
 use Rattle.messages.specs.Rounds.{round_in}
 use Rattle.prevalence_store.proofs.steps.Taking.{ok_on}
 use Rattle.messages.proofs.round.Round.refuse_old.Goals as goal

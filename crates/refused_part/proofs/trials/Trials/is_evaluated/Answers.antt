@@ -1,7 +1,7 @@
 use Rattle.lisp_object.specs.Datum.{object_of}
 use Rattle.lisp_object.specs.declared.refusal.TheConstants.{ARGUMENT_COUNT}
 use Rattle.refused_part.specs.Part.{is_refused_form}
-use Rattle.refused_part.specs.Places.{quote_of_none, with_part}
+use Rattle.refused_part.specs.PartPlaces.{quote_of_none, with_part}
 use Rattle.refused_part.proofs.Worlds.{also_told, may_after}
 use Rattle.refused_part.proofs.trials.Trials.is_evaluated.Goals as goal
 

@@ -2,7 +2,7 @@ use Rattle.std.proofs.Common.{◌≡◌, true, subst}
 use Rattle.std.specs.Prelude.{IfOk}
 use Rattle.lisp_object.specs.Datum.{object_of}
 use Rattle.refused_part.specs.Part.{is_refused_form}
-use Rattle.refused_part.specs.Places.{both, quote_of_none, with_part}
+use Rattle.refused_part.specs.PartPlaces.{both, quote_of_none, with_part}
 use Rattle.refused_part.proofs.Fillings.{may_none}
 use Rattle.refused_part.proofs.Worlds.{also_told, may_after}
 use Rattle.refused_part.proofs.trials.Trials.is_refused_first.Goals as goal

@@ -1,6 +1,6 @@
 use Rattle.std.proofs.Common.{◌+◌, ◌++◌, take, sym, subst, arith}
 use Rattle.std.proofs.lemmas.List.{take_more}
-use Rattle.sessions.specs.steps.Input.{Feeds, IsPending}
+use Rattle.sessions.specs.steps.Input.{FeedsInput, IsPending}
 use Rattle.sessions.specs.declared.input.Pending.{Pending}
 use Rattle.sessions.specs.declared.input.Fed.{Fed}
 use Rattle.sessions.proofs.Pendings.{piece_more}
@@ -18,8 +18,8 @@ bytes-preserved g c =
           let functions = g.R.Meaning.Meaning.functions in
           let piece = c.args.piece.now in
           let k = c.bytes.byte-index in
-          subst (λ (f : Fed). Feeds functions c.args.world.now.0 c.args.mode c.feed_byte.new.self (bytes ++ take (k + 1) piece) f) c.in-Nothing.is
-          (subst (λ t. Feeds functions c.args.world.now.0 c.args.mode c.feed_byte.new.self t c.in_ok-fed.fed) (piece_more bytes piece k _ (take_more piece k 0 c.bytes-test.true))
+          subst (λ (f : Fed). FeedsInput functions c.args.world.now.0 c.args.mode c.feed_byte.new.self (bytes ++ take (k + 1) piece) f) c.in-Nothing.is
+          (subst (λ t. FeedsInput functions c.args.world.now.0 c.args.mode c.feed_byte.new.self t c.in_ok-fed.fed) (piece_more bytes piece k _ (take_more piece k 0 c.bytes-test.true))
           (c.in_ok-fed.ensures.feeds (bytes ++ take k piece) (subst (λ (q : Pending). IsPending functions c.args.world.now.0 c.args.mode q (bytes ++ take k piece)) (sym (c.in_ok-form.ensures.none c.in-None.is)) (invariant.goes bytes p))));
     }
 
@@ -35,8 +35,8 @@ returns-in_default g c =
           let functions = g.R.Meaning.Meaning.functions in
           let piece = c.args.piece.now in
           let k = c.bytes.byte-index in
-          subst (λ n. Feeds functions c.args.world.now.0 c.args.mode c.feed_byte.new.self (bytes ++ take (n + 1) piece) c.in_ok-fed.fed) (sym same)
-          (subst (λ t. Feeds functions c.args.world.now.0 c.args.mode c.feed_byte.new.self t c.in_ok-fed.fed) (piece_more bytes piece k _ (take_more piece k 0 c.bytes-test.true))
+          subst (λ n. FeedsInput functions c.args.world.now.0 c.args.mode c.feed_byte.new.self (bytes ++ take (n + 1) piece) c.in_ok-fed.fed) (sym same)
+          (subst (λ t. FeedsInput functions c.args.world.now.0 c.args.mode c.feed_byte.new.self t c.in_ok-fed.fed) (piece_more bytes piece k _ (take_more piece k 0 c.bytes-test.true))
           (c.in_ok-fed.ensures.feeds (bytes ++ take k piece) (subst (λ (q : Pending). IsPending functions c.args.world.now.0 c.args.mode q (bytes ++ take k piece)) (sym (c.in_ok-form.ensures.none c.in-None.is)) (invariant.goes bytes p))));
       part = record {
         some = omega arith;

@@ -1,6 +1,6 @@
 use Rattle.std.proofs.Common.{◌++◌, ◌∙◌, ap, codes, get_or, None}
 use Rattle.std.specs.List.{flat_map, range_with_len}
-use Rattle.world_forms.specs.Tokens.{character_argument}
+use Rattle.world_forms.specs.NameTokens.{character_argument}
 use Rattle.world_forms.specs.Readtables.{dispatch_lines, kind_argument, sub_line, table_end}
 use Rattle.world_forms.proofs.Added.{five_added}
 use Rattle.world_forms.proofs.readtables.Forms.push_dispatch.Goals as goal

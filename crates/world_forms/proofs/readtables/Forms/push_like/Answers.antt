@@ -1,5 +1,5 @@
 use Rattle.std.proofs.Common.{codes}
-use Rattle.world_forms.specs.Tokens.{line_of_form, character_argument}
+use Rattle.world_forms.specs.NameTokens.{line_of_form, character_argument}
 use Rattle.world_forms.specs.Readtables.{like_line, table_argument}
 use Rattle.world_forms.proofs.Added.{five_added}
 use Rattle.world_forms.proofs.readtables.Forms.push_like.Goals as goal

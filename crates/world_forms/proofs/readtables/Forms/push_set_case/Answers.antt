@@ -1,5 +1,5 @@
 use Rattle.std.proofs.Common.{codes}
-use Rattle.world_forms.specs.Tokens.{line_of_form, keyword_argument}
+use Rattle.world_forms.specs.NameTokens.{line_of_form, keyword_argument}
 use Rattle.world_forms.specs.Readtables.{set_case_line, table_argument}
 use Rattle.world_forms.proofs.Added.{five_added}
 use Rattle.world_forms.proofs.readtables.Forms.push_set_case.Goals as goal
