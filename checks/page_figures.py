@@ -52,7 +52,7 @@ def figures():
 STATUS = "docs/trust/status.md"
 
 # A size that a page gives may be off by so much: it is round, and each change moves it.
-OFF = 0.03
+OFF = 0.05
 
 
 def lines_of(*patterns):
@@ -65,10 +65,14 @@ def sizes():
     tried = len(names_of("crates/*/must-fail/*.edit"))
     counted = {
         r"([\d,]+) lines of code": lines_of("crates/*/src/**/*.rt"),
+        r"([\d,]+) of them tests and examples": lines_of("crates/*_tests/src/**/*.rt", "crates/examples/src/**/*.rt"),
         r"([\d,]+) lines of definitions": lines_of("crates/*/specs/**/*.antt"),
         r"([\d,]+) lines of proofs": lines_of("crates/*/proofs/**/*.antt"),
         r"([\d,]+) wrong bodies": tried + len(names_of("crates/*/wrong-bodies/*.edit")),
         r"of which the gate tries ([\d,]+)": tried,
+        r"([\d,]+) lines of C": lines_of("clients/c/*.c"),
+        r"([\d,]+) of headers": lines_of("clients/c/*.h"),
+        r"([\d,]+) lines of Python": lines_of("cluster/**/*.py"),
     }
     text = read(STATUS)
     for pattern, size in counted.items():

@@ -49,7 +49,7 @@ CHECKS = [
     Check("the exports", f"checks/export/run {PROGRAM}", "", 15),
     Check("the replays", f"checks/replays {PROGRAM}", "", 15),
     Check("the messages", f"checks/messages/run {PROGRAM}", "", 8),
-    Check("the clients with a name", f"checks/client_table/run {PROGRAM}", "", 8),
+    Check("the clients with a name", f"checks/client_table/run {PROGRAM}", "", 30),
     Check("the groups", f"checks/groups --program {PROGRAM} --sessions --kills 25", "", 35),
     Check("the calls", f"checks/calls/run --engine {ENGINE}", "rt", 15),
     Check("the looks", f"checks/looks/run {PROGRAM} --looks 300", "", 12),

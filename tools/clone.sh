@@ -287,7 +287,7 @@ look_at_folder() {
         run,*) case " $* " in *' --existing '*) ;; *) return 0 ;; esac ;;
     esac
     if lacks_store "$folder"; then
-        (printf '! 60 DEVICE\nthere is no store in this folder\n' >&2) || :
+        (printf '! 60 DEVICE\n%s: there is no store in this folder\n' "$folder" >&2) || :
         exit 3
     fi
 }

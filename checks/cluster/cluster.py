@@ -254,7 +254,7 @@ class Client:
             self.stream = way.makefile("rwb")
         self.stream.write(b"%s %d\n%s\n" % (head, len(text), text))
         self.stream.flush()
-        kind, size = self.stream.readline().split()
+        *_, kind, size = self.stream.readline().split()
         answer = self.stream.read(int(size) + 1)
         if len(answer) <= int(size):
             raise ValueError("the connection was lost")

@@ -32,7 +32,7 @@ while kill -0 $! 2>/dev/null; do
 done
 wait $!
 """
-BROKEN, FULL = "Input/output error (os error 5)", "No space left on device (os error 28)"
+BROKEN, FULL = "cannot sync /s/half-a: Input/output error (os error 5)", "cannot write /s/half-b: No space left on device (os error 28)"
 
 
 def failing(folder, program):

@@ -20,7 +20,7 @@ from pazturrok_node.alone import AloneKeeper  # noqa: E402
 from pazturrok_node.faults import DeviceError  # noqa: E402
 from pazturrok_node.frames import OTHER_TEXT  # noqa: E402
 from pazturrok_node.journal import Journal  # noqa: E402
-from pazturrok_node.log import BehindError, FullError, Reached, Refused, RefusedStoreError  # noqa: E402
+from pazturrok_node.log import MARK, BehindError, FullError, Reached, Refused, RefusedStoreError  # noqa: E402
 from pazturrok_node.segments import records, written  # noqa: E402
 
 
@@ -137,6 +137,39 @@ class JournalTest(unittest.IsolatedAsyncioTestCase):
         two.close()
         three = self.begun()
         self.assertEqual(await self.given(three, 1), [(2, b"b", b"x" * 100), (3, b"c", b"3")])
+
+    async def test_messages_of_clients(self):
+        """A mark stands before one by which a client goes, and after that, and after one that was refused, unless another entry does. They are no
+        names, so each is an entry of its own."""
+        one, x = self.begun(), b" (X)"
+        self.assertEqual(await one.append([(b"t:1", x), (b"u:1", x)], 0), [1, 2])
+        self.assertEqual(await one.append([(b"t:1", x)], 0), [3])
+        self.assertEqual(await one.append([(b"t:1", b""), (b"u:2", x), (b"a", b"1"), (b"u:3", b""), (b"b", b"2"), (b"u:4", x)], 0), [5, 7, 8, 9, 10, 11])
+        one.want_mark()
+        self.assertEqual(await one.append([(b"u:5", x)], 0), [13])
+        self.assertEqual(await one.append([(b"a", b"1"), (b"t:2", b"")], 0), [8, 15])
+        one.close()
+        two = self.begun()
+        self.assertEqual(await two.append([(b"t:1", x)], 0), [17])
+        texts = dict((number, text) for number, _, text in await self.given(two, 0))
+        self.assertEqual([number for number, text in texts.items() if text == MARK], [4, 6, 12, 14, 16])
+
+    async def test_a_journal_with_messages_of_clients(self):
+        """An older node refuses it by its first line; one without any is as it was, also where the line did not come as far as the record."""
+        one = self.begun()
+        await one.append([(b"a", b"1")], 0)
+        self.assertTrue(pathlib.Path(self.segments()[0]).read_bytes().startswith(b"pazturrok journal 1\n"))
+        one.append_at_once([(b"t:1", b" (X)")])
+        one.close()
+        path = pathlib.Path(self.segments()[0])
+        self.assertTrue(path.read_bytes().startswith(b"pazturrok journal 2\n"))
+        path.write_bytes(path.read_bytes().replace(b"journal 2", b"journal 1", 1))
+        two = self.begun()
+        self.assertTrue(path.read_bytes().startswith(b"pazturrok journal 2\n"))
+        self.assertEqual(await self.given(two, 1), [(2, b"t:1", b" (X)")])
+        with mock.patch.object(journals, "SEGMENT", 0):
+            self.assertEqual(await two.append([(b"b", b"2")], 0), [3])
+        self.assertTrue(pathlib.Path(self.segments()[1]).read_bytes().startswith(b"pazturrok journal 1\n"))
 
     async def test_no_room_for_zeros(self):
         """Records that have room are entries, also where zeros after them have none."""

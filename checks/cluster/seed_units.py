@@ -166,10 +166,10 @@ class ToldTest(unittest.TestCase):
 
     def test_a_journal_of_another_version(self):
         with tempfile.TemporaryDirectory() as folder:
-            written_tree(folder, {"journal/00000000000000000001": "pazturrok journal 2\nwhat is new\n"})
+            written_tree(folder, {"journal/00000000000000000001": "pazturrok journal 3\nwhat is new\n"})
             journal = Journal(folder, 600)
             with self.assertRaises(RefusedStoreError) as raised:
                 journal.open(0)
             journal.close()
-            self.assertIn("is of version 2, and this node knows version 1", str(raised.exception))
-            self.assertEqual(tree(folder)["journal/00000000000000000001"], "pazturrok journal 2\nwhat is new\n")
+            self.assertIn("is of version 3, and this node knows versions 1 and 2", str(raised.exception))
+            self.assertEqual(tree(folder)["journal/00000000000000000001"], "pazturrok journal 3\nwhat is new\n")

@@ -15,7 +15,7 @@ from watched import figures, until_health
 
 sys.path.append(os.path.join(os.path.dirname(os.path.abspath(__file__)), "..", "..", "clients", "python", "src"))
 
-GREETING = '(:VERSION 1 :NODE "'
+GREETING = '(:VERSION 2 :NODE "'
 NO_FRAME, TOO_LONG, OTHER_VERSION = "! 56 NO-FRAME", "! 57 TEXT-TOO-LONG", "! 58 OTHER-VERSION"
 NO_SUCH_ENTRY, NO_ROOM = "! 59 NO-SUCH-ENTRY", "! 54 NO-ROOM"
 ONE = b"do %d\n%s\n" % (len(ADD), ADD)
@@ -24,7 +24,7 @@ FOREIGN = [
     (b"GET / HTTP/1.1\r\nHost: node\r\n\r\n", NO_FRAME), (b"do a/b 1\n1\n", NO_FRAME),
     (b"do " + b"a" * 101 + b" 1\n1\n", NO_FRAME), (b"do \xc3\xa4 1\n1\n", NO_FRAME), (b"ask -1 1\n1\n", NO_FRAME),
     (b"do 1048577\n" + b"x" * 1_048_577 + b"\n", TOO_LONG), (b"do 99999999999\n", TOO_LONG),
-    (b"version 2 0\n\n", OTHER_VERSION), (b"version 0 0\n\n", OTHER_VERSION), (b"version x 0\n\n", NO_FRAME),
+    (b"version 3 0\n\n", OTHER_VERSION), (b"version 0 0\n\n", OTHER_VERSION), (b"version x 0\n\n", NO_FRAME),
     (b"\x16\x03\x01\x02\x00\x01\x00\x01\xfc\x03\x03\n", NO_FRAME),
 ]  # fmt: skip
 """What is no request of this version, and what is answered to it."""
@@ -56,7 +56,7 @@ def said(folder, program):
             told = all_answers(node.places[0], ONE + data + ONE)
             if len(told) != 2 or told[0][1] != str(count) or told[1] != ("0", refusal):
                 faults.append(f"{data[:30]!r} is answered {told}")
-        told = all_answers(node.places[0], b"version 1 0\n\n" + ONE + b"version 3 0\n\n")
+        told = all_answers(node.places[0], b"version 1 0\n\n" + ONE + b"version 4 0\n\n")
         greeting = told[0][1]
         if [kind for kind, _ in told] != ["ask", told[1][0], "0"] or not greeting.startswith(GREETING):
             faults.append(f"a client of this version is answered {told}")

@@ -66,11 +66,19 @@ class FramesTest(unittest.TestCase):
                 self.requests([text])
         self.assertEqual(self.requests([b"do " + b"a" * 100]), [])
 
+    def test_messages_of_clients(self):
+        sent = b"by 18446744073709551615 5\na (X)\nby 0 3\nb.c\nby 7 4\n (Y)\nby 8 2\nb \nby 9 1\n(\n"
+        self.assertEqual([one[1:] for one in self.requests([sent])], [(b"a", (1 << 64) - 1, b" (X)"), (b"b.c", 0, b""), (None, 7, b" (Y)"), (b"b", 8, b" "), (None, 9, b"(")])
+        for text in (b"by 18446744073709551616 3\na b\n", b"by 01 3\na b\n", b"by 3\na b\n", b"by -1 3\na b\n"):
+            with self.assertRaises(NoFrameError, msg=text):
+                self.requests([text])
+        self.assertEqual(self.requests([b"by 7 102\n" + b"x" * 101 + b" \n"])[0].name, None)
+
     def test_large(self):
         text = b"x" * LIMIT
         sent = b"do %d\n%s\n" % (LIMIT, text)
         self.assertEqual(self.requests([sent[place : place + 60_000] for place in range(0, len(sent), 60_000)])[0].text, text)
-        self.assertEqual([head[1] for head, _ in Frames(ANSWER).split(b"7 1\nA\nask 1\nB\n")], [b"7", None])
+        self.assertEqual([head.groups()[:2] for head, _ in Frames(ANSWER).split(b"7 1\nA\nask 1\nB\nby 8 1\nC\n")], [(None, b"7"), (None, None), (b"by ", b"8")])
 
 
 class AnswersTest(unittest.TestCase):
@@ -187,7 +195,8 @@ class AppenderTest(unittest.IsolatedAsyncioTestCase):
             await asyncio.wait_for(self.task, LONG)
 
 
-CAUSES = (b"Input/output error (os error 5)", b"No space left on device (os error 28)", b"locked by another process", b"there is no store in this folder")
+CAUSES = (b"cannot sync /s/half-a: Input/output error (os error 5)", b"cannot write /s/half-b: No space left on device (os error 28)",
+          b"/s: locked by another process", b"/s: there is no store in this folder")
 SPEAKS = "import os, sys; os.write(1, {!r}); os.write(2, {!r}); sys.stdin.read()"
 
 
@@ -220,7 +229,7 @@ class ChildTest(unittest.IsolatedAsyncioTestCase):
 
     async def test_why_it_ended(self):
         broken, room, locked, missing = [await self.started(b"none\n", b"! 60 DEVICE\n%s\n" % cause) for cause in CAUSES]
-        self.assertEqual(str(broken), "60 DEVICE: Input/output error (os error 5)")
+        self.assertEqual(str(broken), "60 DEVICE: cannot sync /s/half-a: Input/output error (os error 5)")
         for was_open in (False, True):
             with self.assertRaises(DeviceError):
                 broken.look(was_open)
@@ -228,7 +237,7 @@ class ChildTest(unittest.IsolatedAsyncioTestCase):
             locked.look(was_open)
             with self.assertRaises(FileNotFoundError):
                 missing.look(was_open)
-        denied = Fault().heard(b"! 60 DEVICE\n").heard(b"Permission denied (os error 13)\n").heard(b"more\n")
+        denied = Fault().heard(b"! 60 DEVICE\n").heard(b"cannot open /s/half-a: Permission denied (os error 13)\n").heard(b"more\n")
         denied.look(was_open=False)
         with self.assertRaises(DeviceError):
             denied.look(was_open=True)

@@ -119,7 +119,7 @@ def two_processes(built):
     with EmbeddedStore(folder, built.library) as store:
         assert store.execute("(INCF (GET 'A 'B))") == 8
         refused = subprocess.run([program, "run", folder], input=b"1\n", capture_output=True, timeout=PATIENCE)
-        assert (refused.returncode, refused.stderr) == (3, b"! 60 DEVICE\nlocked by another process\n"), refused
+        assert (refused.returncode, refused.stderr) == (3, b"! 60 DEVICE\n%s: locked by another process\n" % folder.encode()), refused
         assert store.execute("(INCF (GET 'A 'B))") == 9
     assert value_by_program(program, folder) == 9
     return 4

@@ -68,7 +68,7 @@ def a_socket(path):
 def other_files(folder):
     """What stands in place of a half, and what is told then, where files may be made and where they may not. Each is
     refused, and nothing is written."""
-    linked, no_file = b"half-a or half-b is a link, or has a second name\n", b"half-a or half-b is no regular file\n"
+    linked, no_file = b": half-a or half-b is a link, or has a second name\n", b": half-a or half-b is no regular file\n"
     kinds = [
         ("a folder", os.mkdir, no_file),
         ("a pipe", os.mkfifo, no_file),
@@ -89,7 +89,7 @@ def other_files(folder):
         for name, make, cause in kinds + both:
             for options in (["--snapshot-every", "1"], ["--existing", "--snapshot-every", "1"]):
                 got = folder.with_half(half, make, options)
-                want(cause is None or folder.told == DEVICE + cause, os.path.basename(half), "is", name, options,
+                want(cause is None or folder.told == DEVICE + os.fsencode(folder.path) + cause, os.path.basename(half), "is", name, options,
                      folder.told)
                 yield f"{os.path.basename(half)} is {name}: {options}", got, FAULT, b"7\n"
 

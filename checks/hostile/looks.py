@@ -9,14 +9,14 @@ import subprocess
 
 from hostile.store import library
 from lib.places import PATIENCE
-from lib.room import Answer
+from lib.room import DEVICE, Answer
 from lib.wanted import want
 
 # How the sessions are started that write: a form of the second and the third is followed by a snapshot, or each second
 # one is.
 SESSIONS = [[], ["--group"], ["--snapshot-every", "1"], ["--snapshot-every", "2"]]
 LOOKS = ["show", "dump", "export", "backup"]
-BUSY = b"! 60 DEVICE\nthe store takes snapshots faster than they can be read\n"
+BUSY = b"%s: the store takes snapshots faster than they can be read\n"
 NOBODY = 65_534
 
 
@@ -121,7 +121,7 @@ def never_had(room, stops):
     # (the store is there once a form is answered)
     writer.write(1)
     got, reads = looked(room, stops, ["show", room.store], lambda read: writer.write(2))
-    want(got == Answer(3, b"", BUSY), "snapshots without an end:", got, reads)
+    want(got == Answer(3, b"", DEVICE + BUSY % os.fsencode(room.store)), "snapshots without an end:", got, reads)
     writer.end()
     return 1
 
@@ -132,7 +132,7 @@ def backups(room):
     room.put(None)
     copy, partial = room.path("copy"), room.path("copy.partial")
     call(room, "run", room.store)
-    for most, wanted in ((100, b"! 60 DEVICE\nFile too large (os error 27)\n"), (1000, b"")):
+    for most, wanted in ((100, DEVICE + b"cannot write half-a: File too large (os error 27)\n"), (1000, b"")):
         got = call(room, "backup", room.store, copy,
                    preexec_fn=lambda: (signal.signal(signal.SIGXFSZ, signal.SIG_IGN),
                                        resource.setrlimit(resource.RLIMIT_FSIZE, (most, most))))
@@ -203,10 +203,11 @@ def mounted_read_only(room):
     for words in looks:
         want(there(*words) == call(room, words[0], room.store, *words[1:]), words,
              "on a file system that is read alone:", there(*words))
-    writes = (["run", "--existing"], ["snapshot"], ["dump"], ["backup", "copy"])
-    for words in writes:
-        want(there(*words) == Answer(3, b"", b"! 60 DEVICE\nRead-only file system (os error 30)\n"), words, "there:",
-             there(*words))
+    opened = b"cannot open store/half-a: "
+    writes = ((["run", "--existing"], opened), (["snapshot"], opened), (["dump"], opened), (["backup", "copy"], b""))
+    for words, call_of_system in writes:
+        told = DEVICE + call_of_system + b"Read-only file system (os error 30)\n"
+        want(there(*words) == Answer(3, b"", told), words, "there:", there(*words))
     os.rmdir(place)
     return len(looks) + len(writes)
 

@@ -97,7 +97,7 @@ class Run:
                 **self.streams(folder, by_file, held)
             )
         self.output = ran.stdout or b""
-        return ran.returncode, self.output, ran.stderr
+        return ran.returncode, self.output, ran.stderr.replace(os.fsencode(folder), b"DIR")
 
     def streams(self, folder: str, by_file: bool, held: contextlib.ExitStack) -> dict[str, Any]:
         """By what its input comes."""

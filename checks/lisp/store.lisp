@@ -181,7 +181,7 @@
     (multiple-value-bind (name condition) (signalled (open-store *program* (subfolder "locked")))
       (expect "a second client is refused" 'stopped name)
       (expect "its status" 3 (stopped-status condition))
-      (expect "all of standard error" (format nil "! 60 DEVICE~%locked by another process") (stopped-fault condition)))
+      (expect "all of standard error" (format nil "! 60 DEVICE~%~A: locked by another process" (subfolder "locked")) (stopped-fault condition)))
     (expect "the first goes on" 1 (send store 1)))
   (with-new-store (store "locked")
     (expect "it can be opened after it" 1 (send store 1))))

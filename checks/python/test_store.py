@@ -324,7 +324,7 @@ class Faults(StoreTest):
         with self.assertRaises(StoppedError) as raised:
             self.store()
         self.assertEqual(
-            (3, "! 60 DEVICE\nlocked by another process"), (raised.exception.status, raised.exception.fault)
+            (3, f"! 60 DEVICE\n{self.folder}/store: locked by another process"), (raised.exception.status, raised.exception.fault)
         )
         self.assertEqual(1, store.execute("1"))
 

@@ -95,7 +95,7 @@ def check_all(script: str, room: str) -> None:
     over_a_store(script, room, file)
     for place in (file + " not", room):
         is_refused("no file", script, "check", "--run", place, says="is no file that can be read")
-    told = f"pazturrok: there is no folder {file} not\n! 60 DEVICE\nthere is no store in this folder\n".encode()
+    told = f"pazturrok: there is no folder {file} not\n! 60 DEVICE\n{file} not: there is no store in this folder\n".encode()
     check("no store", called(script, "check", "--run", file, "--store", file + " not"), (3, b"", told))
     is_refused("words", script, "check", "--run", "a", "b", says="one file")
     is_refused("words", script, "check", "--run", "--bogus", says="knows no --bogus")

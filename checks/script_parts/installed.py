@@ -82,7 +82,7 @@ def check_named(there, room):
     check("a folder that is a number", (done.returncode, done.stdout, done.stderr), (0, b"(1)\n", b""))
     check_right_words(there, room)
     folder = os.path.join(room, "at a terminal")
-    told = f"pazturrok: there is no folder {folder}\n! 60 DEVICE\nthere is no store in this folder\n".encode()
+    told = f"pazturrok: there is no folder {folder}\n! 60 DEVICE\n{folder}: there is no store in this folder\n".encode()
     check("no store", called(there, "info", folder), (3, b"", told))
     for words, says in ((["frob"], "no command 'frob'; those of the program are"), (["shwo"], "did you mean show?"), (["help", "SEFT"], "did you mean SETF?")):
         is_refused("an installed one", there, *words, says=says)

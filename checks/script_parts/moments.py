@@ -103,11 +103,11 @@ def check_damaged(script, room):
 def check_told_of(script, room, store):
     """Before the program refuses a folder or a version, it is told which."""
     none = os.path.join(room, "danaged")
-    told = b"! 60 DEVICE\nthere is no store in this folder\n"
+    told = f"! 60 DEVICE\n{none}: there is no store in this folder\n".encode()
     for words in (["show", none], ["verify", none], ["run", none, "--existing"]):
         check(f"no folder: {words}", called(script, *words), (3, b"", f"pazturrok: there is no folder {none}; did you mean {store}?\n".encode() + told))
     os.makedirs(none + " not")
-    check("no store", called(script, "info", none + " not"), (3, b"", f"pazturrok: {none} not has no half-a and no half-b, so it holds no store\n".encode() + told))
+    check("no store", called(script, "info", none + " not"), (3, b"", f"pazturrok: {none} not has no half-a and no half-b, so it holds no store\n".encode() + told.replace(none.encode(), none.encode() + b" not")))
     newer, half = os.path.join(room, "newer"), os.path.join(room, "newer", "half-a")
     called(script, "run", newer, stdin=b"(LIST 1)")
     with open(half, "r+b") as file:

@@ -44,7 +44,7 @@ def refused(script: str, store: str, holder: int, words: List[str], least: float
     start = time.monotonic()
     status, out, err = called(script, "run", *words)
     told, *rest = err.decode().splitlines()
-    check(f"another has it: {words}", (status, out, rest), (3, b"", ["! 60 DEVICE", "locked by another process"]))
+    check(f"another has it: {words}", (status, out, rest), (3, b"", ["! 60 DEVICE", f"{store}: locked by another process"]))
     named = told.startswith(f"pazturrok: {store} is served by process {holder} (")
     check(f"who has it is told: {words}", (named, time.monotonic() - start >= least), (True, True))
 

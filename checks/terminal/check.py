@@ -327,7 +327,7 @@ with tempfile.TemporaryDirectory() as room:
     it.end("another command asks for nothing", "", "half A generation 1 records 9\n", "", 0)
 
     it = Terminal("run", store + "2", "--existing")
-    it.end("a fault", "", "", "! 60 DEVICE\nthere is no store in this folder\n", 3)
+    it.end("a fault", "", "", "! 60 DEVICE\n%s2: there is no store in this folder\n" % store, 3)
 
     piped = subprocess.run([program, "run", store], input=b"(GET 'A 'B)\n) 5\n", capture_output=True)
     told = REFUSED % (2, 1, "4 STRAY-CLOSE", 2, 2, 1)

@@ -18,8 +18,13 @@
   existing
   ratio)
 
+(defstruct (named-feed (:include feed) (:constructor make-named-feed (folder words naming client-name)) (:copier nil))
+  "The same of a client that has a name: the store keeps the answer to its last message."
+  client-name)
+
 (setf (documentation 'feed-last 'function)
-      "The number of the last message that was sent, or that the store told when it was opened.")
+      "The number of the last message that was sent, or that the store told when it was opened: of a client with a name that of its own
+messages.")
 
 (defmethod print-object ((feed feed) stream)
   (print-unreadable-object (feed stream :type t :identity t)
@@ -75,9 +80,9 @@
     (numeral (subseq line 3) line)))
 
 (defun read-sized-answer (feed wanted)
-  "The text of the next answer, which has to be that of WANTED: a number, or NIL of a question."
+  "The text of the next answer, which has to be that of WANTED: a number, or `by` and a number; or NIL of a question."
   (let* ((line (next-line feed))
-         (space (or (position #\Space line) (malformed line "no head of an answer")))
+         (space (or (position #\Space line :from-end t) (malformed line "no head of an answer")))
          (head (subseq line 0 space))
          (text (make-string (numeral (subseq line (1+ space)) line))))
     (unless (string= head (if wanted (princ-to-string wanted) "ask"))
@@ -133,6 +138,7 @@
          (handler-bind ((stopped (lambda (condition) (setf (stopped-folder condition) (feed-folder feed)))))
            (let ((position (start-feed feed)))
              (ask-feed-naming feed)
+             (setf position (ask-position feed position))
              (setf (feed-last feed) (max position (feed-last feed))
                    whole-p t)
              position))
@@ -148,6 +154,10 @@
           (open-library (embedded-feed-path feed) (feed-folder feed) (embedded-feed-existing feed) (embedded-feed-ratio feed)))
     (call-feed-library feed #'library-position)))
 
+(defgeneric ask-position (feed told)
+  (:documentation "The number of the last message that the store has: what it told, or what it is asked for.")
+  (:method ((feed feed) told) told))
+
 (defun open-feed-again (feed)
   "The same, where the program may be killed meanwhile."
   (loop for stops from 1
@@ -155,21 +165,29 @@
              (stopped (condition)
                (when (or (not (killed-p condition)) (> stops *restarts*)) (error condition))))))
 
-(defun open-feed (program folder &key (package *package*) intern options existing snapshot-ratio (unicode t))
+(defun open-feed (program folder &key (package *package*) intern options existing snapshot-ratio (unicode t) client-name)
   "Starts PROGRAM over FOLDER to feed it messages, and gives the feed when it is open. PROGRAM, PACKAGE, INTERN, OPTIONS,
-EXISTING, SNAPSHOT-RATIO and UNICODE are those of OPEN-STORE. One feed at a time may be open on a store."
+EXISTING, SNAPSHOT-RATIO and UNICODE are those of OPEN-STORE. One feed at a time may be open on a store.
+With CLIENT-NAME the store keeps the number and the answer of the last message under this name. Then each message waits for the
+answer to the one before it, and is sent again where the program was killed: no answer is lost."
   (let* ((folder (native-word folder))
          (naming (make-naming :package (find-package package) :interns-p intern :unicode-p unicode))
          (feed (if (library-word-p program)
                    (make-embedded-feed folder (library-path program) existing snapshot-ratio naming)
-                   (make-feed folder
-                              (append (list (native-word program) "run" folder "--messages") options
-                                      (and existing '("--existing")))
-                              naming))))
+                   (make-program-feed folder
+                                      (append (list (native-word program) "run" folder "--messages") options
+                                              (and existing '("--existing")))
+                                      naming client-name))))
     (when (and options (embedded-feed-p feed)) (error "a store in this process has no options"))
+    (when (and client-name (embedded-feed-p feed)) (error "a store in this process knows no names of clients"))
     (check-snapshot-ratio snapshot-ratio (embedded-feed-p feed))
     (open-feed-again feed)
     feed))
+
+(defun make-program-feed (folder words naming client-name)
+  (if client-name
+      (make-named-feed folder words naming (check-name client-name))
+      (make-feed folder words naming)))
 
 (defun close-feed (feed)
   "Ends the program, and gives its status; or leaves the nodes. What was answered is in the store."
@@ -198,11 +216,14 @@ EXISTING, SNAPSHOT-RATIO and UNICODE are those of OPEN-STORE. One feed at a time
 
 (defgeneric exchange-question (feed text)
   (:documentation "The answer to a question, of a feed that is open.")
-  (:method ((feed feed) text)
-    (let ((answer nil))
-      (exchange-frames feed (list (question-frame text)) '(nil) (lambda (text) (setf answer text)))
-      answer))
+  (:method ((feed feed) text) (exchange-frame feed (question-frame text) nil))
   (:method ((feed embedded-feed) text) (call-feed-library feed #'library-ask text)))
+
+(defun exchange-frame (feed frame wanted)
+  "The answer to a frame, of a feed that is open; WANTED is that of READ-SIZED-ANSWER."
+  (let ((answer nil))
+    (exchange-frames feed (list frame) (list wanted) (lambda (text) (setf answer text)))
+    answer))
 
 (defun take-naming (feed answer)
   "Takes the answer to the question for the names."
@@ -299,9 +320,22 @@ one that leaves the others without an answer. FIRST is the index of the first te
   "Has many forms carried out, objects or texts, each once. Gives the value of each, or the condition in its place."
   (feed-texts feed (texts-of forms (lambda (form) (feed-text feed form))) 0))
 
-(defun feed-form (feed form)
-  "Has one form carried out, once, and gives its value."
-  (value-of (first (feed-texts feed (list (feed-text feed form)) nil))))
+(defgeneric send-numbered (feed text number receive)
+  (:documentation "Sends a text under a number that the caller chose, and calls RECEIVE with its outcome.")
+  (:method (feed text number receive)
+    (declare (ignore text number receive))
+    (error "~S is of no client with a name, and takes no numbers" feed)))
+
+(defun feed-form (feed form &key number)
+  "Has one form carried out, once, and gives its value. A client with a name may give it a NUMBER of its own, greater than that of its last
+message: the same form is sent again under that number, by this image or another process, and its answer comes again."
+  (let ((texts (list (feed-text feed form))))
+    (value-of (first (if number
+                         (call-telling texts nil (lambda (receive)
+                                                   (alone (feed)
+                                                     (send-numbered feed (first texts) number receive)
+                                                     (when (changes-naming-p (first texts)) (ask-feed-naming feed)))))
+                         (feed-texts feed texts nil))))))
 
 (defun asked-value (feed form ask)
   "The value of a question, to whose text ASK gives the text of the answer."
@@ -312,12 +346,15 @@ one that leaves the others without an answer. FIRST is the index of the first te
 
 (defgeneric answer-to-question (feed text)
   (:documentation "The text of the answer to a question.")
-  (:method ((feed feed) text)
-    (loop for stops from 1
-          do (handler-case (progn (make-feed-ready feed)
-                                  (return (exchange-question feed text)))
-               (stopped (condition)
-                 (when (or (not (killed-p condition)) (> stops *restarts*)) (error condition)))))))
+  (:method ((feed feed) text) (call-with-program feed (lambda () (exchange-question feed text)))))
+
+(defun call-with-program (feed function)
+  "What FUNCTION gives, which speaks to the program of a feed; where that was killed it is called again."
+  (loop for stops from 1
+        do (handler-case (progn (make-feed-ready feed)
+                                (return (funcall function)))
+             (stopped (condition)
+               (when (or (not (killed-p condition)) (> stops *restarts*)) (error condition))))))
 
 (defgeneric feed-snapshot (feed)
   (:documentation "Takes a snapshot of a store in this process, as SNAPSHOT.")

@@ -16,6 +16,12 @@
   (prefix (new-prefix))
   (count 0 :type unsigned-byte))
 
+(defstruct (named-node-feed (:include node-feed) (:constructor make-named-node-feed (words naming time-limit patience client-name))
+                            (:copier nil))
+  "The same of a client that has a name: the store keeps the answer to its last message. `feed-last` is the number of that."
+  client-name
+  (asked-p nil))                                ; whether the store was asked for that number
+
 (defmethod print-object ((feed node-feed) stream)
   (print-unreadable-object (feed stream :type t :identity t)
     (format stream "~{~A~^ ~}" (feed-words feed))))
@@ -26,8 +32,10 @@
 (defparameter *resend-limit* 140
   "So many seconds a message is sent again. Its name may be free after 150, and it would be carried out twice.")
 
-(defparameter *version-frame* (format nil "version 1 0~%~%")
-  "The version of the frames that are sent.")
+(defgeneric version-frame (feed)
+  (:documentation "The version of the frames that are sent.")
+  (:method ((feed node-feed)) (format nil "version 1 0~%~%"))
+  (:method ((feed named-node-feed)) (format nil "version 2 0~%~%")))
 
 (defparameter *most-tries* 6
   "How often a question is sent, to one node after the other. By one for which it has no memory each store ends.")
@@ -81,6 +89,11 @@
   (setf (node-feed-prefix feed) (new-prefix)
         (node-feed-count feed) 0))
 
+(defmethod leave-in-child ((feed named-node-feed))
+  "A client with a name stays with the parent."
+  (call-next-method)
+  (setf (feed-closed-p feed) t))
+
 (defmethod ask-feed-naming ((feed node-feed))
   "The next connection asks."
   (leave feed))
@@ -89,7 +102,7 @@
   "The stream to a node. A new one asks first how symbols are printed."
   (or (node-feed-stream feed)
       (progn (connect-node feed (nth (node-feed-at feed) (feed-words feed)))
-             (write-string *version-frame* (node-feed-stream feed))
+             (write-string (version-frame feed) (node-feed-stream feed))
              (write-string (question-frame *qualified-question*) (node-feed-stream feed))
              (finish-output (node-feed-stream feed))
              (heed-greeting (nth-value 1 (read-node-answer feed)))
@@ -111,8 +124,8 @@
   "The number of the next answer, or NIL of a question, and its text."
   (let* ((stream (node-feed-stream feed))
          (line (read-whole-line stream))
-         (space (or (position #\Space line) (malformed line "no head of an answer")))
-         (head (subseq line 0 space))
+         (space (or (position #\Space line :from-end t) (malformed line "no head of an answer")))
+         (head (subseq line (if (eql (mismatch "by " line) 3) 3 0) space))
          (text (make-string (numeral (subseq line (1+ space)) line))))
     (unless (= (read-sequence text stream) (length text)) (error 'end-of-file :stream stream))
     (unless (char= (read-char stream) #\Newline) (malformed text "it is longer than its length"))
@@ -168,6 +181,33 @@ so many times at most, and for so many seconds after the first time; a try that 
 (defmethod send-messages ((feed node-feed) texts receive)
   (send-to-nodes feed texts nil receive))
 
+(defmethod send-under-number ((feed named-node-feed) text number)
+  (let ((frame (named-frame (named-node-feed-client-name feed) number text)))
+    (setf (feed-last feed) (max number (feed-last feed)))
+    (call-with-nodes feed
+                     (lambda (stream)
+                       (write-string frame stream)
+                       (finish-output stream)
+                       (multiple-value-bind (told answer) (read-node-answer feed)
+                         (unless (eql told number) (malformed answer "it is not that of a message with this number"))
+                         (named-outcome feed answer number))))))
+
+(defmethod last-number ((feed named-node-feed))
+  "The store is asked for it once."
+  (unless (named-node-feed-asked-p feed)
+    (let ((answer (ask-nodes feed "read" (question-of-entry (named-node-feed-client-name feed)))))
+      (setf (feed-last feed) (number-of-entry (feed-outcome feed answer))
+            (named-node-feed-asked-p feed) t)))
+  (feed-last feed))
+
+(defmethod room-of ((feed named-node-feed)) 0)
+
+(defmethod send-messages ((feed named-node-feed) texts receive)
+  (send-one-by-one feed texts receive))
+
+(defmethod send-numbered ((feed named-node-feed) text number receive)
+  (send-with-number feed text number receive))
+
 (defun node-outcome (feed number answer)
   (let ((outcome (feed-outcome feed answer)))
     (if (and (typep outcome 'refused) (= (refused-number outcome) 50))
@@ -195,29 +235,27 @@ so many times at most, and for so many seconds after the first time; a try that 
                 (and colon (< 0 colon (1- (length node))) (every #'digit-char-p (subseq node (1+ colon)))))
       (error "a node is HOST:PORT, or unix: and the path of a socket, and not ~S" node))))
 
-(defun open-nodes (nodes &key (package *package*) intern (time-limit 120) (patience 10) (unicode t))
+(defun open-nodes (nodes &key (package *package*) intern (time-limit 120) (patience 10) (unicode t) client-name)
   "A feed whose messages go to NODES, a list of HOST:PORT or of paths of sockets. A request goes to one of them, and to
 the next one where that does not answer within PATIENCE seconds; NO-NODE is signalled where none does within TIME-LIMIT, or
 140 seconds after a message was sent first.
-PACKAGE, INTERN and UNICODE are those of OPEN-STORE."
+PACKAGE, INTERN and UNICODE are those of OPEN-STORE, and CLIENT-NAME is that of OPEN-FEED: the node of one machine takes such messages."
   (check-type nodes cons)
   (mapc #'check-node nodes)
-  (make-node-feed nodes (make-naming :package (find-package package) :interns-p intern :unicode-p unicode) time-limit patience))
+  (let ((naming (make-naming :package (find-package package) :interns-p intern :unicode-p unicode)))
+    (if client-name
+        (make-named-node-feed nodes naming time-limit patience (check-name client-name))
+        (make-node-feed nodes naming time-limit patience))))
 
 (defmacro with-nodes ((feed nodes &rest options) &body body)
   "Evaluates BODY with FEED bound to what OPEN-NODES gives, and closes it."
   `(let ((,feed (open-nodes ,nodes ,@options :package ,(package-name *package*))))
      (unwind-protect (progn ,@body) (close-feed ,feed))))
 
-(defun name-p (name)
-  "Whether this is the name of a message: 1 to 100 letters, digits, dots, hyphens and underscores."
-  (and (stringp name) (<= 1 (length name) 100)
-       (every (lambda (one) (and (< (char-code one) 128) (or (alphanumericp one) (find one "._-")))) name)))
-
 (defun send-named (feed name form)
   "Has a form carried out under a name of one's own, once with all that is sent under it, and gives its value."
-  (unless (name-p name)
-    (cannot-send name "a name has 1 to 100 letters, digits, dots, hyphens and underscores"))
+  (check-name name)
+  (check-type feed (and node-feed (not named-node-feed)))
   (let ((texts (list (feed-text feed form))))
     (value-of (first (call-telling texts nil (lambda (receive) (alone (feed) (send-to-nodes feed texts name receive))))))))
 

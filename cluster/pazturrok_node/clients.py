@@ -14,9 +14,25 @@ from typing import Any
 from . import VERSION
 from .appender import Appender
 from .etcd import EtcdError, PutBackError
-from .frames import LIMIT, NO_ROOM, NO_SUCH_ENTRY, OTHER_VERSION, REQUEST, Frames, NoFrameError, Request, answer, answer_at, request_of
+from .frames import (
+    LIMIT,
+    LOST,
+    NO_FRAME,
+    NO_ROOM,
+    NO_SUCH_ENTRY,
+    OTHER_VERSION,
+    REQUEST,
+    VERSION_WITHOUT_NAMES,
+    Frames,
+    NoFrameError,
+    Request,
+    answer,
+    answer_at,
+    named_answer,
+    request_of,
+)
 from .frames import VERSION as VERSION_OF_FRAMES
-from .log import Placed, Refused
+from .log import Placed, Refused, name_of_message
 from .node import Node, Told
 from .seed import Giver
 
@@ -44,8 +60,10 @@ PROBES = ((socket.TCP_KEEPIDLE, 60), (socket.TCP_KEEPINTVL, 20), (socket.TCP_KEE
 class Clients:
     def __init__(self, node: Node, appender: Appender, giver: Giver, most: int = MOST_CLIENTS) -> None:
         self.node, self.appender, self.giver, self._most = node, appender, giver, most
-        self.greeting = f'(:VERSION {VERSION_OF_FRAMES} :NODE "{VERSION}" :NAME "{giver.name}")'.encode("ascii")
-        """The answer to a client of this version."""
+        self.version = VERSION_OF_FRAMES if node.log.takes_named else VERSION_WITHOUT_NAMES
+        """The greatest one of frames that this node knows."""
+        self.greeting = f'(:VERSION {self.version} :NODE "{VERSION}" :NAME "{giver.name}")'.encode("ascii")
+        """The answer to a client of this version, or of an older one."""
         self._connected: collections.OrderedDict[Client, None] = collections.OrderedDict()
         """Those that are connected, by their last request."""
         self.requests: collections.Counter[str] = collections.Counter()
@@ -221,8 +239,10 @@ class Client(asyncio.Protocol):
     # Requests
 
     def _take(self, request: Request) -> None:
-        if request.kind == "version" and request.number != VERSION_OF_FRAMES:
+        if request.kind == "version" and not 1 <= (request.number or 0) <= self._clients.version:
             raise NoFrameError(f"a client of version {request.number}", OTHER_VERSION)
+        if request.kind == "by" and not self._node.log.takes_named:
+            raise NoFrameError("a message of a client with a name, which this log does not take")
         slot = Slot(request)
         self._slots.append(slot)
         self._clients.heed(self, request.kind)
@@ -231,6 +251,9 @@ class Client(asyncio.Protocol):
             self._unplaced += len(request.text)
             name = request.name or self._clients.new_name()
             self._appender.append(self, name, request.text, lambda placed: self._take_place(slot, placed))
+        elif request.kind == "by":
+            slot.is_begun = True
+            self._take_named(slot, request)
         elif request.kind == "version":
             slot.is_begun = True
             self._answer(slot, answer(None, self._clients.greeting))
@@ -247,6 +270,32 @@ class Client(asyncio.Protocol):
         else:
             number = placed
             self._node.answers.answer_to(number, lambda text: self._answer(slot, answer(number, text)))
+
+    def _take_named(self, slot: Slot, request: Request) -> None:
+        """A message of a client with a name. The store says whether it was carried out before, and has its answer."""
+        number = request.number or 0
+        if request.name is None:
+            self._answer(slot, named_answer(number, NO_FRAME))
+        else:
+            self._unplaced += len(request.text)
+            name = name_of_message(request.name, number)
+            self._appender.append(self, name, request.text, lambda placed: self._take_place_of_named(slot, placed))
+
+    def _take_place_of_named(self, slot: Slot, placed: Placed | None) -> None:
+        self._unplaced -= len(slot.request.text)
+        if placed is None:
+            self.let_go()
+        elif isinstance(placed, Refused):
+            self._answer(slot, named_answer(slot.request.number or 0, placed.answer))
+        else:
+            self._node.answers.answer_to(placed, lambda text: self._take_answer_of_named(slot, text))
+
+    def _take_answer_of_named(self, slot: Slot, text: bytes) -> None:
+        if text is LOST and self._transport is not None:
+            # it was carried out as the store ended, which is asked for its answer by the same message
+            self._take_named(slot, slot.request)
+        else:
+            self._answer(slot, named_answer(slot.request.number or 0, text))
 
     def _begin_first(self) -> None:
         """A question is asked once all before it is answered: so it sees what the same client has sent before."""

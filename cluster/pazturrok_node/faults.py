@@ -22,7 +22,7 @@ OF_ROOM = frozenset({errno.ENOSPC, errno.EDQUOT, errno.EFBIG})
 """Those of a call for which there is no room, and which has done nothing."""
 
 NO_STORE = "there is no store in this folder"
-"""The cause that the program tells where it is not to make what is missing."""
+"""The cause that the program tells, behind the path of the folder, where it is not to make what is missing."""
 
 DEVICE = b"! 60 "
 SYSTEM_ERROR = re.compile(r".*\(os error ([0-9]+)\)")
@@ -62,7 +62,7 @@ class Fault(NamedTuple):
         number = self.system_error
         if number in OF_A_DEVICE or (was_open and number and number not in OF_ROOM):
             raise DeviceError(number, str(self))
-        if self.refusal.startswith(DEVICE) and self.cause == NO_STORE:
+        if self.refusal.startswith(DEVICE) and self.cause.endswith(NO_STORE):
             raise FileNotFoundError(errno.ENOENT, NO_STORE)
 
 

@@ -6,8 +6,11 @@ import re
 from collections.abc import Iterator
 from typing import NamedTuple
 
-VERSION = 1
+VERSION = 2
 """Of the frames between clients and nodes. Where a frame means something else, or is new, the number is a greater one."""
+
+VERSION_WITHOUT_NAMES = 1
+"""That of clients, and of nodes, that know no messages of clients with a name."""
 
 LIMIT = 1_048_576
 """The greatest length of a text of a client."""
@@ -17,12 +20,20 @@ LONGEST_HEAD = 200
 
 NUMBER = r"(0|[1-9][0-9]{0,18})"
 NAME = r"([A-Za-z0-9._-]{1,100})"
-REQUEST = re.compile(rf"(?:do(?: {NAME})?|(ask|read|seed)|(ask|version) {NUMBER}) {NUMBER}\n".encode())
-ANSWER = re.compile(rf"(?:{NUMBER}|ask) {NUMBER}\n".encode())
+LONG_NUMBER = r"(0|[1-9][0-9]{0,19})"
+REQUEST = re.compile(rf"(?:do(?: {NAME})?|(ask|read|seed)|(ask|version|by) {LONG_NUMBER}) {NUMBER}\n".encode())
+NAMED = re.compile(rf"{NAME}(?= |\Z)".encode())
+"""What the text of a message of a client with a name begins with: nothing after it has the client go."""
+
+GREATEST_NUMBER = (1 << 64) - 1
+"""Of such a message."""
+
+ANSWER = re.compile(rf"(?:(by )?{LONG_NUMBER}|ask) {NUMBER}\n".encode())
 POSITION = re.compile(rf"at {NUMBER}\n".encode())
 
 LOST = b"! 50 OLD-NUMBER"
-"""The answer to an entry that was carried out, once, and whose own answer nobody has any more."""
+"""The answer to an entry that was carried out, once, and whose own answer nobody has any more. It is this object where the node says so, and other
+bytes where the store does."""
 
 SKIPPED = b"! 53 SKIPPED"
 """The answer to an entry that all stores skip."""
@@ -61,8 +72,8 @@ class NoFrameError(Exception):
 
 
 class Request(NamedTuple):
-    """A request of a client: `do`, with a name, if it has one; `ask`, with a number, if it has one; `read`; `seed`; or
-    `version`, with a number."""
+    """A request of a client: `do`, with a name, if it has one; `by`, with a name and a number; `ask`, with a number, if it has one; `read`; `seed`;
+    or `version`, with a number."""
 
     kind: str
     name: bytes | None
@@ -110,13 +121,28 @@ class Frames:
 
 def request_of(head: re.Match[bytes], text: bytes) -> Request:
     name, plain, numbered, number, _ = head.groups()
+    if numbered == b"by":
+        return named_request(int(number), text)
     if plain or numbered:
         return Request((plain or numbered).decode("ascii"), None, None if plain else int(number), text)
     return Request("do", name, None, text)
 
 
+def named_request(number: int, text: bytes) -> Request:
+    """A message of a client with a name: its text is what comes after that. It has no name where there is none."""
+    if number > GREATEST_NUMBER:
+        raise NoFrameError(f"a message with the number {number}")
+    named = NAMED.match(text)
+    return Request("by", named[1] if named else None, number, text[named.end() :] if named else text)
+
+
 def message(number: int, text: bytes) -> bytes:
     return b"do %d %d\n%s\n" % (number, len(text), text)
+
+
+def named_message(name: bytes, number: int, text: bytes) -> bytes:
+    """A message of a client, of which this text comes after its name."""
+    return b"by %d %d\n%s%s\n" % (number, len(name) + len(text), name, text)
 
 
 def question(text: bytes) -> bytes:
@@ -125,6 +151,10 @@ def question(text: bytes) -> bytes:
 
 def answer_at(position: int, text: bytes) -> bytes:
     return b"ask %d %d\n%s\n" % (position, len(text), text)
+
+
+def named_answer(number: int, text: bytes) -> bytes:
+    return b"by %d %d\n%s\n" % (number, len(text), text)
 
 
 def answer(number: int | None, text: bytes) -> bytes:

@@ -3,6 +3,7 @@
 from __future__ import annotations
 
 import abc
+import enum
 from collections.abc import AsyncIterator, Callable, Sequence
 from typing import NamedTuple, Union
 
@@ -61,6 +62,50 @@ class Entry(NamedTuple):
     name: bytes
     text: bytes
 
+    @property
+    def client(self) -> tuple[bytes, int]:
+        """Of a message of a client with a name: that name, and its number."""
+        client, _, number = self.name.partition(b":")
+        return client, int(number)
+
+
+def name_of_message(client: bytes, number: int) -> bytes:
+    """The name of an entry that is a message of a client with a name."""
+    return b"%s:%d" % (client, number)
+
+
+def is_named(name: bytes) -> bool:
+    """Whether an entry of this name is such a message: the table of clients in the store has its answer, and it may be fed again."""
+    return b":" in name
+
+
+class Ground(enum.IntEnum):
+    """What an entry has before it, where the store is opened anew: messages of clients leave its position as it is, so it is fed again those that
+    stand after the last other entry."""
+
+    UNSURE = 0
+    """A message by which a client went, and which would take later ones of it away; or one that was refused and has no entry in the table of clients."""
+
+    KEPT = 1
+    """A message that has an entry: it is answered again, and not carried out."""
+
+    POSITION = 2
+    """Another entry. Where anything after it is written, its number is the position, and nothing up to it is fed again."""
+
+
+def ground_after(name: bytes, text: bytes) -> Ground:
+    """What the entry after this one has. A message by which a client goes has no text."""
+    if not is_named(name):
+        return Ground.POSITION
+    return Ground.KEPT if text else Ground.UNSURE
+
+
+def ground_for(name: bytes, text: bytes) -> Ground:
+    """What an entry has to have before it, or a mark is put there. A client that goes makes room, in which one that was refused would be carried out."""
+    if not is_named(name):
+        return Ground.UNSURE
+    return Ground.KEPT if text else Ground.POSITION
+
 
 class Reached(NamedTuple):
     """All entries up to this place of the log were given."""
@@ -84,6 +129,12 @@ class Log(abc.ABC):
 
     lanes = 1
     """So often `append` may be under way at once."""
+
+    takes_named = False
+    """Whether it takes messages of clients with a name."""
+
+    def want_mark(self) -> None:
+        """Has a mark stand before the next message of a client with a name."""
 
     @property
     def silent_seconds(self) -> float:

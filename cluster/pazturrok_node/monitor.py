@@ -81,7 +81,7 @@ class Monitor:
         node, log = self._node, self._node.log
         is_known = node.is_admitted.is_set()
         about = f'{{name="{self._name}",version="{VERSION}"}}'
-        requests: list[Sample] = [(f'{{kind="{kind}"}}', self._clients.requests[kind]) for kind in ("do", "ask", "read")]
+        requests: list[Sample] = [(f'{{kind="{kind}"}}', self._clients.requests[kind]) for kind in ("do", "by", "ask", "read")]
         return [
             ("info", "gauge", "Which node this is.", [(about, 1)]),
             ("revision", "gauge", "The revision of the last entry that the store has answered.", [("", log.place(node.position) if is_known else 0)]),

@@ -13,11 +13,14 @@ from typing import NamedTuple
 from .answers import Answers
 from .child import Child
 from .faults import Fault
-from .frames import ANSWER, LOST, NO_MEMORY, Frames, NoFrameError, message, question
-from .log import COMPARED, MARKS, BehindError, Entry, Keeper, Log, Reached
+from .frames import ANSWER, LOST, NO_MEMORY, Frames, NoFrameError, message, named_message, question
+from .log import COMPARED, MARKS, BehindError, Entry, Keeper, Log, Reached, is_named
 from .tasks import Waits, end_all
 
 logger = logging.getLogger(__name__)
+
+UNKEPT = (b"! 46 ", b"! 48 ", b"! 54 ")
+"""A message of a client that is refused so may have no entry in the table of clients: fed again, it could be carried out."""
 
 NOTHING = b"NIL"
 """What a store is fed in place of an entry that is skipped."""
@@ -329,8 +332,7 @@ class Node:
         for entry in entries if skipped else ():
             if entry.number in skipped:
                 self._keeper.will_skip(entry.number)
-        texts = [message(entry.number, NOTHING if entry.number in skipped else entry.text) for entry in entries]
-        child.send(b"".join(texts))
+        child.send(b"".join([message(entry.number, NOTHING) if entry.number in skipped else frame_of(entry) for entry in entries]))
 
     # What it answers
 
@@ -338,8 +340,8 @@ class Node:
         self._heard, self.is_hearing = time.monotonic(), True
         try:
             for head, text in self._frames.split(data):
-                if head[1]:
-                    self._take_answer(int(head[1]), text)
+                if head[2]:
+                    self._take_answer(bool(head[1]), int(head[2]), text)
                 else:
                     self._answer_question(text)
         finally:
@@ -347,13 +349,17 @@ class Node:
             self.have_heard()
         self._moved.look()
 
-    def _take_answer(self, number: int, text: bytes) -> None:
+    def _take_answer(self, is_of_client: bool, told: int, text: bytes) -> None:
         if not self._sent:
-            raise NoFrameError(f"an answer to {number}, and no entry waits for one")
+            raise NoFrameError(f"an answer to {told}, and no entry waits for one")
         self._last = self._sent.popleft()
         self.count_of_entries += 1
-        if self._last.number != number:
-            raise NoFrameError(f"an answer to {number}, and not to {self._last.number}")
+        number = self._last.number
+        wanted = self._last.client[1] if is_of_client and is_named(self._last.name) else number
+        if told != wanted:
+            raise NoFrameError(f"an answer to {told}, and not to {wanted}")
+        if is_of_client and text.startswith(UNKEPT):
+            self.log.want_mark()
         if self._last.text in MARKS:
             self._take_mark(self._last, text)
         self._move(number)
@@ -379,3 +385,8 @@ class Node:
     def _move(self, position: int) -> None:
         self.answers.settled = max(self.answers.settled, position)
         self.position = max(self.position, position)
+
+
+def frame_of(entry: Entry) -> bytes:
+    """What the store is fed of an entry."""
+    return named_message(*entry.client, entry.text) if is_named(entry.name) else message(entry.number, entry.text)

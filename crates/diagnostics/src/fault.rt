@@ -7,8 +7,12 @@ ghost use Rattle.diagnostics.specs.StreamTexts.{WritesOut, WritesText};
 use arrayvec::{ArrayString, ArrayVec};
 use disk_trait::HostError;
 use lisp_object::refusal::{DEVICE, name_of};
+use std::fmt;
 use std::fmt::Write as WriteText;
 use std::io::Write;
+
+/// The longest path that the system takes.
+const LONGEST_PATH: usize = 4096;
 
 /// A text was not written whole.
 #[derive(Clone, Copy, Debug, PartialEq, Eq)]
@@ -29,11 +33,13 @@ pub fn write_fault<W: Write>(faults: &mut W, number: u16) -> Result<(), Unwritte
     write_text(faults, line.as_bytes())
 }
 
-/// Writes what is told of a fault: its line, and after that of the device a line with the cause, if it is known.
+/// Writes what is told of a fault: its line, and after that of the device a line with the cause, if it is known. The line names the file of
+/// a call that failed, and else the folder of the store, by the path with which the folder was opened; with an empty path none is told.
 pub fn write_fault_with_cause<W: Write>(
     faults: &mut W,
     number: u16,
     cause: Option<&HostError>,
+    folder: &str,
 ) -> Result<(), Unwritten>
     ensures { (text : List ℕ) × IsFaultText number text
         × WritesText result (W.contents faults.old) (W.contents faults.new) text }
@@ -42,28 +48,47 @@ pub fn write_fault_with_cause<W: Write>(
         return Err(Unwritten);
     }
     match cause {
-        Some(cause) if number == DEVICE => write_cause(faults, cause),
+        Some(cause) if number == DEVICE => write_cause(faults, cause, folder),
         _ => Ok(()),
     }
 }
 
-// Writes a line with a cause. It takes no memory; a cause that is too long is cut.
-fn write_cause<W: Write>(faults: &mut W, cause: &HostError) -> Result<(), Unwritten>
+// Writes a line with a cause. It takes no memory.
+fn write_cause<W: Write>(faults: &mut W, cause: &HostError, folder: &str) -> Result<(), Unwritten>
     ensures { (line : List ℕ) × All (λ byte. byte ≢ 10) line
         × WritesText result (W.contents faults.old) (W.contents faults.new) (line ++ 10 ∷ []) }
 {
-    let mut text = ArrayString::<400>::new();
-    let _ = write!(text, "{cause}");
-    let mut line = ArrayVec::<u8, 401>::new();
+    let mut text = ArrayString::<4600>::new();
+    // it has room for the longest path, and for the words around it
+    let _ = push_cause(&mut text, cause, folder);
+    let mut line = ArrayVec::<u8, 4601>::new();
     'bytes: for byte in text.as_bytes() {
-        if line.len() == 400 {
+        if line.len() == 4600 {
             break;
         }
-        // the cause is one line, whatever the system's words are
-        line.push(if *byte == b'\n' { b' ' } else { *byte });
+        // the cause is one line, whatever the path is, and no control character of it gets to a terminal
+        line.push(if *byte < b' ' { b' ' } else { *byte });
     }
     line.push(b'\n');
     write_text(faults, line.as_slice())
+}
+
+// The words of a cause, with the path of what it is about.
+fn push_cause(text: &mut ArrayString<4600>, cause: &HostError, folder: &str) -> fmt::Result {
+    if folder.is_empty() || folder.len() > LONGEST_PATH {
+        return write!(text, "{cause}");
+    }
+    match cause {
+        HostError::Failed(failed) => {
+            let file = failed.file.behind_folder();
+            write!(
+                text,
+                "cannot {} {folder}{file}: {}",
+                failed.call, failed.error
+            )
+        }
+        cause => write!(text, "{folder}: {cause}"),
+    }
 }
 
 /// Writes a text whole. After an error a part of it was written, from its front.

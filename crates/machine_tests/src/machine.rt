@@ -4,7 +4,7 @@ ghost use Rattle.disk_trait.specs.Disk.{IsHonest};
 ghost use Rattle.disk_trait.specs.Faulty.{faulty};
 ghost use Rattle.disk_trait.specs.Memory.{state_of};
 
-use disk_trait::{DeviceFault, Disk, FuseDisk, Half, HostError, IfMissing, MemoryDisk};
+use disk_trait::{DeviceFault, Disk, FailedCall, FuseDisk, Half, HostError, IfMissing, MemoryDisk};
 use std::alloc::{Alloc, AllocError, Global};
 use std::cell::RefCell;
 use std::io;
@@ -89,7 +89,7 @@ impl<D: Disk + Drop> Disk for OpenDisk<D> {
 impl<D: Disk + Drop> TellsCause for OpenDisk<D> {
     ghost tells = { λ disk cause. ⊤ };
 
-    fn cause(&self) -> Option<io::Error> {
+    fn cause(&self) -> Option<FailedCall> {
         None
     }
 }

@@ -93,7 +93,7 @@ where
         Ok(disk) => disk,
         Err(error) => {
             let status = Status::of_host(&error);
-            return end_with_told(faults, status, &Remark::Cause(error));
+            return end_with_told(faults, status, &Remark::Cause(error), messages.folder);
         }
     };
     let alloc = rt.alloc();
@@ -104,7 +104,7 @@ where
         seed,
     };
     let (ended, disk) = serve_on(opening, messages.snapshot_every, input, output);
-    end_after(faults, ended, &disk)
+    end_after(faults, ended, &disk, messages.folder)
 }
 
 /// Serves the frames of an input over the store that a disk holds. Gives how it ended, and the disk as the store left it. Where no store is
@@ -151,7 +151,12 @@ where
 }
 
 // The status after a session that ended so; what ended it is told.
-fn end_after<D: TellsCause, F: Write>(faults: &mut F, ended: MessagesEnd, disk: &D) -> Status
+fn end_after<D: TellsCause, F: Write>(
+    faults: &mut F,
+    ended: MessagesEnd,
+    disk: &D,
+    folder: &str,
+) -> Status
     ensures { result ≡ session_status ended }
 {
     match ended {
@@ -165,9 +170,9 @@ fn end_after<D: TellsCause, F: Write>(faults: &mut F, ended: MessagesEnd, disk: 
             Status::Fault(NO_POSITION)
         }
         MessagesEnd::Fault(number) => match disk.cause() {
-            Some(error) => {
-                let told = Remark::Cause(HostError::System(error));
-                end_with_told(faults, Status::Fault(number), &told)
+            Some(failed) => {
+                let told = Remark::Cause(HostError::Failed(failed));
+                end_with_told(faults, Status::Fault(number), &told, folder)
             }
             None => end_with(faults, Status::Fault(number)),
         },

@@ -7,7 +7,7 @@
 //! - `trial`: functions in each way of gathering, whose answers are at a limit or past it (`large`)
 //! - `calls`: form_reader, where a text calls them
 //! - `alike`: user_macros and fixed_macros beside one another
-//! - `reading`: form_reader, a byte at a time
+//! - `reading`: form_reader, a byte at a time; `plain`: plain_reader, SETF of a property
 #![tactic(auto)]
 
 #[cfg(test)]
@@ -18,6 +18,8 @@ mod calls;
 mod large;
 #[cfg(test)]
 mod packages;
+#[cfg(test)]
+mod plain;
 #[cfg(test)]
 mod reading;
 #[cfg(test)]

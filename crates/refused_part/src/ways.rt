@@ -114,7 +114,7 @@ fn limit_of(world: &World, part: &Datum) -> &'static [u8] {
         return b"; the store has 1,000 packages, the most that it may have";
     }
     if has_operator(part, b"COPY-READTABLE") {
-        return b"; a store has at most 64 readtables, and their names a greatest length (docs/use/limits.md)";
+        return b"; a store has at most 64 readtables (docs/use/limits.md)";
     }
     b"; a name or a list is longer than it may be (docs/use/limits.md)"
 }

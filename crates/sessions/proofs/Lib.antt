@@ -8,6 +8,7 @@ mod Endings
 mod Counting
 mod Replies
 mod FormAnswers
+mod FoundForms
 mod Pacing
 mod Renewing
 mod Pieces

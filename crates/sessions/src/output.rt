@@ -1,12 +1,15 @@
 // What a session writes.
-ghost use Rattle.std.specs.Prelude.{◌≡◌, OnOk, OnErr, IfOk, true};
+ghost use Rattle.std.specs.Option.{option_map};
+ghost use Rattle.std.specs.Prelude.{◌≡◌, OnOk, OnErr, IfOk, IfSome, true};
 ghost use Rattle.lisp_object.specs.Datum.{object_of, is_proper};
+ghost use Rattle.lisp_operators.specs.EvaluationAnswers.{or_nil};
 ghost use Rattle.sessions.specs.FormAnswers.{refusal_line, value_line};
 ghost use Rattle.sessions.specs.Streams.{Writes, WritesPart};
 
 use crate::recipient::OutputFault;
 use canon_printer::print;
 use form_eval::Evaluated;
+use lisp_object::Datum;
 use lisp_object::refusal::name_of;
 use plist_state::World;
 use std::alloc::{AllocError, Global};
@@ -42,9 +45,36 @@ pub(crate) fn line_of_value(
     ensures { IfOk result (λ line.
         line.items ≡ value_line world.now.0 (object_of evaluated.now.value)) }
 {
+    line_of_datum(alloc, world, &evaluated.value)
+}
+
+/// The line of the value of a property, where it has one, and else that of NIL.
+pub(crate) fn line_of_property(
+    alloc: Global,
+    world: &World,
+    value: Option<&Datum>,
+) -> Result<Vec<u8>, AllocError>
+    requires { IfSome value (λ d. is_proper d.now ≡ true) }
+    ensures { IfOk result (λ line.
+        line.items ≡ value_line world.now.0 (or_nil (option_map (λ d. object_of d.now) value.entry))) }
+{
+    match value {
+        Some(value) => line_of_datum(alloc, world, value),
+        None => {
+            let nil = Datum::nil(alloc)?;
+            line_of_datum(alloc, world, &nil)
+        }
+    }
+}
+
+// A datum, as it is printed in a world, and a newline.
+#[inline(always)]
+fn line_of_datum(alloc: Global, world: &World, value: &Datum) -> Result<Vec<u8>, AllocError>
+    requires { is_proper value.now ≡ true }
+    ensures { IfOk result (λ line. line.items ≡ value_line world.now.0 (object_of value.now)) }
+{
     world.soundness();
-    let packages = world.packages();
-    let mut line = print(alloc, &evaluated.value, packages, world.current_package())?;
+    let mut line = print(alloc, value, world.packages(), world.current_package())?;
     line.push(b'\n')?;
     Ok(line)
 }

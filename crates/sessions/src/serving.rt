@@ -16,6 +16,7 @@ ghost use Rattle.sessions.specs.steps.Standing.{AcknowledgesNone, HandsOn, Stand
 use crate::answer::{answer_fault, answer_read};
 use crate::course::Course;
 use crate::ending::{Ended, Ending};
+use crate::found::answer_first;
 use crate::group::{Grouped, answer_group};
 use crate::input::{Fed, FedPiece, Pending};
 use crate::open_world::open_world;
@@ -183,7 +184,7 @@ fn answer_piece<D: Disk, R: MacroFunctions, W: Recipient<D, R>>(
 {
     let mut rest = piece;
     'forms: while !rest.is_empty() {
-        match answer_next(store, pending, writer, wanted, course, rest) {
+        match answer_first(store, pending, writer, wanted, course, rest) {
             Ok(count) => rest = &rest[count..],
             Err(ended) => return Some(ended),
         }
@@ -193,7 +194,7 @@ fn answer_piece<D: Disk, R: MacroFunctions, W: Recipient<D, R>>(
 
 // Feeds a piece up to the first byte that decides something, and answers the form that it ends. Gives how many bytes of the
 // piece are done with, or how the session has ended.
-fn answer_next<D: Disk, R: MacroFunctions, W: Recipient<D, R>>(
+pub(crate) fn answer_next<D: Disk, R: MacroFunctions, W: Recipient<D, R>>(
     store: &mut Store<D, R>,
     pending: &mut Pending,
     writer: &mut W,

@@ -66,6 +66,7 @@ host_status host.NoStore = inr (inr refl)
 host_status host.NoName = inr (inr refl)
 host_status host.Linked = inr (inr refl)
 host_status host.NoFile = inr (inr refl)
+host_status (host.Failed call) = inr (inr refl)
 host_status (host.System error) = inr (inr refl)
 
 pub early_after : (status : Status) (error : HostError) → status ≡ status_of_host error → IsEarlyFault status

@@ -27,7 +27,7 @@ use disk_trait::HostError;
 use lisp_object::refusal::{INPUT, NO_MEMORY, OUTPUT};
 use plist_state::Seed;
 use program_streams::ShownText;
-use sessions::Wanted;
+use sessions::SessionOptions;
 use std::convert::AsStr;
 use std::fmt::Write as WriteText;
 use std::io::Write;
@@ -46,7 +46,7 @@ use user_macros::MacroFunctions;
 ///
 /// Names are hashed by a seed that is drawn from `rt`; if it has no random bytes, the status is that of a fault of the input.
 /// Faults are found in this order: the words, the seed, DIR, the opening of the store, the command. A text on words that are refused, or
-/// the line of a fault, and after that of the device one with its cause, goes to `faults`, and so does the line on a refusal that
+/// the line of a fault, and after that of the device one with its cause and a path, goes to `faults`, and so does the line on a refusal that
 /// ended the session; help and the version that was asked for
 /// go to `output`. What is written to `output` is flushed. The teller of `output` writes a line on each form that is refused, of as many as it is
 /// asked for.
@@ -91,8 +91,9 @@ where
     // The words come first: if they are refused, no folder is opened and nothing is read.
     match asked_in(rt.alloc(), words) {
         Ok(asked) => {
+            let folder = asked.folder;
             let (status, told) = carry_out(rt, macros, asked, input, output);
-            end_with_told(faults, status, &told)
+            end_with_told(faults, status, &told, folder)
         }
         Err(error) => {
             let status = answer_words(&error, &mut output.output, faults);
@@ -140,8 +141,9 @@ where
 {
     match asked_in(rt.alloc(), words) {
         Ok(asked) => {
+            let folder = asked.folder;
             let (status, told) = carry_out_at_terminal(rt, macros, asked, input, output);
-            end_with_told(faults, status, &told)
+            end_with_told(faults, status, &told, folder)
         }
         Err(refusal) => {
             let status = answer_words(&refusal, &mut output.output, faults);
@@ -186,7 +188,7 @@ fn sit<R, M, I, O>(
     rt: &R,
     macros: M,
     asked: Asked<'_>,
-    wanted: Wanted,
+    wanted: SessionOptions,
     input: &mut I,
     output: &mut O,
 ) -> (Status, Remark)
@@ -322,7 +324,7 @@ fn cause_of<D: TellsCause>(disk: &D) -> Remark
     ensures { left_out_of result ≡ [] }
 {
     match disk.cause() {
-        Some(error) => Remark::Cause(HostError::System(error)),
+        Some(failed) => Remark::Cause(HostError::Failed(failed)),
         None => Remark::Nothing,
     }
 }

@@ -7,7 +7,7 @@ ghost use Rattle.disk_trait.specs.declared.host.IfMissing.{IfMissing};
 ghost use Rattle.gate_log.specs.Layout.{HasOpenGate};
 ghost use Rattle.store_commands.specs.Folders.{HoldsStore, IsFailureOf, LooksWhether, OpensStore};
 
-use disk_trait::{DeviceFault, Disk, Half, HostDisk, HostError, IfMissing};
+use disk_trait::{DeviceFault, Disk, FailedCall, Half, HostDisk, HostError, IfMissing};
 use std::io;
 
 /// The byte that a half in use begins with.
@@ -18,16 +18,16 @@ pub trait TellsCause: Disk {
     // what it may tell
     ghost tells: { Self → Option HostError → Type 0 };
 
-    /// The system's error of the last call that failed, if there is one.
-    fn cause(&self) -> Option<io::Error>
-        ensures { tells self.now (option_map HostError.System result) };
+    /// The last call of the system that failed, with its error, if there is one.
+    fn cause(&self) -> Option<FailedCall>
+        ensures { tells self.now (option_map HostError.Failed result) };
 }
 
 impl TellsCause for HostDisk {
     ghost tells = { λ disk cause. ⊤ };
 
-    fn cause(&self) -> Option<io::Error> {
-        HostDisk::cause(self)
+    fn cause(&self) -> Option<FailedCall> {
+        self.failed_call()
     }
 }
 
@@ -121,12 +121,12 @@ fn begins_open(head: &[u8]) -> bool
     head.len() >= 2 && head[0] == OPEN
 }
 
-// The system's error of the call that failed.
+// The call that failed, with the system's error.
 fn failure_of<D: TellsCause>(disk: &D) -> HostError
     ensures { IsFailureOf D.tells disk.now result }
 {
     match disk.cause() {
-        Some(error) => HostError::System(error),
+        Some(failed) => HostError::Failed(failed),
         None => HostError::System(io::ErrorKind::Other.into()),
     }
 }

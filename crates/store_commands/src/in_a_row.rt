@@ -15,7 +15,7 @@ use diagnostics::Refusal;
 use disk_trait::Disk;
 use prevalence_store::{Store, Unopened};
 use session_ledger::serve_recorded;
-use sessions::{Ended, Wanted};
+use sessions::{Ended, SessionOptions};
 use user_macros::MacroFunctions;
 
 /// Sessions in a row over the store that a disk holds, as `serve_on` has one: after each one that a refusal ended the input is
@@ -26,7 +26,7 @@ use user_macros::MacroFunctions;
 /// Those of opening the store. Nothing is read or written then, and the disk and the macro functions are given back.
 pub fn sessions_on<D, M, I, O>(
     opening: Opening<D, M>,
-    wanted: Wanted,
+    wanted: SessionOptions,
     input: &mut I,
     output: &mut O,
 ) -> Result<(Ended, D, M), Unopened<D, M>>
@@ -59,7 +59,7 @@ where
 // Sessions in a row on an open store, with the first of which the account of the recipient begins.
 fn serve_in_turn<D, M, I, O>(
     store: &mut Store<D, M>,
-    wanted: Wanted,
+    wanted: SessionOptions,
     input: &mut I,
     output: &mut O,
 ) -> Ended

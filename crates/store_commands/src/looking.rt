@@ -2,7 +2,7 @@
 ghost use Rattle.std.specs.Prelude.{◌≡◌, IfOk};
 
 use crate::folders::{Folders, TellsCause};
-use disk_trait::{Disk, HostError, IfMissing};
+use disk_trait::{Disk, FailedCall, HostError, IfMissing};
 use log_look::{Sight, look_into};
 use std::alloc::{Alloc, Global};
 use std::fs::File;
@@ -53,7 +53,7 @@ impl TellsCause for Sight {
 
     ghost tells = { λ sight cause. ⊤ };
 
-    fn cause(&self) -> Option<io::Error> {
+    fn cause(&self) -> Option<FailedCall> {
         None
     }
 }

@@ -19,7 +19,7 @@ use command_words::Task;
 use diagnostics::Places;
 use disk_trait::Disk;
 use prevalence_store::Unopened;
-use sessions::Wanted;
+use sessions::SessionOptions;
 use std::io::Write;
 use user_macros::MacroFunctions;
 
@@ -68,7 +68,7 @@ where
 // that ended it.
 fn run_on<D, M, I, O>(
     opening: Opening<D, M>,
-    wanted: Wanted,
+    wanted: SessionOptions,
     input: &mut I,
     output: &mut O,
 ) -> (Status, D, Remark)

@@ -11,7 +11,7 @@ use crate::recipient::SessionRecipient;
 use disk_trait::Disk;
 use prevalence_store::Unopened;
 use session_ledger::serve_recorded;
-use sessions::{Ended, Wanted, write_zeros_ahead};
+use sessions::{Ended, SessionOptions, write_zeros_ahead};
 use std::io::Read;
 use user_macros::MacroFunctions;
 
@@ -25,7 +25,7 @@ use user_macros::MacroFunctions;
 /// Those of opening the store. Nothing is read or written then, and the disk and the macro functions are given back.
 pub fn serve_on<D, M, I, O>(
     opening: Opening<D, M>,
-    wanted: Wanted,
+    wanted: SessionOptions,
     input: &mut I,
     output: &mut O,
 ) -> Result<(Ended, D, M), Unopened<D, M>>

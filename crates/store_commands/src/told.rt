@@ -31,20 +31,25 @@ pub fn end_with<F: Write>(faults: &mut F, status: Status) -> Status
     ensures told { TellsFault status Remark.Nothing (F.contents faults.old) (F.contents faults.new) }
     ensures quiet { IsQuiet status ⊎ (status ≡ Status.WordsRefused) → faults.new ≡ faults.old }
 {
-    end_with_told(faults, status, &Remark::Nothing)
+    end_with_told(faults, status, &Remark::Nothing, "")
 }
 
-/// Ends so: after a fault its line is written, and after one of the device a line with the cause, if it is known; after an export
-/// what was left out of it; after a refusal that ended the session the line on it; and a line after a strict session that answered
+/// Ends so: after a fault its line is written, and after one of the device a line with the cause, if it is known, which names what it is
+/// about by the path of the store's folder; after an export what was left out of it; after a refusal that ended the session the line on it; and a line after a strict session that answered
 /// nothing.
-pub fn end_with_told<F: Write>(faults: &mut F, status: Status, told: &Remark) -> Status
+pub fn end_with_told<F: Write>(
+    faults: &mut F,
+    status: Status,
+    told: &Remark,
+    folder: &str,
+) -> Status
     ensures status { result ≡ status }
     ensures told { TellsFault status told.now (F.contents faults.old) (F.contents faults.new) }
     ensures quiet { IsQuiet status ⊎ (status ≡ Status.WordsRefused) → faults.new ≡ faults.old }
 {
     match status {
         Status::Fault(number) => {
-            let _ = write_fault_with_cause(faults, number, told.cause());
+            let _ = write_fault_with_cause(faults, number, told.cause(), folder);
             status
         }
         Status::LeftOut => {

@@ -68,7 +68,7 @@ where
     match checked_in(rt.alloc(), words) {
         Ok(asked) => match check_asked(rt, macros, asked, input, output) {
             Ok(status) => end_with(faults, status),
-            Err(unlooked) => end_unlooked(faults, unlooked, None),
+            Err(unlooked) => end_unlooked(faults, unlooked, None, asked.store.unwrap_or("")),
         },
         Err(error) => {
             let status = answer_words(&error, output, faults);

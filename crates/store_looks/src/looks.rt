@@ -78,7 +78,10 @@ where
     match looked_in(rt.alloc(), words) {
         Ok(looked) => match look_at(rt, folders, macros, looked, output) {
             Ok(status) => end_with(faults, status),
-            Err(unlooked) => end_unlooked(faults, unlooked, Some(looked.look)),
+            Err(unlooked) => {
+                let folder = folder_meant(looked, &unlooked);
+                end_unlooked(faults, unlooked, Some(looked.look), folder)
+            }
         },
         Err(error) => {
             let status = answer_words(&error, output, faults);
@@ -87,11 +90,21 @@ where
     }
 }
 
-// Ends where nothing is told of a store, by such a look if it was one, and says why.
+// The folder of the store in which something failed, if it is known which: a backup has two.
+fn folder_meant<'a>(looked: Looked<'a>, unlooked: &Unlooked) -> &'a str {
+    match (looked.look, unlooked) {
+        (_, Unlooked::Host(HostError::NoStore)) => looked.folder,
+        (Look::Backup(_), _) => "",
+        _ => looked.folder,
+    }
+}
+
+// Ends where nothing is told of the store in a folder, by such a look if it was one, and says why. An empty folder is not told.
 pub(crate) fn end_unlooked<F: Write>(
     faults: &mut F,
     unlooked: Unlooked,
     look: Option<Look<'_>>,
+    folder: &str,
 ) -> Status
     ensures told { (told : Remark) × TellsFault result told (F.contents faults.old) (F.contents faults.new) }
     ensures quiet { IsQuiet result → faults.new ≡ faults.old }
@@ -102,7 +115,7 @@ pub(crate) fn end_unlooked<F: Write>(
         Unlooked::Fault(number) => end_with(faults, Status::Fault(number)),
         Unlooked::Host(error) => {
             let status = Status::of_host(&error);
-            end_with_told(faults, status, &Remark::Cause(error))
+            end_with_told(faults, status, &Remark::Cause(error), folder)
         }
         Unlooked::Show(error) => {
             match name_sought(look, &error) {

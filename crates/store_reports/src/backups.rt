@@ -205,8 +205,10 @@ fn make_and_place<P: StorePlaces>(
         (IsCopyUnplaced P.Disk.state (P.does places.now) limit world.now.0 dir.now) }
 {
     write_at(alloc, places, world, dir, limit)?;
-    compare_at(alloc, places, world, dir, limit)?;
-    places.place(dir)
+    match compare_at(alloc, places, world, dir, limit) {
+        Ok(()) => places.place(dir),
+        Err(error) => Err(error),
+    }
 }
 
 // Writes a world to new files, which are closed then.

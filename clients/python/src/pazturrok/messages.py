@@ -16,6 +16,14 @@ from .errors import (
     UnsendableError,
     telling,
 )
+from .named import (
+    checked_name,
+    checked_number,
+    named_message,
+    number_of_entry,
+    outcome_of_named,
+    question_of_entry,
+)
 from .naming import NAMING_QUESTION, Naming, until_naming
 from .printer import FORM_LIMIT, check_characters, printed
 from .program import Program
@@ -23,7 +31,7 @@ from .properties import Properties
 from .store import Form, Outcome, changes_naming, texts_of, value_of
 from .values import Value
 
-HEAD = re.compile(rb"(?:0|[1-9][0-9]*|ask) (0|[1-9][0-9]*)")
+HEAD = re.compile(rb"(?:(?:by )?(?:0|[1-9][0-9]*)|ask) (0|[1-9][0-9]*)")
 POSITION = re.compile(rb"at (0|[1-9][0-9]*)")
 RESTARTS = 5
 """How often the program is started again, one time after the other, before any answer has come."""
@@ -90,6 +98,10 @@ class MessageStore(Shared, Properties):
     `LostAnswerError` stands in place of its value. A form is read as the store reads, under its current
     readtable, package and read base.
 
+    With `client_name` the store keeps the number and the answer of the last message under this name. Then each message
+    waits for the answer to the one before it, and is sent again where the program was killed: no answer is lost. Numbers are
+    those of the client: `position` is the last one, also of an earlier process, and `do` takes a number of one's own.
+
     One MessageStore at a time may feed a store. `time_limit` is how many seconds the answers of what is sent
     at once may take. With `existing` a folder that holds no store is refused. `options` are further words of
     the command line, as ("--snapshot-every", "1000"). Without `unicode` texts are ASCII alone.
@@ -104,12 +116,16 @@ class MessageStore(Shared, Properties):
         existing: bool = False,
         options: Sequence[str] = (),
         unicode: bool = True,
+        client_name: str | None = None,
     ) -> None:
+        self._client_name = None if client_name is None else checked_name(client_name)
         own = ["--messages", *(["--existing"] if existing else [])]
         self._folder = os.fspath(folder)
         self._words = [os.fspath(program), "run", self._folder, *own, *(word for word in options if word not in own)]
         self._time_limit = time_limit
         self._begin(unicode)
+
+    _client_name: str | None = None
 
     def _begin(self, unicode: bool) -> None:
         """Opens the store for the first time."""
@@ -128,7 +144,8 @@ class MessageStore(Shared, Properties):
 
     @property
     def position(self) -> int:
-        """The number of the last message that was sent, or that the store told when it was opened."""
+        """The number of the last message that was sent, or that the store told when it was opened: of a client with a
+        name that of its own messages."""
         return self._last
 
     @property
@@ -151,13 +168,32 @@ class MessageStore(Shared, Properties):
         self._is_closed = True
         return self._leave()
 
-    def do(self, form: Form) -> Value:
-        """Has a form carried out, its text or the form as a list, and gives its value."""
-        return value_of(self._do_texts([text_of(form, self._unicode)], None)[0])
+    def do(self, form: Form, *, number: int | None = None) -> Value:
+        """Has a form carried out, its text or the form as a list, and gives its value.
+
+        A client with a name may give it a number of its own, greater than that of its last message: the same form is sent
+        again under that number, by this process or another one, and its answer comes again, word for word.
+        """
+        return value_of(self._do_texts([text_of(form, self._unicode)], None, self._checked(number))[0])
+
+    def _checked(self, number: int | None) -> int | None:
+        if number is None:
+            return None
+        if self._client_name is None:
+            raise ValueError("a number of one's own is for a client with a name")
+        return checked_number(number)
 
     def do_all(self, forms: Iterable[Form]) -> list[Outcome]:
-        """Has many forms carried out, all sent at once, and gives the value of each, or its exception."""
+        """Has many forms carried out, and gives the value of each, or its exception. All are sent at once, but for those
+        of a client with a name."""
         return self._do_texts(texts_of(forms, lambda form: text_of(form, self._unicode), 0), 0)
+
+    @alone
+    def unregister(self) -> None:
+        """Has the store forget this client: its number and its answer go, and its numbers begin anew."""
+        if self._client_name is None:
+            raise ValueError("this client has no name")
+        value_of(self._do_named(None, self._ready()))
 
     @alone
     def ask(self, form: Form) -> Value:
@@ -177,12 +213,15 @@ class MessageStore(Shared, Properties):
     # Sending
 
     @alone
-    def _do_texts(self, texts: Sequence[str], first: int | None) -> list[Outcome]:
+    def _do_texts(self, texts: Sequence[str], first: int | None, number: int | None = None) -> list[Outcome]:
         """The outcomes of texts. `first` is the index of the first one, None of a form alone."""
         outcomes: list[Outcome] = []
         with telling(texts, outcomes, first):
             while len(outcomes) < len(texts):
-                self._do_some(until_naming(texts[len(outcomes) :]), outcomes)
+                if self._client_name is None:
+                    self._do_some(until_naming(texts[len(outcomes) :]), outcomes)
+                else:
+                    outcomes.append(self._do_named(texts[len(outcomes)], number))
                 if changes_naming(texts[len(outcomes) - 1]):
                     self._ask_naming()
         return outcomes
@@ -211,13 +250,25 @@ class MessageStore(Shared, Properties):
                 outcomes += map(self._naming.outcome, answers)
                 del unanswered[: len(answers)]
 
+    def _do_named(self, text: str | None, number: int | None) -> Outcome:
+        """The outcome of a message of a client with a name, under this number or the next one."""
+        assert self._client_name is not None
+        number = checked_number(self._ready() + 1) if number is None else number
+        self._last = max(self._last, number)
+        answer = self._send(named_message(self._client_name, number, text))
+        return outcome_of_named(self._naming.outcome(answer), number)
+
     def _ask(self, text: str) -> str:
-        """The answer to a question, which is asked again where the program was killed."""
+        """The answer to a question."""
+        return self._send(question(text))
+
+    def _send(self, frame: str) -> str:
+        """The answer to a frame, which is sent again where the program was killed."""
         for stops in range(RESTARTS + 1):
             answers: list[str] = []
             try:
                 self._ready()
-                self._exchange([question(text)], answers)
+                self._exchange([frame], answers)
                 return answers[0]
             except StoppedError as error:
                 if error.status >= 0 or stops == RESTARTS:
@@ -237,8 +288,8 @@ class MessageStore(Shared, Properties):
                 program.end()
             for frame, answer in zip(frames, found):
                 head, _, text = answer.partition("\n")
-                wanted = frame.partition("\n")[0].removeprefix("do ").split()[0]
-                if head.split()[0] != wanted:
+                wanted = frame.partition("\n")[0].removeprefix("do ").rpartition(" ")[0]
+                if head.rpartition(" ")[0] != wanted:
                     raise MalformedAnswerError(answer, f"it is not that of {wanted}")
                 answers.append(text)
 
@@ -259,14 +310,23 @@ class MessageStore(Shared, Properties):
             self._program = Program(self._words, splitter)
             try:
                 self._ask_naming()
+                position = self._ask_position(splitter)
                 break
             except StoppedError as error:
                 error.folder = self._folder
                 if error.status >= 0 or stops == RESTARTS:
                     raise
-        assert splitter.position is not None
-        self._last = max(self._last, splitter.position)
-        return splitter.position
+        self._last = max(self._last, position)
+        return position
+
+    def _ask_position(self, splitter: FrameSplitter) -> int:
+        """The number of the last message that the store has: of a client with a name it is asked for, and else told."""
+        if self._client_name is None:
+            assert splitter.position is not None
+            return splitter.position
+        answers: list[str] = []
+        self._exchange([question(question_of_entry(self._client_name))], answers)
+        return number_of_entry(self._naming.outcome(answers[0]))
 
     def _leave(self) -> int | None:
         program, self._program = self._program, None

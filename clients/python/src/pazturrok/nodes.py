@@ -5,8 +5,6 @@ from __future__ import annotations
 import contextlib
 import math
 import re
-import selectors
-import socket
 import ssl
 import time
 import uuid
@@ -15,27 +13,35 @@ from types import TracebackType
 
 from .alone import Shared, alone
 from .answers import refusal_of
+from .connection import Connection
 from .errors import (
     WAY_TO_FUNCTIONS_OF_NODES,
+    BrokenStoreError,
     ClosedStoreError,
     LostAnswerError,
     MalformedAnswerError,
     NoNodeError,
     RefusedError,
-    UnsendableError,
     telling,
 )
-from .messages import FrameSplitter, question, text_of
+from .messages import question, text_of
+from .named import (
+    checked_name,
+    checked_number,
+    named_message,
+    number_of_entry,
+    outcome_of_named,
+    question_of_entry,
+)
 from .naming import NAMING_QUESTION, Naming, until_naming
 from .properties import Name, Properties, put_form, set_form, take_form, telling_way
 from .store import Form, Outcome, changes_naming, texts_of, value_of
 from .values import NIL, Value
 
-VERSION = 1
-"""Of the frames that are sent."""
+VERSION, VERSION_WITH_NAMES = 1, 2
+"""Of the frames that are sent; and of those that are sent for a client with a name."""
 
-NAME = re.compile(r"[A-Za-z0-9._-]{1,100}")
-"""What the name of a message is."""
+LEFT_TO_PARENT = "a client with a name stays with the parent of this process: open a store for a name of its own"
 
 AT_ONCE = 2000
 """How many messages are sent before the first of them is answered."""
@@ -45,7 +51,6 @@ RESEND = 140.0
 
 UNKNOWN_CLIENT = "before it said anything, as where it does not take the certificate of this client"
 
-PIECE = 65536
 PAUSE = 0.05
 """How many seconds are between two tries."""
 
@@ -59,69 +64,6 @@ NO_ROOM = 54
 """The refusal of a message, or of a client, for which a node has no room."""
 
 
-class Connection:
-    """A connection to a node, HOST:PORT or the path of a socket, with or without `unix:` before it."""
-
-    def __init__(self, node: str, context: ssl.SSLContext | None, seconds: float) -> None:
-        self._splitter = FrameSplitter(0)
-        if "/" in node or node.startswith("unix:"):
-            self._socket = socket.socket(socket.AF_UNIX)
-            self._socket.settimeout(seconds)
-            try:
-                self._socket.connect(node.removeprefix("unix:"))
-            except BaseException:
-                self._socket.close()
-                raise
-        else:
-            host, _, port = node.rpartition(":")
-            self._socket = socket.create_connection((host.strip("[]"), int(port)), seconds)
-            if context:
-                self._socket = context.wrap_socket(self._socket, server_hostname=host.strip("[]"))
-        self._socket.setblocking(False)
-
-    def exchange(self, frames: Sequence[str], answers: list[tuple[str, str]], seconds: float) -> None:
-        """Sends frames, and appends the answers: the head of each, and its text.
-
-        It reads while it writes. OSError where the connection is lost, or nothing comes or goes for so long.
-        """
-        unsent = memoryview("".join(frame + "\n" for frame in frames).encode("ascii"))
-        wanted = len(answers) + len(frames)
-        while unsent or len(answers) < wanted:
-            written = self._write(unsent)
-            unsent = unsent[written:]
-            if not self._read(answers) and not written:
-                self._wait(bool(unsent), seconds)
-        if len(answers) > wanted:
-            raise MalformedAnswerError(answers[-1][1], "more was answered than was asked")
-
-    def _wait(self, writes: bool, seconds: float) -> None:
-        with selectors.DefaultSelector() as selector:
-            selector.register(self._socket, selectors.EVENT_READ | (selectors.EVENT_WRITE if writes else 0))
-            if not selector.select(seconds):
-                raise TimeoutError(f"it said nothing for {seconds:.1f} seconds")
-
-    def _write(self, data: memoryview) -> int:
-        with contextlib.suppress(BlockingIOError, ssl.SSLWantReadError, ssl.SSLWantWriteError):
-            return self._socket.send(data[:PIECE]) if data else 0
-        return 0
-
-    def _read(self, answers: list[tuple[str, str]]) -> bool:
-        """Takes what has come, and says whether something had."""
-        try:
-            data = self._socket.recv(PIECE)
-        except (BlockingIOError, ssl.SSLWantReadError, ssl.SSLWantWriteError):
-            return False
-        if not data:
-            raise ConnectionError("it closed the connection")
-        for answer in self._splitter.feed(data):
-            head, _, text = answer.partition("\n")
-            answers.append((head.split()[0], text))
-        return True
-
-    def close(self) -> None:
-        self._socket.close()
-
-
 class NodeStore(Shared, Properties):
     """A store for many clients. A request goes to one node, and to the next where that does not answer.
 
@@ -132,7 +74,11 @@ class NodeStore(Shared, Properties):
     answers within `time_limit` seconds; `patience` is how many seconds one of them may say nothing. Without
     `unicode` texts are ASCII alone.
 
-    After a fork the child has a connection and names of its own, so both may go on.
+    With `client_name` the store itself keeps the number and the answer of the last message under this name, for as long as
+    nobody takes them away. `do` is that of MessageStore then, and so is `unregister`; one process at a time may have a name.
+    The node of one machine takes such messages.
+
+    After a fork the child has a connection and names of its own, so both may go on; but a client with a name stays with the parent.
     """
 
     def __init__(
@@ -143,7 +89,11 @@ class NodeStore(Shared, Properties):
         patience: float = 10.0,
         context: ssl.SSLContext | None = None,
         unicode: bool = True,
+        client_name: str | None = None,
     ) -> None:
+        self._client_name = None if client_name is None else checked_name(client_name)
+        self._number: int | None = None  # of the last message of a client with a name, once that is known
+        self._is_of_parent = False
         if not nodes:
             raise ValueError("no nodes")
         self._nodes, self._context = [checked_node(node) for node in nodes], context
@@ -161,6 +111,7 @@ class NodeStore(Shared, Properties):
 
     def _leave_to_parent(self) -> None:
         self._begin_names()
+        self._is_of_parent = self._client_name is not None
         with contextlib.suppress(OSError):  # the other stores of this process have their turn too
             self._leave()
 
@@ -182,15 +133,31 @@ class NodeStore(Shared, Properties):
         self._is_closed = True
         self._leave()
 
-    def do(self, form: Form, *, name: str | None = None) -> Value:
+    def do(self, form: Form, *, name: str | None = None, number: int | None = None) -> Value:
         """Has a form carried out, and gives its value.
 
         A name of one's own makes it one with what another call, or another process, sends under it: 1 to 100
-        letters, digits, dots, hyphens and underscores.
+        letters, digits, dots, hyphens and underscores. A client with a name has numbers in place of that.
         """
-        if name is not None and not NAME.fullmatch(name):
-            raise UnsendableError(name, "a name has 1 to 100 letters, digits, dots, hyphens and underscores")
-        return value_of(self._do_texts([text_of(form, self._unicode)], name, None)[0])
+        if name is not None:
+            checked_name(name)
+        if number is not None:
+            checked_number(number)
+        if (number if self._client_name is None else name) is not None:
+            raise ValueError("a client with a name takes a number, and any other client the name of a form")
+        return value_of(self._do_texts([text_of(form, self._unicode)], name, None, number)[0])
+
+    @property
+    def position(self) -> int:
+        """The number of the last message of a client with a name."""
+        return self._ask_number()
+
+    @alone
+    def unregister(self) -> None:
+        """Has the store forget this client with a name: its number and its answer go, and its numbers begin anew."""
+        if self._client_name is None:
+            raise ValueError("this client has no name")
+        value_of(self._do_named(None, self._number_now()))
 
     def do_all(self, forms: Iterable[Form]) -> list[Outcome]:
         """Has many forms carried out, in their order, and gives the value of each, or its exception."""
@@ -239,11 +206,16 @@ class NodeStore(Shared, Properties):
     # Sending
 
     @alone
-    def _do_texts(self, texts: Sequence[str], name: str | None, first: int | None) -> list[Outcome]:
+    def _do_texts(
+        self, texts: Sequence[str], name: str | None, first: int | None, number: int | None = None
+    ) -> list[Outcome]:
         """The outcomes of texts. `first` is the index of the first one, None of a form alone."""
         outcomes: list[Outcome] = []
         with telling(texts, outcomes, first):
             while len(outcomes) < len(texts):
+                if self._client_name is not None:
+                    outcomes.append(self._do_named(texts[len(outcomes)], number))
+                    continue
                 some = until_naming(texts[len(outcomes) : len(outcomes) + AT_ONCE])
                 frames = [f"do {name or self._next_name()} {len(text)}\n{text}" for text in some]
                 try:
@@ -254,6 +226,36 @@ class NodeStore(Shared, Properties):
                 if changes_naming(some[-1]):
                     self._leave()
         return outcomes
+
+    def _do_named(self, text: str | None, number: int | None) -> Outcome:
+        """The outcome of a message of a client with a name, under this number or the next one."""
+        assert self._client_name is not None
+        if self._is_of_parent:
+            raise BrokenStoreError(LEFT_TO_PARENT)
+        last = self._number_now()
+        number = checked_number(last + 1) if number is None else number
+        frame = named_message(self._client_name, number, text)
+        self._number = max(last, number)
+        head, answer = self._send([frame])[0]
+        if head != f"by {number}":
+            return MalformedAnswerError(answer, "it is not that of a message with this number")
+        if text is not None and changes_naming(text):
+            self._leave()
+        return outcome_of_named(self._naming.outcome(answer), number)
+
+    @alone
+    def _ask_number(self) -> int:
+        return self._number_now()
+
+    def _number_now(self) -> int:
+        """The number of the last message of a client with a name, which the store is asked for once."""
+        if self._client_name is None:
+            raise ValueError("this client has no name")
+        if self._number is None:
+            form = question_of_entry(self._client_name)
+            answer = self._send([f"read {len(form)}\n{form}"], MOST_TRIES)[0][1]
+            self._number = number_of_entry(self._naming.outcome(answer))
+        return self._number
 
     def _next_name(self) -> str:
         self._count += 1
@@ -305,7 +307,8 @@ class NodeStore(Shared, Properties):
             self._connection = Connection(self.node, self._context, seconds)
             answers: list[tuple[str, str]] = []
             try:
-                self._connection.exchange([f"version {VERSION} 0\n", question(NAMING_QUESTION)], answers, seconds)
+                version = VERSION if self._client_name is None else VERSION_WITH_NAMES
+                self._connection.exchange([f"version {version} 0\n", question(NAMING_QUESTION)], answers, seconds)
             except OSError as error:
                 heed_greeting(answers)
                 if self._context and not answers:

@@ -26,8 +26,8 @@ forms-init g c = record {
       (λ w known. (c.requires.stands w known).0 ++ c.args.piece.now) (λ w known. (c.requires.stands w known).2);
 }
 
-pub answer_next-requires-clause-stands : goal.answer_next-requires-clause-stands
-answer_next-requires-clause-stands g c = λ v there.
+pub answer_first-requires-clause-stands : goal.answer_first-requires-clause-stands
+answer_first-requires-clause-stands g c = λ v there.
     let functions = g.R.Meaning.Meaning.functions in
     let old = known_world c.args.store.now.world c.requires.pending.is_open in
     let s = c.requires.stands old.0 old.1 in
@@ -41,8 +41,8 @@ answer_next-requires-clause-stands g c = λ v there.
           goes c.forms.invariant.hands s.2),
     )
 
-pub answer_next-requires-clause-pending : goal.answer_next-requires-clause-pending
-answer_next-requires-clause-pending g c =
+pub answer_first-requires-clause-pending : goal.answer_first-requires-clause-pending
+answer_first-requires-clause-pending g c =
     let functions = g.R.Meaning.Meaning.functions in
     let old = known_world c.args.store.now.world c.requires.pending.is_open in
     let p = c.requires.pending.some old.0 old.1 in record {
@@ -64,8 +64,8 @@ forms-preserved g c =
           let first = c.forms.invariant.goes old.0 old.1 p.0 p.1 in
           let second = c.in-Ok.ensures.answers first.far.world first.advances.after.left first.bytes first.is_pending in
           ap is_some second.advances.after.left;
-      honest = c.answer_next.ensures.honest ∙ c.forms.invariant.honest;
-      forms = c.answer_next.ensures.forms;
+      honest = c.answer_first.ensures.honest ∙ c.forms.invariant.honest;
+      forms = c.answer_first.ensures.forms;
       count =
           let within = c.in-Ok.ensures.some.0 in
           let more = c.in-Ok.ensures.count in
@@ -74,26 +74,26 @@ forms-preserved g c =
       goes = λ w known bytes p.
           let first = c.forms.invariant.goes w known bytes p in
           let held = g.W.Recipient.contents c.args.writer.now in
-          let written = g.W.Recipient.contents c.answer_next.new.writer in
+          let written = g.W.Recipient.contents c.answer_first.new.writer in
           let text = bytes ++ c.args.piece.now in
-          subst (λ t. SessionGoesOn functions g.D.Disk.state c.args.wanted.strict (course_of c.args.course.now) (course_of c.answer_next.new.course) c.args.store.now c.answer_next.new.store w c.args.wanted.mode text held written c.answer_next.new.pending t) (sym behind)
-          (next_both functions g.D.Disk.state g.met.D.Disk.sound c.args.wanted (course_of c.args.course.now) (course_of c.forms.course) (course_of c.answer_next.new.course) c.args.store.now c.forms.store c.answer_next.new.store w c.args.wanted.mode
-          held (g.W.Recipient.contents c.forms.writer) written c.forms.pending c.forms.invariant.honest text rest first c.answer_next.new.pending (Ok n)
+          subst (λ t. SessionGoesOn functions g.D.Disk.state c.args.wanted.strict (course_of c.args.course.now) (course_of c.answer_first.new.course) c.args.store.now c.answer_first.new.store w c.args.wanted.mode text held written c.answer_first.new.pending t) (sym behind)
+          (next_both functions g.D.Disk.state g.met.D.Disk.sound c.args.wanted (course_of c.args.course.now) (course_of c.forms.course) (course_of c.answer_first.new.course) c.args.store.now c.forms.store c.answer_first.new.store w c.args.wanted.mode
+          held (g.W.Recipient.contents c.forms.writer) written c.forms.pending c.forms.invariant.honest text rest first c.answer_first.new.pending (Ok n)
           (c.in-Ok.ensures.answers first.far.world first.advances.after.left first.bytes first.is_pending));
-      first = c.answer_next.ensures.first ∙ c.forms.invariant.first;
+      first = c.answer_first.ensures.first ∙ c.forms.invariant.first;
       hands =
           let old = known_world c.args.store.now.world c.requires.pending.is_open in
           let p = c.requires.pending.some old.0 old.1 in
           let first = c.forms.invariant.goes old.0 old.1 p.0 p.1 in
-          hands_both functions g.D.Disk.state g.met.D.Disk.sound (course_of c.args.course.now).forms (course_of c.forms.course).forms (course_of c.answer_next.new.course).forms (g.W.Recipient.account c.args.writer.now)
-          (g.W.Recipient.account c.forms.writer) (g.W.Recipient.account c.answer_next.new.writer) c.forms.store c.answer_next.new.store first.far.world first.advances.after.left c.forms.invariant.hands c.in-Ok.ensures.hands;
+          hands_both functions g.D.Disk.state g.met.D.Disk.sound (course_of c.args.course.now).forms (course_of c.forms.course).forms (course_of c.answer_first.new.course).forms (g.W.Recipient.account c.args.writer.now)
+          (g.W.Recipient.account c.forms.writer) (g.W.Recipient.account c.answer_first.new.writer) c.forms.store c.answer_first.new.store first.far.world first.advances.after.left c.forms.invariant.hands c.in-Ok.ensures.hands;
     }
 
 pub returns-in-Err-clause-answers : goal.returns-in-Err-clause-answers
 returns-in-Err-clause-answers g c = λ w known bytes p.
     let functions = g.R.Meaning.Meaning.functions in
     let first = c.forms.invariant.goes w known bytes p in
-    next_both functions g.D.Disk.state g.met.D.Disk.sound c.args.wanted (course_of c.args.course.now) (course_of c.forms.course) (course_of c.answer_next.new.course) c.args.store.now c.forms.store c.answer_next.new.store w c.args.wanted.mode
-    (g.W.Recipient.contents c.args.writer.now) (g.W.Recipient.contents c.forms.writer) (g.W.Recipient.contents c.answer_next.new.writer) c.forms.pending c.forms.invariant.honest
-    (bytes ++ c.args.piece.now) c.forms.rest.now first c.answer_next.new.pending (Err c.in-Err.ended)
+    next_both functions g.D.Disk.state g.met.D.Disk.sound c.args.wanted (course_of c.args.course.now) (course_of c.forms.course) (course_of c.answer_first.new.course) c.args.store.now c.forms.store c.answer_first.new.store w c.args.wanted.mode
+    (g.W.Recipient.contents c.args.writer.now) (g.W.Recipient.contents c.forms.writer) (g.W.Recipient.contents c.answer_first.new.writer) c.forms.pending c.forms.invariant.honest
+    (bytes ++ c.args.piece.now) c.forms.rest.now first c.answer_first.new.pending (Err c.in-Err.ended)
     (c.in-Err.ensures.answers first.far.world first.advances.after.left first.bytes first.is_pending)

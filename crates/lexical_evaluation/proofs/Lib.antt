@@ -1,0 +1,15 @@
+pub mod Thens
+pub mod Continuing
+pub mod Going
+pub mod Gathering
+pub mod Deciding
+pub mod Sequences
+pub mod Steps
+pub mod Outcomes
+pub mod Bindings
+pub mod Apart
+pub mod Scopes
+pub mod Bound
+pub mod Calling
+pub mod Running
+pub mod Keeping

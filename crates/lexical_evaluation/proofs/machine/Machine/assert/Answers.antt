@@ -1,0 +1,13 @@
+use Rattle.std.proofs.Common.{if◌then◌else◌, Err, sym, ap, ◌∙◌}
+use Rattle.lisp_object.specs.Object.{nil}
+use Rattle.lisp_object.specs.declared.refusal.TheConstants.{ASSERTION_FAILED}
+use Rattle.kept_functions.specs.Counting.{here}
+use Rattle.lexical_evaluation.specs.Machine.{comes_to, point_of}
+use Rattle.lexical_evaluation.proofs.Continuing.{refused}
+use Rattle.lexical_evaluation.proofs.machine.Machine.assert.Goals as goal
+
+pub returns : goal.returns
+returns c = λ w s.
+    let m = c.args.self.now in
+    ap (λ b. comes_to w m (if b then here nil (point_of m s) else Err ASSERTION_FAILED)) (sym c.is_true.ensures ∙ c.if-is_true.false)
+    ∙ refused w m ASSERTION_FAILED

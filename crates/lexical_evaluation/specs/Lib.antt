@@ -1,0 +1,5 @@
+pub mod Values
+pub mod Calls
+pub mod InForce
+pub mod Laws
+pub mod Machine
