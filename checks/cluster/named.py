@@ -52,9 +52,9 @@ def client_of(node, name, number, count):
     return subprocess.Popen(words, stdout=subprocess.PIPE, env={**os.environ, "PYTHONPATH": PYTHON})
 
 
-def named(node, name, number, text):
+def named(node, name, number, text, patience=10.0):
     """The answer to a message of a client."""
-    told, answer = Client(node.places).request(b"by %d" % number, name + b" " + text)
+    told, answer = Client(node.places, patience=patience).request(b"by %d" % number, name + b" " + text)
     return answer if told == number else f"{told} {answer}"
 
 
@@ -119,8 +119,11 @@ def small(folder, program):
     try:
         faults = []
         for again in range(2):
-            told = named(node, b"till-3", 1, LARGE)
+            # a client that sends again, as it does not wait for so long, has the store end no more often
+            told = named(node, b"till-3", 1, LARGE, patience=0.2)
             faults += [] if told == NO_MEMORY else [f"a message for which there is no memory is answered {told[:40]}"]
+            tries = node.nodes[0].told().count("is not tried again")
+            faults += [] if tries <= 1 + again else [f"{tries} entries of {1 + again} messages have the store end"]
             restarted(node)
             told = named(node, b"till-4", 1, ADD), named(node, b"till-3", 2 + again, ADD)
             faults += [] if told == ("1", str(2 + again)) else [f"the messages after it are answered {told}"]

@@ -124,6 +124,22 @@ class NamedTest(unittest.IsolatedAsyncioTestCase):
         self.assertTrue(b"".join(told).endswith(b"by 7 15\n! 50 OLD-NUMBER\n"), "what the store says itself is its answer")
         self.assertEqual(appender.append.call_count, 2)
 
+    async def test_one_that_is_sent_again_waits_for_the_same_answer(self):
+        one, node, appender, told = self.begun(True)
+        one.data_received(b"by 7 5\na (X)\n")
+        appender.append.call_args.args[3](3)
+        one.data_received(b"by 7 5\na (X)\n")
+        self.assertEqual(appender.append.call_count, 1)
+        one.data_received(b"by 7 5\na (Y)\n")
+        self.assertEqual(appender.append.call_count, 2)
+        appender.append.call_args.args[3](4)
+        node.answers.resolve(3, b"X")
+        node.answers.resolve(4, b"! 55 OTHER-TEXT")
+        await settled()
+        self.assertEqual(b"".join(told), b"by 7 1\nX\nby 7 1\nX\nby 7 15\n! 55 OTHER-TEXT\n")
+        one.data_received(b"by 7 5\na (X)\n")
+        self.assertEqual(appender.append.call_count, 3)
+
 
 class AnswersTest(unittest.TestCase):
     def test_once(self):

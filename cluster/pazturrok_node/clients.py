@@ -67,6 +67,9 @@ class Clients:
         self._connected: collections.OrderedDict[Client, None] = collections.OrderedDict()
         """Those that are connected, by their last request."""
         self.requests: collections.Counter[str] = collections.Counter()
+        self.under_way: dict[bytes, tuple[int, bytes]] = {}
+        """Messages of clients with a name that have no answer: the number and the text of the entry. Who sends one again waits for that: each entry of a
+        message for which there is no memory would end the store twice."""
         self._due: list[Client] = []
         """Those that have answers to send."""
         self._own, self._count = uuid.uuid4().hex, itertools.count()
@@ -276,21 +279,31 @@ class Client(asyncio.Protocol):
         number = request.number or 0
         if request.name is None:
             self._answer(slot, named_answer(number, NO_FRAME))
-        else:
-            self._unplaced += len(request.text)
-            name = name_of_message(request.name, number)
-            self._appender.append(self, name, request.text, lambda placed: self._take_place_of_named(slot, placed))
+            return
+        name = name_of_message(request.name, number)
+        placed, text = self._clients.under_way.get(name, (0, b""))
+        if placed and text == request.text:
+            self._wait_for_named(slot, name, placed)
+            return
+        self._unplaced += len(request.text)
+        self._appender.append(self, name, request.text, lambda placed: self._take_place_of_named(slot, name, placed))
 
-    def _take_place_of_named(self, slot: Slot, placed: Placed | None) -> None:
+    def _take_place_of_named(self, slot: Slot, name: bytes, placed: Placed | None) -> None:
         self._unplaced -= len(slot.request.text)
         if placed is None:
             self.let_go()
         elif isinstance(placed, Refused):
             self._answer(slot, named_answer(slot.request.number or 0, placed.answer))
         else:
-            self._node.answers.answer_to(placed, lambda text: self._take_answer_of_named(slot, text))
+            self._clients.under_way[name] = placed, slot.request.text
+            self._wait_for_named(slot, name, placed)
 
-    def _take_answer_of_named(self, slot: Slot, text: bytes) -> None:
+    def _wait_for_named(self, slot: Slot, name: bytes, placed: int) -> None:
+        self._node.answers.answer_to(placed, lambda text: self._take_answer_of_named(slot, name, placed, text))
+
+    def _take_answer_of_named(self, slot: Slot, name: bytes, placed: int, text: bytes) -> None:
+        if self._clients.under_way.get(name, (0, b""))[0] == placed:
+            del self._clients.under_way[name]
         if text is LOST and self._transport is not None:
             # it was carried out as the store ended, which is asked for its answer by the same message
             self._take_named(slot, slot.request)
