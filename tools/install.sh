@@ -182,7 +182,7 @@ install_library() {
         sed "s|^prefix=.*|prefix=$1|" "$prefix/lib/pkgconfig/pazturrok.pc" >"$room/pc"
         put "$room/pc" "$prefix/lib/pkgconfig/pazturrok.pc" 644
         [ -n "$is_proved" ] || echo "the library for C: $NOT_PROVED" >>"$prefix/share/doc/pazturrok/ORIGIN"
-        for name in include/pazturrok.h lib/libpazturrok.a lib/libpazturrok.so; do
+        for name in include/pazturrok.h include/pazturrok_link.h lib/libpazturrok.a lib/libpazturrok.so lib/libpazturrok_link.a; do
             note "$prefix/$name"
             echo "$prefix/$name"
         done

@@ -18,8 +18,8 @@ VALUES = {
     "Global": "alloc",
     "bool": "true",
     "&mut EngineSlot": "&mut slot",
-    "&mut Done": "&mut done",
-    "&mut Told": "&mut told",
+    "&mut CallResult": "&mut done",
+    "&mut HalfReport": "&mut told",
     "&mut u64": "&mut number",
     "&mut [u8]": "&mut out",
     "&[u8]": 'b""',
@@ -32,8 +32,8 @@ use crate::exports::{{{names}}};
 fn main(rt: HostRuntime) {{
     let alloc: std::alloc::Global = rt.alloc();
     let mut slot = EngineSlot::empty(alloc);
-    let mut done = Done {{ number: 0, answer: 0, orders: 0 }};
-    let mut told = Told {{ generation: 0, records: 0, version: 0 }};
+    let mut done = CallResult {{ number: 0, answer: 0, orders: 0 }};
+    let mut told = HalfReport {{ generation: 0, records: 0, version: 0 }};
     let setting = Setting {{ limit: 1, seed_first: 1, seed_second: 2 }};
     let heads = [RequestHead {{ number: 0, end: 0, is_question: true }}; 1];
     let (mut number, mut out, ends) = (0u64, [0u8; 8], [0u64; 1]);

@@ -56,8 +56,15 @@ class Dying:
     def __init__(self, death: Death) -> None:
         self._death, self._sent, self._is_sent = death, 0, False
         self._write, self._read = Program._write, Program._read
-        Program._write = lambda program, data: self._dying_write(program, data)  # type: ignore[method-assign]
-        Program._read = lambda program: self._dying_read(program)  # type: ignore[method-assign]
+
+        def write(program: Program, data: memoryview) -> int:
+            return self._dying_write(program, data)
+
+        def read(program: Program) -> list[str]:
+            return self._dying_read(program)
+
+        setattr(Program, "_write", write)
+        setattr(Program, "_read", read)
 
     def _is_due(self, place: str) -> bool:
         return self._sent == self._death.message and self._death.place == place
@@ -99,7 +106,8 @@ def live(program: str, folder: str, number: int, form_of: dict[int, str], death:
     """A client that sends messages from a number on, and tells the answer to each; until it is killed."""
     store = opened(program, folder)
     os.write(pipe, json.dumps(["opened", store.position]).encode() + b"\n")
-    store._naming.outcome = lambda answer: answer  # type: ignore[method-assign, assignment]  # (the text as it is)
+    # the text as it is
+    setattr(store._naming, "outcome", str)
     Dying(death)
     for one in range(number, number + death.message + 1):
         told = store.do(form_of[one], number=one)

@@ -9,9 +9,9 @@ import time
 
 import alone
 import linear
-from alone import FORMS, LOST, PROCESSES, PYTHON, begun, blow, value
+from alone import FORMS, LOST, NO_MEMORY, PROCESSES, PYTHON, begun, blow, value
 from cluster import Client, has_readtables
-from refusals import ADD, LOOK
+from refusals import ADD, LARGE, LOOK, small_program
 from waits import LONG, Worker
 
 ADDS = "(LIST (INCF (GET 'COUNTER 'KY)) (INCF (GET '{} 'KY)) \"a\nb\")"
@@ -96,6 +96,25 @@ def none_at_all(node):
         told = client.request(b"by 3", text)
         faults += [] if told == (3, "! 56 NO-FRAME") else [f"{text[:20]!r} is answered {told}"]
     return faults + ([] if client.request(b"read", LOOK)[1] == value(node) else ["the connection does not go on"])
+
+
+def small(folder, program):
+    """A message for which the store has no memory is answered with 90, each time it is sent; the next one of its client goes on, and others do."""
+    node = begun(folder, small_program(folder, program))
+    try:
+        faults = []
+        for again in range(2):
+            told = named(node, b"till-3", 1, LARGE)
+            faults += [] if told == NO_MEMORY else [f"a message for which there is no memory is answered {told[:40]}"]
+            restarted(node)
+            told = named(node, b"till-4", 1, ADD), named(node, b"till-3", 2 + again, ADD)
+            faults += [] if told == ("1", str(2 + again)) else [f"the messages after it are answered {told}"]
+            told = named(node, b"till-3", 1, LARGE)
+            faults += [] if told == LOST else [f"the message that was passed is answered {told[:40]}"]
+            Client(node.places).request(b"by %d" % (2 + again), b"till-3")
+        return faults
+    finally:
+        node.end()
 
 
 def thirty(folder, program):
@@ -192,4 +211,4 @@ def left_out(part):
 
 
 LONG_ONES = ("alone named kills",)
-PARTS = {"alone named": left_out(answered), "alone named thirty": left_out(thirty), "alone named kills": left_out(kills)}
+PARTS = {"alone named": left_out(answered), "alone named small": left_out(small), "alone named thirty": left_out(thirty), "alone named kills": left_out(kills)}

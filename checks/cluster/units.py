@@ -25,6 +25,7 @@ from pazturrok_node import etcd as etcds  # noqa: E402
 from pazturrok_node.answers import Answers  # noqa: E402
 from pazturrok_node.appender import Appender  # noqa: E402
 from pazturrok_node.child import Child  # noqa: E402
+from pazturrok_node.clients import Clients  # noqa: E402
 from pazturrok_node.etcd import Etcd  # noqa: E402
 from pazturrok_node.faults import DeviceError, Fault  # noqa: E402
 from pazturrok_node.frames import ANSWER, LIMIT, LOST, NO_ROOM, REQUEST, Frames, NoFrameError, request_of  # noqa: E402
@@ -68,7 +69,8 @@ class FramesTest(unittest.TestCase):
 
     def test_messages_of_clients(self):
         sent = b"by 18446744073709551615 5\na (X)\nby 0 3\nb.c\nby 7 4\n (Y)\nby 8 2\nb \nby 9 1\n(\n"
-        self.assertEqual([one[1:] for one in self.requests([sent])], [(b"a", (1 << 64) - 1, b" (X)"), (b"b.c", 0, b""), (None, 7, b" (Y)"), (b"b", 8, b" "), (None, 9, b"(")])
+        wanted = [(b"a", (1 << 64) - 1, b" (X)"), (b"b.c", 0, b""), (None, 7, b" (Y)"), (b"b", 8, b" "), (None, 9, b"(")]
+        self.assertEqual([one[1:] for one in self.requests([sent])], wanted)
         for text in (b"by 18446744073709551616 3\na b\n", b"by 01 3\na b\n", b"by 3\na b\n", b"by -1 3\na b\n"):
             with self.assertRaises(NoFrameError, msg=text):
                 self.requests([text])
@@ -78,7 +80,49 @@ class FramesTest(unittest.TestCase):
         text = b"x" * LIMIT
         sent = b"do %d\n%s\n" % (LIMIT, text)
         self.assertEqual(self.requests([sent[place : place + 60_000] for place in range(0, len(sent), 60_000)])[0].text, text)
-        self.assertEqual([head.groups()[:2] for head, _ in Frames(ANSWER).split(b"7 1\nA\nask 1\nB\nby 8 1\nC\n")], [(None, b"7"), (None, None), (b"by ", b"8")])
+        heads = [head.groups()[:2] for head, _ in Frames(ANSWER).split(b"7 1\nA\nask 1\nB\nby 8 1\nC\n")]
+        self.assertEqual(heads, [(None, b"7"), (None, None), (b"by ", b"8")])
+
+
+class NamedTest(unittest.IsolatedAsyncioTestCase):
+    """Messages of clients with a name, by themselves."""
+
+    def begun(self, takes_named):
+        """A client of a node whose log takes such messages, or does not; what it is answered, and what it has appended."""
+        node, appender, told = mock.Mock(), mock.Mock(), []
+        node.log.takes_named, node.is_hearing, node.answers = takes_named, False, Answers()
+        transport = mock.Mock(spec=asyncio.Transport)
+        transport.write.side_effect = told.append
+        transport.get_write_buffer_size.return_value = 0
+        transport.get_extra_info.return_value = None
+        one = Clients(node, appender, mock.Mock()).serve()
+        one.connection_made(transport)
+        return one, node, appender, told
+
+    async def test_a_log_that_takes_none(self):
+        for sent, refusal in ((b"version 2 0\n\n", b"! 58 OTHER-VERSION"), (b"by 1 3\na b\n", b"! 56 NO-FRAME")):
+            one, _, appender, told = self.begun(False)
+            one.data_received(b"version 1 0\n\n" + sent)
+            await settled()
+            self.assertIn(b"(:VERSION 1 ", b"".join(told))
+            self.assertTrue(b"".join(told).endswith(b"0 %d\n%s\n" % (len(refusal), refusal)), told)
+            appender.append.assert_not_called()
+
+    async def test_one_whose_answer_was_lost_is_asked_for_again(self):
+        """Where the store ended and nobody read its answer, the store is sent the same message, and has it."""
+        one, node, appender, told = self.begun(True)
+        one.data_received(b"version 2 0\n\nby 7 5\na (X)\n")
+        for number in (3, 4):
+            sender, name, text, take = appender.append.call_args.args
+            self.assertEqual((sender, name, text), (one, b"a:7", b" (X)"))
+            take(number)
+            if number == 3:
+                node.answers.settle(3)
+        self.assertEqual(appender.append.call_count, 2)
+        node.answers.resolve(4, bytes(bytearray(LOST)))
+        await settled()
+        self.assertTrue(b"".join(told).endswith(b"by 7 15\n! 50 OLD-NUMBER\n"), "what the store says itself is its answer")
+        self.assertEqual(appender.append.call_count, 2)
 
 
 class AnswersTest(unittest.TestCase):

@@ -1,6 +1,8 @@
 /* A link of a client that has a name to the program: the calls of pazturrok_link.h, and clients that are killed between sending and reading.
 
-     link PROGRAM FOLDER KILLS */
+     link PROGRAM FOLDER KILLS PLACE
+
+   At the place a node serves a store. */
 #define _GNU_SOURCE
 #include "pazturrok_link.h"
 #include <signal.h>
@@ -120,6 +122,27 @@ static void look_at_faults(void) {
     pazturrok_link_close(NULL);
 }
 
+static void look_at_node(const char *place) {
+    pazturrok_link *link = NULL, *other = NULL;
+    pazturrok_fault fault;
+    EXPECT(pazturrok_link_connect(place, "till-3", 600, &link, NULL) == 0 && pazturrok_link_last(link) == 0);
+    EXPECT(gives(link, 1, "(SETF (GET 'NT 'KY) 0)", "0"));
+    EXPECT(pazturrok_link_connect(place, "till-4", 600, &other, NULL) == 0);
+    EXPECT(gives(link, 5, PLUS, "1") && gives(other, 5, PLUS, "2") && gives(link, 5, PLUS, "1") && gives(other, 5, PLUS, "2"));
+    EXPECT(refusal(link, 5, "(LIST 1)") == PAZTURROK_OTHER_TEXT && refusal(link, 4, PLUS) == PAZTURROK_OLD_NUMBER && refusal(link, 6, "(FROB)") == 31);
+    EXPECT(tells(link, "(GET 'NT 'KY)", "2"));
+    pazturrok_link_close(link);
+    EXPECT(pazturrok_link_connect(place, "till-3", 600, &link, NULL) == 0 && pazturrok_link_last(link) == 6);
+    EXPECT(refusal(link, 6, "(FROB)") == 31 && gives(link, 7, PLUS, "3") && pazturrok_link_unregister(link) == 0 && gives(link, 1, PLUS, "4"));
+    pazturrok_link_close(link);
+    pazturrok_link_close(other);
+    EXPECT(pazturrok_link_connect(place, "a b", 1, &link, &fault) == PAZTURROK_NO_FRAME && !link);
+    EXPECT(pazturrok_link_connect(place, NULL, 1, &link, &fault) == PAZTURROK_MISUSE);
+    const char *const nowhere[] = {"unix:/no/socket", "/no/socket", "127.0.0.1:1", "[::1]:1", "nothing", "u/x", ":", ""};
+    for (size_t at = 0; at < sizeof nowhere / sizeof nowhere[0]; at++)
+        EXPECT(pazturrok_link_connect(nowhere[at], "a", 0, &link, &fault) == PAZTURROK_DEVICE && fault.system_error != 0 && !link);
+}
+
 /* Carries out messages from a number on, and tells each that was answered; a parent kills it. */
 static void carry_out(int to, uint64_t number) {
     pazturrok_link *link = NULL;
@@ -159,8 +182,9 @@ static uint64_t killed(uint64_t number) {
 }
 
 int main(int count, char **words) {
-    if (count != 4) return 2;
+    if (count != 5) return 2;
     program = words[1], room = words[2];
+    look_at_node(words[4]);
     look_at_answers();
     look_at_numbers();
     look_at_long_texts();

@@ -1,5 +1,7 @@
 """Each call to the system failing, short, torn, interrupted, or the last one of the process."""
 import collections
+import os
+import re
 
 from hostile.store import check, courses, has_messages, library, logged
 from lib.room import DEVICE, INPUT, OUTPUT
@@ -15,6 +17,10 @@ TOLD = {"w": DEVICE, "s": DEVICE, "c": DEVICE, "r": DEVICE, "f": DEVICE, "R": IN
 
 # calls that open a file, make the folder or ask how long a file is: a fault of the device too, or nothing is seen of it
 ASKED = "oml"
+
+# what is told of each of these, and the path behind it
+CALLS = {"w": b"write", "s": b"sync", "c": b"cut", "r": b"read", "f": b"lock", "o": b"open|make", "m": b"make", "l": b"look at|tell the length of"}
+CAUSE = rb"cannot (%s) %s(/half-[ab]|/\.\.)?: [A-Z][^(]*\(os error %d\)\n"
 
 # calls that are made again after an interrupt
 AGAIN = "wrs"
@@ -53,6 +59,14 @@ def run_with(room, one, loaded, number, mode):
     return got, words[1]
 
 
+def is_named(room, hit, mode):
+    """Whether what was told of a call that failed is that call, the path of its file, and the error."""
+    if hit not in CALLS or mode not in ("e5", "e28", "E5") or not room.told.startswith(DEVICE):
+        return True
+    cause = CAUSE % (CALLS[hit], re.escape(os.fsencode(room.store)), int(mode[1:]))
+    return re.fullmatch(cause, room.told[len(DEVICE):]) is not None
+
+
 def tells_refusals(one):
     """Whether standard error tells of a refusal: of one that ends a session, or of a form."""
     return one.ample.status == 1 or not has_messages(one.session) and b"\n! " in b"\n" + one.ample.out
@@ -67,6 +81,7 @@ def disturbed(room, one, loaded, number, mode, kinds, hits):
         want(got == one.ample, where, "no call was disturbed, and yet", got)
         return False
     is_as_ever = got == one.ample
+    want(is_named(room, hit, mode), where, "another call was told, or another file:", room.told)
     if hit == "W" and tells_refusals(one) and got == one.ample._replace(err=got.err):
         # the line of standard error on a refusal may be lost, as the refusal itself is on standard output
         return True

@@ -64,6 +64,8 @@ class Room:
         # (a folder in memory may hold no code)
         self.code = tempfile.mkdtemp(prefix="campaign-")
         self.store = os.path.join(self.folder, "store")
+        # what the last run told on standard error
+        self.told = b""
 
     def path(self, name: str) -> str:
         """A file of this name beside the store."""
@@ -119,4 +121,5 @@ class Room:
         done = subprocess.run(
             called, input=text, capture_output=True, timeout=PATIENCE, env=environment, check=False
         )
+        self.told = done.stderr
         return Answer(done.returncode, done.stdout, without_cause(done.stderr))

@@ -58,6 +58,7 @@ class Named(StoreTest):
         with self.named() as store:
             self.assertEqual(0, store.position)
             first = store.do(ADD)
+            assert isinstance(first, list)
             self.assertEqual([1, 'a "text" \\\n'], first[:2])
             self.assertEqual((1, first), (store.position, store.do(ADD, number=1)))
             self.assertEqual([2, 3], store.do_all([PLUS, PLUS]))

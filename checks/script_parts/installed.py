@@ -162,7 +162,7 @@ for word; do
     case $word in PREFIX=*) prefix=${word#PREFIX=} ;; esac
 done
 mkdir -p "$prefix/include" "$prefix/lib/pkgconfig"
-touch "$prefix/include/pazturrok.h" "$prefix/lib/libpazturrok.a" "$prefix/lib/libpazturrok.so"
+touch "$prefix/include/pazturrok.h" "$prefix/include/pazturrok_link.h" "$prefix/lib/libpazturrok.a" "$prefix/lib/libpazturrok.so" "$prefix/lib/libpazturrok_link.a"
 echo "prefix=$prefix" >"$prefix/lib/pkgconfig/pazturrok.pc"
 """
 

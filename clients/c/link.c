@@ -1,31 +1,36 @@
-/* A link of a client that has a name to the program: frames go to it and answers come back by a pair of sockets, one after the other. */
+/* A link of a client that has a name, to the program or to a node: frames go there and answers come back by a socket, one after the other. */
 #define _GNU_SOURCE
 #include "pazturrok_link.h"
 #include <ctype.h>
 #include <errno.h>
 #include <inttypes.h>
+#include <netdb.h>
 #include <spawn.h>
 #include <stdbool.h>
 #include <stdio.h>
 #include <stdlib.h>
 #include <string.h>
 #include <sys/socket.h>
+#include <sys/time.h>
+#include <sys/un.h>
 #include <sys/wait.h>
+#include <time.h>
 #include <unistd.h>
 
 extern char **environ;
 
-enum { NAME_LIMIT = 100, HEAD_LIMIT = 64, PIECE = 65536, RESTARTS = 5 };
-
+enum { NAME_LIMIT = 100, HEAD_LIMIT = 64, PIECE = 65536, RESTARTS = 5, NO_PACKAGE = 11 };
+/* A node that says nothing for so many seconds is left, and so many microseconds are between two tries. */
+enum { PATIENCE = 10, PAUSE = 50000 };
 /* The greatest text of a frame. */
 #define FRAME_LIMIT 1048576u
 
-#define NO_PACKAGE 11
-
 struct pazturrok_link {
-    char *program, *folder;
+    char *program, *folder;     /* the program and its folder; or the place of a node, and NULL */
+    int seconds;                /* so long a node is looked for */
     char name[NAME_LIMIT + 1];
-    pid_t pid;                  /* of the program, or 0 */
+    bool is_open;               /* whether the socket leads anywhere */
+    pid_t pid;                  /* of the program */
     int socket;
     uint64_t last;
     bool has_failed;
@@ -37,7 +42,7 @@ struct pazturrok_link {
 };
 
 /* Why an exchange has no answer. */
-enum outcome { ANSWERED, WAS_KILLED, HAS_ENDED, MALFORMED, WITHOUT_MEMORY };
+enum outcome { ANSWERED, WAS_KILLED, HAS_ENDED, MALFORMED, WITHOUT_MEMORY, REFUSED };
 
 static int refuse(struct pazturrok_link *link, int number, int error, const char *cause) {
     link->fault.number = number;
@@ -48,15 +53,14 @@ static int refuse(struct pazturrok_link *link, int number, int error, const char
 
 /* The program: how it is started, and how it ended */
 
-/* Ends the program, and says whether it was killed. */
-static bool end_program(struct pazturrok_link *link) {
+/* Ends the program, or leaves the node, and says whether the same frame may be sent again: the program was killed, or it is a node. */
+static bool leave(struct pazturrok_link *link) {
     int status = 0;
-    if (link->pid == 0) return false;
-    (void)close(link->socket);
-    while (waitpid(link->pid, &status, 0) < 0 && errno == EINTR) {}
-    link->pid = 0;
+    if (link->is_open) (void)close(link->socket);
+    while (link->is_open && link->folder && waitpid(link->pid, &status, 0) < 0 && errno == EINTR) {}
+    link->is_open = false;
     link->at = link->end = 0;
-    return WIFSIGNALED(status);
+    return !link->folder || WIFSIGNALED(status);
 }
 
 static int spawn_over(struct pazturrok_link *link, int its_end) {
@@ -69,7 +73,6 @@ static int spawn_over(struct pazturrok_link *link, int its_end) {
     if (!error) error = posix_spawn_file_actions_adddup2(&actions, its_end, STDOUT_FILENO);
     if (!error) error = posix_spawnp(&link->pid, link->program, &actions, NULL, words, environ);
     (void)posix_spawn_file_actions_destroy(&actions);
-    if (error) link->pid = 0;
     return error;
 }
 
@@ -81,6 +84,47 @@ static int start(struct pazturrok_link *link) {
     (void)close(ends[1]);
     if (error) (void)close(ends[0]);
     else link->socket = ends[0];
+    return error;
+}
+
+/* Nodes */
+
+/* A socket that is connected to a path; an error of the system, or 0. */
+static int connect_to_path(int *found, const char *path) {
+    struct sockaddr_un address = {.sun_family = AF_UNIX};
+    if (strlen(path) >= sizeof address.sun_path) return ENAMETOOLONG;
+    (void)snprintf(address.sun_path, sizeof address.sun_path, "%s", path);
+    *found = socket(AF_UNIX, SOCK_STREAM | SOCK_CLOEXEC, 0);
+    if (*found < 0 || connect(*found, (struct sockaddr *)&address, sizeof address) == 0) return *found < 0 ? errno : 0;
+    int error = errno;
+    (void)close(*found);
+    return error;
+}
+
+/* The same of HOST:PORT. */
+static int connect_to_host(int *found, const char *place) {
+    char host[256];
+    const char *colon = strrchr(place, ':');
+    struct addrinfo hints = {.ai_socktype = SOCK_STREAM}, *all, *one;
+    bool has_brackets = place[0] == '[' && colon && colon[-1] == ']';
+    int length = colon ? (int)(colon - place) - 2 * has_brackets : 0, error = EINVAL;
+    (void)snprintf(host, sizeof host, "%.*s", length, place + has_brackets);
+    if (!colon || getaddrinfo(host, colon + 1, &hints, &all) != 0) return error;
+    for (one = all; one && error != 0; one = one->ai_next) {
+        *found = socket(one->ai_family, one->ai_socktype | SOCK_CLOEXEC, one->ai_protocol);
+        error = *found < 0 || connect(*found, one->ai_addr, one->ai_addrlen) < 0 ? errno : 0;
+        if (error && *found >= 0) (void)close(*found);
+    }
+    freeaddrinfo(all);
+    return error;
+}
+
+static int connect_to_node(struct pazturrok_link *link) {
+    const char *place = link->program;
+    struct timeval patience = {.tv_sec = PATIENCE};
+    bool has_prefix = strncmp(place, "unix:", 5) == 0, is_path = has_prefix || strchr(place, '/');
+    int error = is_path ? connect_to_path(&link->socket, place + 5 * has_prefix) : connect_to_host(&link->socket, place);
+    if (!error) (void)setsockopt(link->socket, SOL_SOCKET, SO_RCVTIMEO, &patience, sizeof patience);
     return error;
 }
 
@@ -181,49 +225,70 @@ static struct frame make_frame(const struct pazturrok_link *link, const uint64_t
     return frame;
 }
 
-/* Starts the program, if none runs, and has a frame answered. A program that has come so far tells its position first. */
-static enum outcome exchange(struct pazturrok_link *link, const struct frame *frame) {
-    if (link->pid == 0) {
-        char line[HEAD_LIMIT];
-        int error = start(link);
-        if (error) {
-            (void)refuse(link, PAZTURROK_DEVICE, error, strerror(error));
-            return HAS_ENDED;
-        }
-        (void)refuse(link, PAZTURROK_DEVICE, 0, "the program has ended; standard error tells why");
-        if (!receive_line(link, line)) return HAS_ENDED;
-        if (strncmp(line, "at ", 3) != 0) return MALFORMED;
-    }
-    (void)refuse(link, PAZTURROK_DEVICE, 0, "the program has ended; standard error tells why");
-    return send_whole(link, frame->bytes, frame->length) ? read_answer(link, frame->wanted) : HAS_ENDED;
-}
-
-/* Has a frame answered, which is sent again where the program was killed; the number of a fault, or 0. */
-static int exchange_again(struct pazturrok_link *link, const struct frame *frame) {
-    enum outcome outcome = WAS_KILLED;
-    if (!frame->bytes) return refuse(link, PAZTURROK_NO_MEMORY, 0, "");
-    for (int tries = 0; outcome == WAS_KILLED && tries <= RESTARTS; tries++) {
-        outcome = exchange(link, frame);
-        if (outcome == HAS_ENDED && end_program(link)) outcome = WAS_KILLED;
-    }
-    if (outcome == ANSWERED) return 0;
-    (void)end_program(link);
-    link->has_failed = true;
-    if (outcome == WITHOUT_MEMORY) return refuse(link, PAZTURROK_NO_MEMORY, 0, "the answer has no room");
-    if (outcome == MALFORMED) return refuse(link, PAZTURROK_DEVICE, 0, "the program answered what is none of its answers");
-    return link->fault.number;
-}
-
 /* The number of the refusal whose line the answer is, or 0: a value never begins so. */
 static int refusal_of(const struct pazturrok_link *link) {
     return link->length > 2 && memcmp(link->answer, "! ", 2) == 0 ? atoi(link->answer + 2) : 0;
 }
 
+/* What a program says first is its position, and what a node says to the version of its frames is a list, or a refusal. */
+static enum outcome greet(struct pazturrok_link *link) {
+    static const char version[] = "version 2 0\n\n";
+    if (link->folder) {
+        char line[HEAD_LIMIT];
+        return !receive_line(link, line) ? HAS_ENDED : strncmp(line, "at ", 3) == 0 ? ANSWERED : MALFORMED;
+    }
+    if (!send_whole(link, version, sizeof version - 1) || (link->at == link->end && !receive(link))) return HAS_ENDED;
+    bool is_refused = link->held[link->at] == '0';
+    enum outcome outcome = read_answer(link, is_refused ? "0 " : "ask ");
+    return outcome == ANSWERED && is_refused ? REFUSED : outcome;
+}
+
+/* Starts the program, or connects to the node, where that is not done, and has a frame answered. */
+static enum outcome exchange(struct pazturrok_link *link, const struct frame *frame) {
+    enum outcome outcome = ANSWERED;
+    if (!link->is_open) {
+        int error = link->folder ? start(link) : connect_to_node(link);
+        (void)refuse(link, PAZTURROK_DEVICE, error, strerror(error));
+        if (error) return HAS_ENDED;
+        link->is_open = true;
+        outcome = greet(link);
+    }
+    (void)refuse(link, PAZTURROK_DEVICE, 0, link->folder ? "the program has ended; standard error tells why" : "the connection to the node was lost");
+    if (outcome != ANSWERED) return outcome;
+    return send_whole(link, frame->bytes, frame->length) ? read_answer(link, frame->wanted) : HAS_ENDED;
+}
+
+static double now(void) {
+    struct timespec time;
+    (void)clock_gettime(CLOCK_MONOTONIC, &time);
+    return (double)time.tv_sec + (double)time.tv_nsec / 1e9;
+}
+
+/* Has a frame answered, which is sent again where the program was killed, or the connection was lost; the number of a fault, or 0. */
+static int exchange_again(struct pazturrok_link *link, const struct frame *frame) {
+    enum outcome outcome = WAS_KILLED;
+    double end = now() + link->seconds;
+    if (!frame->bytes) return refuse(link, PAZTURROK_NO_MEMORY, 0, "");
+    for (int tries = 0; outcome == WAS_KILLED && (link->folder ? tries <= RESTARTS : tries == 0 || now() < end); tries++) {
+        if (tries > 0 && !link->folder) (void)usleep(PAUSE);
+        outcome = exchange(link, frame);
+        if (outcome == HAS_ENDED && leave(link)) outcome = WAS_KILLED;
+    }
+    if (outcome == ANSWERED) return 0;
+    (void)leave(link);
+    if (outcome == REFUSED) return refuse(link, refusal_of(link), 0, link->answer + 2);
+    /* under the same number it may be sent to a node again */
+    link->has_failed = link->folder != NULL;
+    if (outcome == WITHOUT_MEMORY) return refuse(link, PAZTURROK_NO_MEMORY, 0, "the answer has no room");
+    if (outcome == MALFORMED) return refuse(link, PAZTURROK_DEVICE, 0, "the program answered what is none of its answers");
+    return link->fault.number;
+}
+
 static int call_with(struct pazturrok_link *link, struct frame frame) {
     int number = exchange_again(link, &frame);
     free(frame.bytes);
-    if (number == 0) number = refusal_of(link);
-    else return number;
+    if (number != 0) return number;
+    number = refusal_of(link);
     return refuse(link, number, 0, number ? link->answer + 2 : "");
 }
 
@@ -263,24 +328,39 @@ static int take_last(struct pazturrok_link *link) {
     return 0;
 }
 
-int pazturrok_link_open(const char *program, const char *folder, const char *client_name, pazturrok_link **link, pazturrok_fault *fault) {
-    struct pazturrok_link *made = link ? calloc(1, sizeof *made) : NULL;
-    pazturrok_fault found = {link ? PAZTURROK_NO_MEMORY : PAZTURROK_MISUSE, 0, ""};
-    if (link) *link = NULL;
-    if (made && program && folder && client_name) {
-        made->program = strdup(program);
-        made->folder = strdup(folder);
-        if (!is_name(client_name)) found.number = refuse(made, PAZTURROK_NO_FRAME, 0, "56 NO-FRAME");
-        else if (made->program && made->folder) {
-            (void)snprintf(made->name, sizeof made->name, "%s", client_name);
-            found.number = take_last(made);
-        }
-        if (found.number != PAZTURROK_NO_MEMORY && found.number != 0) found = made->fault;
-    } else if (made) found.number = PAZTURROK_MISUSE;
-    if (found.number == 0) *link = made;
-    else pazturrok_link_close(made);
+/* Fills a link that was made, for a program over a folder, or for the place of a node: its number is that of the fault, or 0. */
+static void begin(struct pazturrok_link *made, const char *program, const char *folder, const char *name) {
+    made->program = strdup(program);
+    made->folder = folder ? strdup(folder) : NULL;
+    if (!made->program || (folder && !made->folder)) (void)refuse(made, PAZTURROK_NO_MEMORY, 0, "");
+    else if (!is_name(name)) (void)refuse(made, PAZTURROK_NO_FRAME, 0, "56 NO-FRAME");
+    else {
+        (void)snprintf(made->name, sizeof made->name, "%s", name);
+        if (take_last(made) == 0) made->fault.number = 0;
+    }
+}
+
+static int begun(struct pazturrok_link *made, pazturrok_link **link, pazturrok_fault *fault) {
+    pazturrok_fault found = made ? made->fault : (pazturrok_fault){link ? PAZTURROK_NO_MEMORY : PAZTURROK_MISUSE, 0, ""};
+    if (link) *link = found.number == 0 ? made : NULL;
+    if (found.number != 0) pazturrok_link_close(made);
     if (fault) *fault = found;
     return found.number;
+}
+
+int pazturrok_link_open(const char *program, const char *folder, const char *client_name, pazturrok_link **link, pazturrok_fault *fault) {
+    struct pazturrok_link *made = link ? calloc(1, sizeof *made) : NULL;
+    if (made && program && folder && client_name) begin(made, program, folder, client_name);
+    else if (made) (void)refuse(made, PAZTURROK_MISUSE, 0, "an argument is NULL");
+    return begun(made, link, fault);
+}
+
+int pazturrok_link_connect(const char *place, const char *client_name, int seconds, pazturrok_link **link, pazturrok_fault *fault) {
+    struct pazturrok_link *made = link ? calloc(1, sizeof *made) : NULL;
+    if (made) made->seconds = seconds;
+    if (made && place && client_name && seconds >= 0) begin(made, place, NULL, client_name);
+    else if (made) (void)refuse(made, PAZTURROK_MISUSE, 0, "an argument is NULL, or a time is none");
+    return begun(made, link, fault);
 }
 
 uint64_t pazturrok_link_last(const pazturrok_link *link) { return link ? link->last : 0; }
@@ -307,9 +387,9 @@ void pazturrok_link_fault_of(const pazturrok_link *link, pazturrok_fault *fault)
 
 void pazturrok_link_close(pazturrok_link *link) {
     if (!link) return;
-    if (link->pid) (void)shutdown(link->socket, SHUT_WR);
-    while (link->pid && receive(link)) {}
-    (void)end_program(link);
+    if (link->is_open && link->folder) (void)shutdown(link->socket, SHUT_WR);
+    while (link->is_open && link->folder && receive(link)) {}
+    (void)leave(link);
     free(link->program);
     free(link->folder);
     free(link->answer);

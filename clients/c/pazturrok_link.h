@@ -1,15 +1,19 @@
-/* A link of a client that has a name to the program, which serves a store in a folder (`run DIR --messages`).
+/* A link of a client that has a name to the program, which serves a store in a folder (`run DIR --messages`); or to the node of one machine, which
+   serves one to many clients.
 
    The store keeps the number of the client's last message, with its form and its answer. So a message that is sent again under its number
    is answered again, word for word: by a process that was killed between sending and reading, and is started again, or by this one where
    the program was killed. Write down the number and the form, call pazturrok_link_do, and cross them out once it has answered.
 
-   A link belongs to one thread at a time, and after a fork to the parent. One program at a time has a store open, so there is one link to it.
+   A link belongs to one thread at a time, and after a fork to the parent; a name belongs to one link at a time. One program at a time has a store
+   open, so there is one link to it by a program. To a node there may be many, of different names.
 
    Numbers of calls are those of pazturrok.h, and of messages with a name: 48 a form has overwritten the entry of the client; 49 the message was
    carried out, and its answer is not kept; 50 the number is below that of the client's last message; 54 the store has as many clients as it may;
    55 the last message has this number and another form; 56 the name is none; 57 the form is too long. After all of these nothing was done. 60
-   the program cannot be started, or has ended by itself, and 61 the link has failed so before: close it, and open it again. */
+   the program cannot be started, or has ended by itself, and 61 the link has failed so before: close it, and open it again. Of a node 60 says that
+   none answered in time: the same message may be sent again under its number at once, by the same link. 54 is also that the node has no room, and
+   58 that it knows no clients with a name. */
 #ifndef PAZTURROK_LINK_H
 #define PAZTURROK_LINK_H
 #include "pazturrok.h"
@@ -31,6 +35,10 @@ enum {
 /* Starts the program over a folder for the client of this name: 1 to 100 letters, digits, dots, hyphens and underscores. Fills `*link`; or,
    where the number is not 0, `*fault`, which may be NULL. */
 int pazturrok_link_open(const char *program, const char *folder, const char *client_name, pazturrok_link **link, pazturrok_fault *fault);
+
+/* Connects to a node, `unix:` and the path of its socket or HOST:PORT without TLS, for the client of this name. A call tries for so many seconds to
+   have an answer; a node that says nothing for ten is left, and tried again. */
+int pazturrok_link_connect(const char *place, const char *client_name, int seconds, pazturrok_link **link, pazturrok_fault *fault);
 
 /* The number of the client's last message, as the store had it when the link was opened, or as it was sent since; 0 where there is none. */
 uint64_t pazturrok_link_last(const pazturrok_link *link);

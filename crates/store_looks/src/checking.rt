@@ -68,13 +68,7 @@ where
     match checked_in(rt.alloc(), words) {
         Ok(asked) => match check_asked(rt, macros, asked, input, output) {
             Ok(status) => end_with(faults, status),
-            Err(unlooked) => {
-                let folder = match asked.store {
-                    Some(folder) => folder,
-                    None => "",
-                };
-                end_unlooked(faults, unlooked, None, folder)
-            }
+            Err(unlooked) => end_unlooked(faults, unlooked, None, asked.store.unwrap_or("")),
         },
         Err(error) => {
             let status = answer_words(&error, output, faults);

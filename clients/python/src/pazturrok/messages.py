@@ -316,6 +316,9 @@ class MessageStore(Shared, Properties):
                 error.folder = self._folder
                 if error.status >= 0 or stops == RESTARTS:
                     raise
+            except BaseException:
+                self._leave()
+                raise
         self._last = max(self._last, position)
         return position
 
