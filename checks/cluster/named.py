@@ -27,6 +27,21 @@ with NodeStore([place], client_name=name, patience=3.0) as store:
         print(number, *store.do(form.replace("{}", name.upper()), number=number)[:2], flush=True)
         number += 1
 """
+OLDER = """
+import os, subprocess, sys
+child = subprocess.Popen(["{program}", *sys.argv[1:]], stdin=subprocess.PIPE)
+while data := os.read(0, 65536):
+    if data.startswith(b"by ") or b"\\nby " in data:
+        child.stdin.close()
+        child.wait()
+        sys.exit(1)
+    child.stdin.write(data)
+    child.stdin.flush()
+child.stdin.close()
+sys.exit(child.wait())
+"""
+"""A program that takes a message of a client for no frame."""
+
 KILLS = 40
 """How many clients are killed by `kills`."""
 
@@ -113,6 +128,20 @@ def small(folder, program):
             faults += [] if told == LOST else [f"the message that was passed is answered {told[:40]}"]
             Client(node.places).request(b"by %d" % (2 + again), b"till-3")
         return faults
+    finally:
+        node.end()
+
+
+def unknown(folder, program):
+    """A program that knows no clients with a name: a message of one is answered so, and the others go on."""
+    path = os.path.join(folder, "older")
+    with open(path, "w", encoding="ascii") as file:
+        file.write(f"#!{sys.executable}\n{OLDER.format(program=program)}")
+    os.chmod(path, 0o755)
+    node = begun(folder, path)
+    try:
+        told = named(node, b"till-3", 1, ADD), Client(node.places).request(b"do after", ADD)[1], named(node, b"till-3", 1, ADD), value(node)
+        return [] if told == ("! 56 NO-FRAME", "1", "! 56 NO-FRAME", "1") else [f"an older program is answered {told}"]
     finally:
         node.end()
 
@@ -211,4 +240,4 @@ def left_out(part):
 
 
 LONG_ONES = ("alone named kills",)
-PARTS = {"alone named": left_out(answered), "alone named small": left_out(small), "alone named thirty": left_out(thirty), "alone named kills": left_out(kills)}
+PARTS = {"alone named": left_out(answered), "alone named unknown": left_out(unknown), "alone named small": left_out(small), "alone named thirty": left_out(thirty), "alone named kills": left_out(kills)}

@@ -1,4 +1,4 @@
-"""Random forms that are nearly `(SETF (GET 'S 'I) literal)`, in sessions."""
+"""Random forms that are nearly `(SETF (GET 'S 'I) literal)` or `(GET 'S 'I)`, in sessions."""
 
 from __future__ import annotations
 
@@ -102,9 +102,10 @@ class Session:
         return self.draw.choice([text[:at] + other + text[at:], text[:at] + text[at + 1 :], text[:at] + other + text[at + 1 :], text[:at]])
 
     def form(self) -> str:
-        """A form: every second one is carried out from its text, if its names are there."""
-        if self.draw.randrange(2):
-            made = f"(SETF (GET '{self.capitals()} '{self.capitals()}) {self.draw.choice(PLAIN_LITERALS)})"
+        """A form: five in eight are carried out or answered from their text, if their names are there."""
+        place, direct = f"(GET '{self.capitals()} '{self.capitals()})", self.draw.randrange(8)
+        if direct < 5:
+            made = f"(SETF {place} {self.draw.choice(PLAIN_LITERALS)})" if direct < 3 else self.draw.choice(["", "", "", " ", "\t"]) + place
             return self.mutated(made) if self.draw.randrange(8) == 0 and self.is_faulty() else made
         kind = self.draw.randrange(44)
         if kind < 3:

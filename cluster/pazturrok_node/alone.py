@@ -16,8 +16,9 @@ logger = logging.getLogger(__name__)
 BEAT = 1.0
 """Seconds between two looks for what is old."""
 
-PASSED = (b"! 64 ", b"! 65 ", b"! 90 ")
-"""A form at which the store ends twice with one of these is answered so: it does not fit, and the next ones may."""
+PASSED = (b"! 56 ", b"! 64 ", b"! 65 ", b"! 90 ")
+"""A form at which the store ends twice with one of these is answered so: it does not fit, or the program knows no such message, and the next ones
+may."""
 
 
 class AloneKeeper(Keeper):

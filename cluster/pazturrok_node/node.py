@@ -13,7 +13,7 @@ from typing import NamedTuple
 from .answers import Answers
 from .child import Child
 from .faults import Fault
-from .frames import ANSWER, LOST, NO_MEMORY, Frames, NoFrameError, message, named_message, question
+from .frames import ANSWER, LOST, NO_FRAME, NO_MEMORY, Frames, NoFrameError, message, named_message, question
 from .log import COMPARED, MARKS, BehindError, Entry, Keeper, Log, Reached, is_named
 from .tasks import Waits, end_all
 
@@ -21,6 +21,9 @@ logger = logging.getLogger(__name__)
 
 UNKEPT = (b"! 46 ", b"! 48 ", b"! 54 ")
 """A message of a client that is refused so may have no entry in the table of clients: fed again, it could be carried out."""
+
+NO_FRAMES = 1
+"""The status of a program that was sent bytes which it takes for no frame."""
 
 NOTHING = b"NIL"
 """What a store is fed in place of an entry that is skipped."""
@@ -139,7 +142,7 @@ class Node:
                 self.fault.look(was_open=True)
                 self._count_end()
                 if self.stuck:
-                    await self._keeper.ended_at(self.stuck, self.fault.refusal)
+                    await self._keeper.ended_at(self.stuck, self.fault.refusal or self._refusal_of(status))
                 pause = 0.05 if self.position > before else pause
             await asyncio.sleep(pause)
             pause = min(2 * pause, LONGEST_PAUSE)
@@ -168,6 +171,11 @@ class Node:
         self._suspect = number or self._suspect
         if not asked:
             self._ended_at = (number, self._ended_at[1] + 1 if number == self._ended_at[0] else 1)
+
+    def _refusal_of(self, status: int) -> bytes:
+        """Why the store has ended with this status, where it told no number: an older one knows no messages of clients with a name."""
+        is_unknown = status == NO_FRAMES and self._sent and is_named(self._sent[0].name)
+        return NO_FRAME if is_unknown else b""
 
     def _refuse(self, texts: set[bytes]) -> None:
         """Refuses these questions, by which the store has ended again, to all who wait with them. A client that gives up sooner than a slow
