@@ -9,13 +9,13 @@ SCRIPT = "pazturrok"
 
 HEAD = """# The commands
 
-Every command of the program with its options, in the words of its help. `checks/docs --write` makes this page from the sources of the command line (`crates/command_words`). What to do with them is in [operating.md](operating.md), which status a command ends with [there too](operating.md#the-exit-status).
+Every command of the program with its options, in the words of its help. `checks/docs --write` makes this page from the sources of the command line (`crates/command_words`). What to do with them is in [operating.md](operating.md) and, for those that load, look and copy, in [data.md](data.md). The [exit status](operating.md#the-exit-status) says how a command ended.
 
 An option that is not given is off, but for `--snapshot-ratio`, which is 10 then. **`--existing`** is an option of every command but `check`: the command refuses a folder that holds no store, and makes nothing. `show`, `info`, `log` and `backup` take it too, and nothing changes by it: a command that only looks makes nothing in any case. The script `./pazturrok` gives `--existing` to `snapshot`, `upgrade`, `export`, `dump` and `verify` in any case, so `run` alone makes a store.
 
 `--help` after a command has its help with an example; `--version` tells the version of the program and of the files that it writes. `./pazturrok help GET` tells what the operator `GET` does, with an example, and `./pazturrok help 31` or `help UNKNOWN-OPERATOR` what this refusal means and what to do; so of each [operator](../use/operators.md) and each [number](../use/refusals.md). In a session at a terminal the lines `help GET` and `(help 31)` tell the same. `./pazturrok operators` lists the operators, and so does `help operators`.
 
-Four variables of the environment count: `PAZTURROK_MEMORY` ([Memory](operating.md#memory)), `PAZTURROK_REASONS` ([what a refusal is about](../use/refusals.md#what-a-refusal-is-about)), `PAZTURROK_HISTORY` ([At a terminal](operating.md#at-a-terminal)), and `PAZTURROK_PAGES`, which names a file with what the pages say, and is set by the script. There is no file of settings.
+Four variables of the environment count: `PAZTURROK_MEMORY` ([Memory](operating.md#memory)), `PAZTURROK_REASONS` ([what a refusal is about](../use/refusals.md#what-a-refusal-is-about)), `PAZTURROK_HISTORY` ([At a terminal](data.md#at-a-terminal)), and `PAZTURROK_PAGES`, which names a file with what the pages say, and is set by the script. There is no file of settings.
 """
 
 
