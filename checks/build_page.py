@@ -13,13 +13,13 @@ def chain_of(tasks, clock):
     while proofs:
         chain.append(max(proofs, key=lambda it: clock[it][1]))
         proofs = tasks[chain[-1]].waits
-    return [crate for crate, _ in reversed(chain)]
+    return [crate for crate, *_ in reversed(chain)]
 
 
 def rows_of(lanes):
     """Returns a row for each crate, in the order in which they were proved."""
     chain, usage = chain_of(lanes.tasks, lanes.clock), lanes.usage
-    for (crate, kind), (begun, ended) in sorted(lanes.clock.items(), key=lambda it: it[1][1]):
+    for (crate, kind, *_), (begun, ended) in sorted(lanes.clock.items(), key=lambda it: it[1][1]):
         if kind == "proof":
             minutes = [usage.minutes(crate, it) for it in ("proof", "tests", "edits")]
             cells = [f"{it:.1f}" if it else "" for it in minutes]
