@@ -10,6 +10,8 @@ from lib.places import MEMORY, files_of
 # What `run` takes that is no matter of the command line.
 OWN = ("--rescue", "--strict", "--existing", "--snapshot-every", "--snapshot-ratio")
 UNSPLIT = 77
+# What the program tells of a fault of the device before its cause, and the library does not: the call and the path.
+PATH = re.compile(rb"(! 60 DEVICE\n)(?:cannot [a-z ]+ )?DIR[^:\n]*: ")
 
 
 class Unplayable(Exception):
@@ -62,7 +64,7 @@ def difference(step, player, program, folder, other):
         found = played.text_of(*step.answer(program, folder))
         return None if found == by_program.replace(other.encode(), folder.encode()) else f"{step.words}: {found!r}"
     found = answered(step, player, folder)
-    wanted = played.joined(step.wanted)
+    wanted = PATH.sub(rb"\1", played.joined(step.wanted))
     if found != wanted and not (step.is_open and found.startswith(wanted)):
         return f"{step.words}: wanted {wanted[:300]!r}, found {found[:300]!r}"
     if not are_same(files_of(folder), files_of(other)):
