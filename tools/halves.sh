@@ -5,9 +5,12 @@
 OPEN_GATE=165
 # A new store has so many bytes, so what a crash leaves of one that never began has no more.
 NEW_STORE=154
+# Halves of at most so many bytes are looked at before the program is started: that takes some milliseconds.
+SOON_LOOKED_AT=1048576
 
-# The first byte of a file; nothing where it cannot be read, or has none.
+# The first byte of a file; nothing where it cannot be read, or has none. Nothing but a file is read: a reading of a pipe would have no end.
 first_byte() {
+    [ -f "$1" ] || return 0
     byte=$(od -An -v -t u1 -N 1 "$1" 2>/dev/null) || :
     echo "${byte##* }"
 }
@@ -17,14 +20,48 @@ first_byte() {
 seem_damaged() {
     longest=0 longest_half=''
     for half in "$1/half-a" "$1/half-b"; do
-        if [ -s "$half" ]; then
-            bytes=$(wc -c <"$half") || return 1
+        if [ -f "$half" ] && [ -s "$half" ]; then
+            # what cannot be read the program itself refuses
+            bytes=$( (wc -c <"$half") 2>/dev/null) || return 1
             first=$(first_byte "$half")
             if [ -z "$first" ] || [ "$first" -eq "$OPEN_GATE" ]; then return 1; fi
             if [ "$bytes" -gt "$longest" ]; then longest=$bytes longest_half=$half; fi
         fi
     done
     [ "$longest" -gt "$NEW_STORE" ]
+}
+
+# Sets `missing` and `beside` where a folder has one of the halves and not the other. A half-a without a byte is what a first start leaves.
+lacks_half() {
+    if [ -e "$1/half-b" ] && [ ! -e "$1/half-a" ]; then
+        missing=half-a beside=half-b
+    elif [ -f "$1/half-a" ] && [ -s "$1/half-a" ] && [ ! -e "$1/half-b" ]; then
+        missing=half-b beside=half-a
+    else
+        return 1
+    fi
+}
+
+# Tells that a half is missing. The program makes it anew where --existing does not stand, and cannot tell it from one that a first start did not come
+# to make: so nothing is refused here. It is looked at twice, as another process may make the two just now.
+tell_missing_half() {
+    lacks_half "$1" || return 0
+    sleep 0.2
+    lacks_half "$1" || return 0
+    say "$1 has $beside and no $missing: a file is missing. See \"Files that are missing\" in docs/run/operating.md; run without --existing makes it anew, and then the store may be older, or empty"
+}
+
+# Tells what to do where the program is about to say of the files of a small store that they mean no world, with its number alone.
+tell_damage() {
+    bytes=0
+    for half in "$1/half-a" "$1/half-b"; do
+        [ -f "$half" ] || return 0
+        bytes=$((bytes + $(stat -L -c %s "$half" 2>/dev/null || echo 0)))
+    done
+    [ "$bytes" -le "$SOON_LOOKED_AT" ] || return 0
+    case $("$program" info "$1" 2>&1 >/dev/null </dev/null) in
+        '! 62 '*) say "$1: its files are damaged; keep a copy of both, and see \"Damaged files\" in docs/run/operating.md (help 62)" ;;
+    esac
 }
 
 # Refuses such files: the program would take them for a store that never began, and begin a new one over them. Where a process serves the store it
@@ -37,7 +74,11 @@ look_at_halves() {
     find_folder "$@"
     [ -n "$folder" ] || return 0
     tell_version
-    if ! seem_damaged "$folder" || holder_of "$folder/half-a" >/dev/null; then return 0; fi
+    tell_missing_half "$folder"
+    if ! seem_damaged "$folder" || holder_of "$folder/half-a" >/dev/null; then
+        tell_damage "$folder"
+        return 0
+    fi
     sleep 0.2
     seem_damaged "$folder" || return 0
     say "$longest_half has $longest bytes, and neither half of $folder begins as that of a store: they are damaged, or no store's. Nothing was opened, as a new store would be written over them. Keep a copy of both files and see \"Damaged files\" in docs/run/operating.md; for a new store name another folder"
@@ -59,7 +100,11 @@ lacks_store() {
     # shellcheck disable=SC2086 # a name each
     near=$(nearest "$name" $stores)
     told="there is no folder $1"
-    [ ! -d "$1" ] || told="$1 has no half-a and no half-b, so it holds no store"
+    if [ -d "$1" ]; then
+        told="$1 has no half-a and no half-b, so it holds no store"
+    elif [ -e "$path" ]; then
+        told="$path is a file and no folder"
+    fi
     say "$told${near:+; did you mean $round$near?}"
 }
 
@@ -75,6 +120,7 @@ tell_no_store() {
 
 # The generation and the version of an open half; nothing of another.
 head_of() {
+    [ -f "$1" ] || return 0
     # shellcheck disable=SC2046 # a byte each
     set -- $(od -An -v -t u1 -N 11 "$1" 2>/dev/null)
     [ "${1:-}" = "$OPEN_GATE" ] && [ $# -eq 11 ] || return 0

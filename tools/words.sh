@@ -66,7 +66,7 @@ is_command() {
 refuse_command() {
     # shellcheck disable=SC2046 # a word each
     found=$(nearest "$1" $(commands) $(own_words) --help --version)
-    refuse "there is no command '$1'; ${found:+did you mean $found? }those of the program are $(commands | paste -sd ' ' -)"
+    refuse "there is no command '$1'; ${found:+did you mean $found? }those of the program are $(commands | paste -sd ' ' -), and those of this script $(own_words | paste -sd ' ' -)"
 }
 
 # Refuses a command that there is not.

@@ -60,6 +60,8 @@
   (expect "a folder without a store" (list 'stopped (subfolder "no store") t)
           (multiple-value-bind (name condition) (signalled (open-store *program* (subfolder "no store") :existing t))
             (list name (stopped-folder condition) (and (search (format nil " as it opened ~A" (subfolder "no store")) (princ-to-string condition)) t))))
+  (expect "a folder with slashes at its end" (subfolder "no store")
+          (stopped-folder (nth-value 1 (signalled (open-store *program* (format nil "~A//" (subfolder "no store")) :existing t)))))
   (expect "nor for messages" (list 'stopped (subfolder "no store"))
           (multiple-value-bind (name condition) (signalled (open-feed *program* (subfolder "no store") :existing t))
             (list name (stopped-folder condition)))))
@@ -67,7 +69,7 @@
 (define-check lines-on-refusals-are-no-fault ()
   (with-answers (store (list (lines "! 31 UNKNOWN-OPERATOR"))
                        :told (list (lines "after 70 bytes: 31: no operator FOO (help 31)" "100 refusals were told; of the next ones there is no line here"))
-                       :end (lines "! 60 DEVICE"))
+                       :end (lines "pazturrok: compiled, not proved: ./pazturrok build proves it" "! 60 DEVICE"))
     (expect "no reason" nil (refused-reason (nth-value 1 (signalled (send store '(foo))))))
     (expect "the fault alone" "! 60 DEVICE" (stopped-fault (nth-value 1 (signalled (send store 1)))))))
 

@@ -76,6 +76,9 @@ class WhichForm(StoreTest):
             if late.exception.outcomes:
                 break
         self.assertEqual(([1], ("2", 1)), (late.exception.outcomes, which(late.exception)))
+        with self.answering(fault="pazturrok: compiled, not proved: ./pazturrok build proves it\n! 60 DEVICE\n") as store, self.assertRaises(StoppedError) as raised:
+            store.execute("(LIST 1)")
+        self.assertEqual("! 60 DEVICE", raised.exception.fault)
         with self.answering(fault="") as store, self.assertRaises(StoppedError) as raised:
             store.execute("(LIST 1)")
         self.assertEqual(("(LIST 1)", None), which(raised.exception))

@@ -26,7 +26,7 @@ def check_words(script, room):
     for word, meant in (("--hlep", "--help"), ("version", "--version")):
         is_refused("an option that is none", script, word, says=f"no command '{word}'; did you mean {meant}?")
     for words in (["frob", none], ["help", "frob"], ["-x"]):
-        is_refused("what nobody means", script, *words, says="; those of the program are run snapshot upgrade export dump verify show info log backup check help")
+        is_refused("what nobody means", script, *words, says="; those of the program are run snapshot upgrade export dump verify show info log backup check help, and those of this script operators uninstall compile build install release")
     for words in ([], ["--quiet"]):
         is_refused("a form in the place of a word", script, "run", none, *words, "(GET 'A 'B)", says=f'from standard input: echo "FORM" | ./pazturrok run {none}')
     for word, meant in (("SEFT", "SETF"), ("INTRN", "INTERN"), ("UNKNOWN-OPERATR", "UNKNOWN-OPERATOR")):

@@ -19,6 +19,11 @@
   "A path as the system has it."
   (if (pathnamep file) (uiop:native-namestring file) file))
 
+(defun folder-word (folder)
+  "The path of a folder as the system has it, without slashes at its end: the name of a file comes after one."
+  (let* ((word (native-word folder)) (trimmed (string-right-trim "/" word)))
+    (if (string= trimmed "") word trimmed)))
+
 (defun library-path (program)
   "The path of the library that PROGRAM, for which LIBRARY-WORD-P holds, names; or NIL."
   (and (consp program) (native-word (second program))))

@@ -170,7 +170,7 @@ messages.")
 EXISTING, SNAPSHOT-RATIO and UNICODE are those of OPEN-STORE. One feed at a time may be open on a store.
 With CLIENT-NAME the store keeps the number and the answer of the last message under this name. Then each message waits for the
 answer to the one before it, and is sent again where the program was killed: no answer is lost."
-  (let* ((folder (native-word folder))
+  (let* ((folder (folder-word folder))
          (naming (make-naming :package (find-package package) :interns-p intern :unicode-p unicode))
          (feed (if (library-word-p program)
                    (make-embedded-feed folder (library-path program) existing snapshot-ratio naming)

@@ -65,12 +65,17 @@
         while (and (uiop:process-alive-p (program-process program)) (< (get-internal-real-time) end))
         do (sleep pause)))
 
+(defun beside-fault-p (text)
+  "Whether a line of standard error says nothing of why the program has ended: of forms that were refused, or that the program is not proved."
+  (or (of-refusals-p text)
+      (let ((end (mismatch "pazturrok: compiled, not proved" text))) (or (null end) (= end 31)))))
+
 (defun all-errors (program)
-  "What the program wrote to standard error, at most 65,536 characters of it, beside lines on refusals; or NIL."
+  "What the program wrote to standard error, at most 65,536 characters of it, but for lines that say nothing of its end; or NIL."
   (let* ((text (make-string 65536))
          (end (ignore-errors (file-position (program-errors program) 0) (read-sequence text (program-errors program))))
          (told (and end (string-right-trim '(#\Newline) (subseq text 0 end))))
-         (lines (and told (string/= told "") (remove-if #'of-refusals-p (uiop:split-string told :separator '(#\Newline))))))
+         (lines (and told (string/= told "") (remove-if #'beside-fault-p (uiop:split-string told :separator '(#\Newline))))))
     (and lines (format nil "~{~A~^~%~}" lines))))
 
 ;;; What standard error says of a form that was refused: where the form begins, and what stands behind the number.

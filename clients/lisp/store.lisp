@@ -176,7 +176,7 @@ PAZTURROK/COMMON-LISP-USER; with INTERN true it becomes one of PACKAGE, as READ 
 TIME-LIMIT is how many seconds an answer may take, OPENING-TIME-LIMIT how many the opening, NIL for any time.
 OPTIONS are further words of the command line, as (\"--snapshot-every\" \"1000\").
 Without UNICODE texts are ASCII alone."
-  (let* ((folder (native-word folder))
+  (let* ((folder (folder-word folder))
          (naming (make-naming :package (find-package package) :interns-p intern :unicode-p unicode))
          (own '("--rescue" "--group"))
          (further (remove-if (lambda (option) (member option own :test #'equal)) options))

@@ -149,7 +149,7 @@ class NoProgramError(StoreError):
 
 
 class StoppedError(UnansweredError):
-    """The program has ended; `fault` is all that it wrote to standard error.
+    """The program has ended; `fault` is what it wrote to standard error of that.
 
     Of a store that could not be opened `folder` is its folder.
     """

@@ -31,6 +31,14 @@ REFUSED = re.compile(
 )
 """A line of standard error on a form that was refused: where the form begins, and what stands behind the number."""
 
+NOT_PROVED = "pazturrok: compiled, not proved"
+"""So begins the line of standard error with which the script `pazturrok` starts a program that is not proved."""
+
+
+def is_beside_fault(line: str) -> bool:
+    """Whether a line of standard error says nothing of why the program has ended."""
+    return line.startswith(NOT_PROVED) or REFUSED.fullmatch(line) is not None
+
 
 class Splitter(Protocol):
     """Splits what a program writes into answers, as it comes."""
@@ -149,7 +157,7 @@ class Program:
     def stopped(self) -> StoppedError:
         """Ends the program, and tells how it ended."""
         status, text = self.end()
-        return StoppedError(status, "\n".join(line for line in text.splitlines() if not REFUSED.fullmatch(line)))
+        return StoppedError(status, "\n".join(line for line in text.splitlines() if not is_beside_fault(line)))
 
     def leave_to_parent(self) -> None:
         """Closes what a child of a fork has of the pipes, so that the program ends where the parent closes them."""
