@@ -1,6 +1,7 @@
 -- Lists that are taken apart.
 --     last_of, last_kept, come_more      what holds of all holds of the last one and of the others; one form more
 --     apart_so, dotted_so, other_so      by the items and the tail
+--     atom_so, items_proper      what is no list; the items of one
 --     no_bindings      bindings that are no list with an item are none at all
 use Rattle.std.proofs.Common.{◌≡◌, ◌≢◌, Bool, true, false, ◌&&◌, cond, List, [], ◌∷◌, ◌++◌, All, reverse, map, length, Option, Some, None, is_some, option_map, option_to_list, refl, sym, ap, subst, ◌∙◌, arith}
 use Rattle.std.specs.List.{list_all}
@@ -88,6 +89,15 @@ pub other_so : (d : Datum) → ((items : List Datum) (tail : Option Datum) → d
 other_so d not_list =
     let rolled : roll-Datum (out-Datum d) ≡ d = roll-out-Datum d in
     ap (λ b. b && is_proper_list (object_of d)) (sym (ap (λ x. is_pair (object_of x)) rolled) ∙ no_pair (out-Datum d) (λ items tail e. not_list items tail (sym rolled ∙ e)))
+
+pub atom_so : (d : Datum) → ((items : List Datum) (tail : Option Datum) → d ≢ Datum.List items tail) → is_pair (object_of d) ≡ false
+atom_so d not_list =
+    let rolled : roll-Datum (out-Datum d) ≡ d = roll-out-Datum d in
+    sym (ap (λ x. is_pair (object_of x)) rolled) ∙ no_pair (out-Datum d) (λ items tail e. not_list items tail (sym rolled ∙ e))
+
+-- the items of a proper list
+pub items_proper : (d : Datum) (items : List Datum) (tail : Option Datum) → d ≡ Datum.List items tail → is_proper d ≡ true → AreProper items
+items_proper d items tail is proper = AllPass-from_list_all is_proper items ((items_of_proper items tail (ap is_proper (sym is) ∙ proper)).1)
 
 -- ---- bindings
 no_items : (x : Object) → is_proper_list x ≡ false → items_of x ≡ None

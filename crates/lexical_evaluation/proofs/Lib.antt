@@ -13,3 +13,11 @@ pub mod Bound
 pub mod Calling
 pub mod Running
 pub mod Keeping
+pub mod Callees
+pub mod Choosing
+pub mod Applying
+pub mod Beginning
+pub mod Places
+pub mod Made
+pub mod Forms
+pub mod Items

@@ -3,3 +3,4 @@ pub mod Calls
 pub mod InForce
 pub mod Laws
 pub mod Machine
+pub mod Ways

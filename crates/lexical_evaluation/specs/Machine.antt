@@ -1,5 +1,5 @@
 -- What an evaluation with a stack of its own still does: of what is in hand, and of what waits for its value.
-use Rattle.std.specs.Prelude.{◌≡◌, ℕ, Bool, true, false, if◌then◌else◌, List, [], ◌∷◌, ◌++◌, ◌-◌, suc, nat_le, reverse, take, map, Option, Some, None, Result, Ok, Err}
+use Rattle.std.specs.Prelude.{◌≡◌, ℕ, Bool, true, false, if◌then◌else◌, List, All, [], ◌∷◌, ◌++◌, ◌-◌, suc, nat_le, reverse, take, map, Option, Some, None, Result, Ok, Err}
 use Rattle.std.specs.Global.{Vec}
 use Rattle.lisp_object.specs.Object.{Object, symbol, pair, nil, list_of, is_proper_list}
 use Rattle.lisp_object.specs.Datum.{object_of}
@@ -245,3 +245,7 @@ pub record IsCalling (w : Ways) : Type 0 where
 -- a step that asks nothing of the world goes on by all rules and in each state
 abbrev pub StepsOn : Machine → Machine → Result NextStep EvaluationError → (OperatorMeanings → LexicalRules → Environment → Point → Counting Object) → Type 0
 StepsOn old new result meaning = (w : Ways) (s : WorldState) → KeepsOutcome w s s old new result (meaning w.does)
+
+-- the value of each variable is proper
+abbrev pub AreProperBindings : Machine → Type 0
+AreProperBindings m = All (λ b. IsProper b.value) m.bindings.items

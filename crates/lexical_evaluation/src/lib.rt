@@ -1,11 +1,13 @@
 //! The value of a form that has local variables, or that calls functions which are kept in the world.
 //!
 //! `specs/` says what such a form means: `value_with_functions` of specs/Calls.antt. The machine has a stack of its own, so how
-//! deep calls are in one another does not depend on that of the processor. Its loop, and the steps that take a form apart, are not
-//! there yet, nor are MAPCAR and its like.
+//! deep calls are in one another does not depend on that of the processor. Its loop, and what is done with the values of arguments,
+//! are not there yet, nor are MAPCAR and its like.
 //!
-//! - `machine`: what is done next, over what waits for values (`frame`): `machine::conditional` COND, `machine::binding` LET and
-//!   LET*, `machine::calling` functions, `machine::resuming` a value that comes
+//! - `machine`: what is done next, over what waits for values (`frame`). `machine::beginning` takes a form apart, by what is at its
+//!   `head`: `deciding` the operators that decide, `places` those that change a place, `applying` those that bind, take a function or
+//!   define one. `binding` LET and LET*, `conditional` COND, `calling` functions, `variables` their values, `resuming` a value that
+//!   comes
 //! - `defining`: DEFUN and DEFINE-READER
 //! - `laws`: what holds of the language with functions, beside the one without them; `callers`: callers of them, for tests
 #![tactic(auto)]

@@ -15,10 +15,16 @@ use lisp_operators::EvaluationError::Refused;
 use lisp_operators::{EvaluationError, kinds, values};
 use std::alloc::Global;
 
+mod applying;
+mod beginning;
 mod binding;
 mod calling;
 mod conditional;
+mod deciding;
+mod head;
+mod places;
 mod resuming;
+mod variables;
 
 /// What is done next: a form is evaluated, a value is given to what waits for it, or the values of arguments are all there.
 #[derive(Drop)]

@@ -1,0 +1,48 @@
+use Rattle.std.proofs.Common.{ap, ◌∙◌}
+use Rattle.lisp_object.specs.Datum.{object_of}
+use Rattle.lisp_object.specs.declared.refusal.TheConstants.{NOT_A_FORM}
+use Rattle.lisp_object.proofs.Objects.{object_of-Integer, object_of-Rational, object_of-Char, object_of-Text, object_of-Vector, object_of-Uninterned}
+use Rattle.lexical_evaluation.proofs.Items.{is_constant}
+use Rattle.lexical_evaluation.specs.Values.{value_in}
+use Rattle.lexical_evaluation.specs.Machine.{comes_to, around, point_of}
+use Rattle.lexical_evaluation.proofs.Continuing.{refused}
+use Rattle.lexical_evaluation.proofs.Forms.{constant_value, uninterned_value}
+use Rattle.lexical_evaluation.proofs.machine.Machine.begin_atom.Goals as goal
+
+pub returns-in-Uninterned : goal.returns-in-Uninterned
+returns-in-Uninterned c = λ w s.
+    let m = c.args.self.now in
+    ap (comes_to w m)
+    (ap (λ d. value_in (w.rules m.deeper) (around m) (point_of m s) (object_of d)) c.in-Uninterned.is ∙ ap (value_in (w.rules m.deeper) (around m) (point_of m s)) (object_of-Uninterned c.in-Uninterned.field-0)
+    ∙ uninterned_value (w.rules m.deeper) (around m) (point_of m s) c.in-Uninterned.field-0)
+    ∙ refused w m NOT_A_FORM
+
+pub returns-in-Integer : goal.returns-in-Integer
+returns-in-Integer c = λ w s.
+    let m = c.args.self.now in
+    ap (comes_to w m)
+    (constant_value (w.rules m.deeper) (around m) (point_of m s) (object_of c.args.atom) (ap (λ d. is_constant (object_of d)) c.in-Integer.is ∙ ap is_constant (object_of-Integer c.in-Integer.field-0)))
+
+pub returns-in-Rational : goal.returns-in-Rational
+returns-in-Rational c = λ w s.
+    let m = c.args.self.now in
+    ap (comes_to w m)
+    (constant_value (w.rules m.deeper) (around m) (point_of m s) (object_of c.args.atom) (ap (λ d. is_constant (object_of d)) c.in-Rational.is ∙ ap is_constant (object_of-Rational c.in-Rational.field-0)))
+
+pub returns-in-Char : goal.returns-in-Char
+returns-in-Char c = λ w s.
+    let m = c.args.self.now in
+    ap (comes_to w m)
+    (constant_value (w.rules m.deeper) (around m) (point_of m s) (object_of c.args.atom) (ap (λ d. is_constant (object_of d)) c.in-Char.is ∙ ap is_constant (object_of-Char c.in-Char.field-0)))
+
+pub returns-in-Text : goal.returns-in-Text
+returns-in-Text c = λ w s.
+    let m = c.args.self.now in
+    ap (comes_to w m)
+    (constant_value (w.rules m.deeper) (around m) (point_of m s) (object_of c.args.atom) (ap (λ d. is_constant (object_of d)) c.in-Text.is ∙ ap is_constant (object_of-Text c.in-Text.field-0)))
+
+pub returns-in-Vector : goal.returns-in-Vector
+returns-in-Vector c = λ w s.
+    let m = c.args.self.now in
+    ap (comes_to w m)
+    (constant_value (w.rules m.deeper) (around m) (point_of m s) (object_of c.args.atom) (ap (λ d. is_constant (object_of d)) c.in-Vector.is ∙ ap is_constant (object_of-Vector c.in-Vector.field-0)))

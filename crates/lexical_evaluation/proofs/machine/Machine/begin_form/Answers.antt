@@ -1,0 +1,59 @@
+use Rattle.std.proofs.Common.{◌≡◌, ◌-◌, Bool, not, if◌then◌else◌, length, Err, ap, sym, ◌∙◌, arith}
+use Rattle.lisp_object.specs.declared.refusal.TheConstants.{ARGUMENT_COUNT, UNKNOWN_OPERATOR}
+use Rattle.lisp_operators.specs.declared.error.EvaluationError.TheVariants.{Refused}
+use Rattle.evaluator.specs.Operators.{count}
+use Rattle.evaluator.specs.ArgumentValues.{arguments_in}
+use Rattle.lexical_evaluation.proofs.Items.{arguments_count}
+use Rattle.kept_functions.specs.LocalOperators.{takes_so_many}
+use Rattle.lexical_evaluation.specs.declared.machine.head.FormHead.TheVariants.{Operator, Local, Function, Unknown}
+use Rattle.lexical_evaluation.specs.Values.{a_local, local_value, form_value}
+use Rattle.lexical_evaluation.specs.Machine.{comes_to, around, point_of, to_come}
+use Rattle.lexical_evaluation.specs.Ways.{ways, head_in, parts_in}
+use Rattle.lexical_evaluation.proofs.Continuing.{refused}
+use Rattle.lexical_evaluation.proofs.Forms.{form_as}
+use Rattle.lexical_evaluation.proofs.Going.{comes_as}
+use Rattle.lexical_evaluation.proofs.machine.Machine.begin_form.Goals as goal
+
+pub returns-then-not-takes : goal.returns-then-not-takes
+returns-then-not-takes c = λ names s.
+    let m = c.args.self.now in
+    let w = ways names in
+    let p = point_of m s in
+    let arguments = arguments_in c.args.items.items in
+    let same : c.len.result ≡ length c.args.items.items = grind (arith, c.len.ensures) in
+    let so : takes_so_many c.in-Local.operator (count arguments) ≡ c.takes.result = ap (takes_so_many c.in-Local.operator) (arguments_count c.args.items.items ∙ ap (λ n. n - 1) (sym same)) ∙ sym c.takes.ensures in
+    form_as m m (Err (Refused ARGUMENT_COUNT)) names s (head_in c.args.items.items) arguments c.args.head (Local c.in-Local.operator) c.in-Local.is
+    (ap (λ (b : Bool). comes_to w m (if not b then Err ARGUMENT_COUNT else local_value (w.rules m.deeper) p c.in-Local.operator arguments (parts_in (w.rules m.deeper) (around m) p arguments))) (so ∙ c.if-not-takes.true)
+    ∙ refused w m ARGUMENT_COUNT)
+
+pub returns-in-Operator : goal.returns-in-Operator
+returns-in-Operator c = λ names s.
+    form_as c.args.self.now c.begin_operator.new.self c.begin_operator.result names s (head_in c.args.items.items) (arguments_in c.args.items.items) c.args.head (Operator c.in-Operator.operation) c.in-Operator.is
+    (c.begin_operator.ensures names (head_in c.args.items.items) s c.requires.steps)
+
+pub returns-else-not-takes : goal.returns-else-not-takes
+returns-else-not-takes c = λ names s.
+    let m = c.args.self.now in
+    let w = ways names in
+    let rules = w.rules m.deeper in
+    let p = point_of m s in
+    let x = head_in c.args.items.items in
+    let arguments = arguments_in c.args.items.items in
+    let forms = to_come c.arguments.result.items in
+    let same : c.len.result ≡ length c.args.items.items = grind (arith, c.len.ensures) in
+    let so : takes_so_many c.in-Local.operator (count arguments) ≡ c.takes.result = ap (takes_so_many c.in-Local.operator) (arguments_count c.args.items.items ∙ ap (λ n. n - 1) (sym same)) ∙ sym c.takes.ensures in
+    form_as m c.begin_local.new.self c.begin_local.result names s x arguments c.args.head (Local c.in-Local.operator) c.in-Local.is
+    (comes_as w s (comes_to w m (form_value rules p x (a_local c.in-Local.operator) arguments (parts_in rules (around m) p arguments)))
+    (comes_to w m (local_value rules p c.in-Local.operator forms (parts_in rules (around m) p forms))) c.begin_local.new.self c.begin_local.result
+    (ap (λ (b : Bool). comes_to w m (if not b then Err ARGUMENT_COUNT else local_value rules p c.in-Local.operator arguments (parts_in rules (around m) p arguments))) (so ∙ c.if-not-takes.false)
+    ∙ ap (λ a. comes_to w m (local_value rules p c.in-Local.operator a (parts_in rules (around m) p a))) (sym c.arguments.ensures.forms))
+    (c.begin_local.ensures names s))
+
+pub returns-in-Function : goal.returns-in-Function
+returns-in-Function c = λ names s.
+    form_as c.args.self.now c.begin_call.new.self c.begin_call.result names s (head_in c.args.items.items) (arguments_in c.args.items.items) c.args.head Function c.in-Function.is (c.begin_call.ensures (ways names) s)
+
+pub returns-in-Unknown : goal.returns-in-Unknown
+returns-in-Unknown c = λ names s.
+    form_as c.args.self.now c.args.self.now (Err (Refused UNKNOWN_OPERATOR)) names s (head_in c.args.items.items) (arguments_in c.args.items.items) c.args.head Unknown c.in-Unknown.is
+    (refused (ways names) c.args.self.now UNKNOWN_OPERATOR)
