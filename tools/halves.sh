@@ -56,7 +56,8 @@ tell_damage() {
     bytes=0
     for half in "$1/half-a" "$1/half-b"; do
         [ -f "$half" ] || return 0
-        bytes=$((bytes + $(stat -L -c %s "$half" 2>/dev/null || echo 0)))
+        length=$( (wc -c <"$half") 2>/dev/null) || return 0
+        bytes=$((bytes + length))
     done
     [ "$bytes" -le "$SOON_LOOKED_AT" ] || return 0
     case $("$program" info "$1" 2>&1 >/dev/null </dev/null) in
