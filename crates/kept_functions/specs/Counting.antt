@@ -65,7 +65,7 @@ abbrev pub at_point : Point → Evaluation Object → Counting Object
 at_point p (Ok d) = weighing d.value (record p { state = d.state }) d.wrote
 at_point p (Err code) = Err code
 
--- the same as an evaluation that does not count
+-- an evaluation that counts its steps, as one that does not: what is left is dropped
 abbrev pub without_count : {A : Type 0} → Counting A → Evaluation A
 without_count (Ok r) = Ok (record { value = r.value; state = r.point.state; wrote = r.wrote })
 without_count (Err code) = Err code

@@ -46,11 +46,13 @@ abbrev pub function_in : WorldState → Symbol → Option Definition
 function_in s x = if is_definable x then option_and_then definition_of (property s x definition_indicator) else None
 
 -- ---- DEFUN and DEFINE-READER
+
 -- The symbol that INTERN gives for an indicator, where it is the indicator: PAZTURROK may have imported another one by its name.
 abbrev pub own_indicator : Symbol → Object → Option Symbol
 own_indicator i (symbol home name) = if bytes_eq home i.0 && bytes_eq name i.1 then Some i else None
 own_indicator i _ = None
 
+-- what is done with the indicator where INTERN gives it; else the names collide
 abbrev pub the_indicator : {A : Type 0} → Option Symbol → (Symbol → Evaluation A) → Evaluation A
 the_indicator (Some i) on = on i
 the_indicator None on = Err NAME_CONFLICT

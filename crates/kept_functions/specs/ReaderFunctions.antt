@@ -39,6 +39,7 @@ way_named name =
     else (if bytes_eq name (codes "TOKEN") then Some Token
     else None))))
 
+-- the ways of gathering that end at a character
 abbrev pub way_up_to : Name → ℕ → Option Gather
 way_up_to name c =
     if bytes_eq name (codes "UNTIL") then Some (Until c)
@@ -114,6 +115,6 @@ abbrev pub values_of_call : MacroCall → List Object
 values_of_call call =
     material_object call.gathered ∷ character call.character ∷ option_map_or character call.sub nil ∷ option_map_or (λ n. integer (pos n)) call.number nil ∷ []
 
--- as many of these as the definition has variables
+-- of what a call hands to the definition, as many values from the front as it has variables
 abbrev pub first_values : Definition → MacroCall → List Object
 first_values definition call = take (length definition.variables) (values_of_call call)

@@ -20,7 +20,7 @@ use Rattle.evaluator.specs.Operations.{action_of}
 use Rattle.evaluator.specs.ArgumentValues.{arguments_in, refusal_of_place}
 use Rattle.evaluator.specs.Value.{rest, has_default, set_place_by}
 use Rattle.kept_functions.specs.Counting.{Point}
-use Rattle.lexical_evaluation.specs.Values.{FormParts, toll, action_in, made_of, unless_refused}
+use Rattle.lexical_evaluation.specs.Values.{FormParts, steps_over_packages, action_in, made_of, unless_refused}
 use Rattle.lexical_evaluation.specs.Machine.{to_come}
 use Rattle.lexical_evaluation.specs.Ways.{performed, is_call}
 use Rattle.lexical_evaluation.proofs.Running.{parts_apart}
@@ -39,7 +39,7 @@ arguments_apart items turned others result x is same found = sym (ap rest (parts
 -- ---- operators
 module _ (names : List Name) (head : Object) (p : Point) (arguments : Object) (g : FormParts) where
   pub performed_calls : (place : PlaceForm) (operation : Operation) → is_call (action_of names operation) ≡ true
-      → action_in head p (action_of names operation) arguments g ≡ made_of (toll head) g.in_order (performed names operation place)
+      → action_in head p (action_of names operation) arguments g ≡ made_of (steps_over_packages head) g.in_order (performed names operation place)
   performed_calls place MakeList is = refl
   performed_calls place Get is = refl
   performed_calls place Remprop is = refl

@@ -21,3 +21,7 @@ pub mod Places
 pub mod Made
 pub mod Forms
 pub mod Items
+pub mod Finishing
+pub mod Safe
+pub mod Handing
+pub mod Stepping

@@ -7,10 +7,7 @@ use Rattle.kept_functions.specs.Environments.{Environment}
 use Rattle.kept_functions.specs.Counting.{Point, Counting, here, then_on, wrote_too}
 use Rattle.lexical_evaluation.specs.Values.{LexicalRules, last_counted, value_in, values_in}
 use Rattle.lexical_evaluation.specs.Machine.{progn_in}
-
-or_false : (b : Bool) → (b || false) ≡ b
-or_false true = refl
-or_false false = refl
+use Rattle.lexical_evaluation.proofs.Thens.{or_false}
 
 alone : (b : Bool) → ((b || (false || false)) || false) ≡ b
 alone true = refl

@@ -1,10 +1,12 @@
 -- Evaluations that count, one after the other.
---     wrote_wrote, wrote_false, wrote_then      what was written before
+--     or_false, wrote_wrote, wrote_false, wrote_then      what was written before
+--     also_false      the same, without steps
 --     then_here, then_known, then_then, then_each      one and then another
 use Rattle.std.proofs.Common.{◌≡◌, Bool, true, false, ◌||◌, Ok, Err, refl, sym, ap}
+use Rattle.lisp_operators.specs.Evaluation.{Evaluation, also}
 use Rattle.kept_functions.specs.Counting.{Point, Counting, here, then_on, wrote_too}
 
-or_false : (b : Bool) → (b || false) ≡ b
+pub or_false : (b : Bool) → (b || false) ≡ b
 or_false true = refl
 or_false false = refl
 
@@ -16,6 +18,10 @@ wrote_wrote a b (Err code) = refl
 pub wrote_false : {A : Type 0} (o : Counting A) → wrote_too false o ≡ o
 wrote_false (Ok d) = refl
 wrote_false (Err code) = refl
+
+pub also_false : {A : Type 0} (o : Evaluation A) → also false o ≡ o
+also_false (Ok d) = refl
+also_false (Err code) = refl
 
 pub wrote_then : {A B : Type 0} (w : Bool) (o : Counting A) (f : A → Point → Counting B) → then_on (wrote_too w o) f ≡ wrote_too w (then_on o f)
 wrote_then w (Ok d) f = sym (wrote_wrote w d.wrote (f d.value d.point))

@@ -19,7 +19,7 @@ OldFormsKeepTheirValues =
     (names : List Name) (s : WorldState) (x : Object) (d : Done Object)
     → value names s x ≡ Ok d → value_with_functions names s x ≡ Ok d
 
--- and one that was refused for another reason is refused under the same number
+-- A form that was refused, but not for want of an operator or a macro function, is refused under the same number.
 abbrev pub OldRefusalsStay : Type 0
 OldRefusalsStay =
     (names : List Name) (s : WorldState) (x : Object) (code : ℕ)

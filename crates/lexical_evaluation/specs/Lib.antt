@@ -4,3 +4,5 @@ pub mod InForce
 pub mod Laws
 pub mod Machine
 pub mod Ways
+pub mod Arguments
+pub mod Steps

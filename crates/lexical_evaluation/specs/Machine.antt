@@ -60,7 +60,7 @@ pub record ComesApart (x : Object) (first : Datum) (others : List Datum) : Type 
   pub first_proper : IsProper first
   pub others_proper : AreProper others
 
--- The same; or it is no list that has an item and ends in NIL.
+-- A list came apart, by its first item and what is behind it; or it is no list that has an item and ends in NIL.
 abbrev pub IsHeaded : Datum → Option (Datum × Vec Datum) → Type 0
 IsHeaded list (Some parts) = ComesApart (object_of list) parts.0 parts.1.items
 IsHeaded list None = is_clause (object_of list) ≡ false
@@ -135,7 +135,7 @@ finished_in rules does around Global xs p = global_value rules xs p
 finished_in rules does around Define xs p = at_point p (defun_value (first (list_of xs)) (rest (list_of xs)) p.state)
 finished_in rules does around DefineReader xs p = rules.defined_reader (list_of xs) p
 
--- the same, where there are values and forms to come
+-- what comes of a target, where there are these values, and those of these forms are to come
 abbrev pub gathered_in : LexicalRules → OperatorMeanings → Environment → Target → List Object → Object → Point → Counting Object
 gathered_in rules does around target xs forms p = then_on (values_in rules around p forms) (λ ys end'. finished_in rules does around target (xs ++ ys) end')
 
@@ -218,14 +218,14 @@ Spends n old new (Ok _) = (nat_le n old.left ≡ true) × (new ≡ record old { 
 Spends n old new (Err (Refused code)) = (nat_le n old.left ≡ false) × (code ≡ TOO_MANY_STEPS)
 Spends n old new (Err OutOfMemory) = ⊥
 
--- the same is in hand, under more variables
+-- what is in hand comes to the same in both machines, and the later one sees these variables too
 pub record SeesMore (old new : Machine) (made : List Binding) : Type 0 where
   pub same : (w : Ways) (o : Counting Object) → comes_to w old o ≡ comes_to w new o
   pub environment : around new ≡ variables_seen made ++ around old
   pub left : new.left ≡ old.left
   pub deeper : new.deeper ≡ old.deeper
 
--- the same is in hand, under these variables alone, where a call less may be in one another
+-- What is in hand comes to the same in both machines. The later one sees these variables alone, and a call less may be in one another.
 pub record Enters (old new : Machine) (made : List Binding) : Type 0 where
   pub same : (w : Ways) (o : Counting Object) → comes_to w old o ≡ comes_to w new o
   pub environment : around new ≡ variables_seen made

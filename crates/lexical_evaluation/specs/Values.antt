@@ -45,16 +45,16 @@ last_counted values = then_on values (λ xs later. here (last xs) later)
 
 -- ---- functions by their names
 -- the steps of an operator that may look at a whole package
-abbrev pub toll : Object → ℕ
-toll (symbol home name) =
+abbrev pub steps_over_packages : Object → ℕ
+steps_over_packages (symbol home name) =
     if bytes_eq home common_lisp && list_any (bytes_eq name) (codes "EXPORT" ∷ codes "IMPORT" ∷ codes "USE-PACKAGE" ∷ []) then PACKAGE_STEPS
     else (if bytes_eq home pazturrok && bytes_eq name (codes "SYMBOLS-WITH") then PACKAGE_STEPS else 0)
-toll _ = 0
+steps_over_packages _ = 0
 
 -- An operator is a function where it has no rule of its own for its arguments.
 abbrev pub called_operator : Object → Operator → Action → Applied
 called_operator head operator (calls function) xs p =
-    if counts operator (length xs) then spending (toll head) p (λ later. at_point later (function xs later.state)) else Err ARGUMENT_COUNT
+    if counts operator (length xs) then spending (steps_over_packages head) p (λ later. at_point later (function xs later.state)) else Err ARGUMENT_COUNT
 called_operator head operator _ xs p = Err UNKNOWN_OPERATOR
 
 abbrev pub called_function : LexicalRules → Option Definition → Applied
@@ -150,7 +150,7 @@ action_in head p assigns arguments g = unless_refused (place_refusal (first argu
 action_in head p increments arguments g = unless_refused (get_place_refusal (first arguments)) (made_of 0 g.at_place increment)
 action_in head p pushes arguments g = unless_refused (get_place_refusal (first (rest arguments))) (made_of 0 g.before_place push)
 action_in head p enters_package arguments g = at_point p (enter (first arguments) p.state)
-action_in head p (calls function) arguments g = made_of (toll head) g.in_order function
+action_in head p (calls function) arguments g = made_of (steps_over_packages head) g.in_order function
 action_in head p (seeks truth) arguments g = g.sought truth
 action_in head p selects arguments g = if are_clauses arguments then g.selected else Err ARGUMENT_KIND
 action_in head p (guards truth) arguments g = g.guarded truth

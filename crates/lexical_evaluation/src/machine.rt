@@ -2,10 +2,11 @@
 ghost use Rattle.std.specs.Prelude.{◌≡◌, ◌<◌, [], reverse, map, length};
 ghost use Rattle.lisp_object.specs.Datum.{object_of};
 ghost use Rattle.lisp_operators.specs.ArgumentKinds.{is_true};
-ghost use Rattle.lisp_operators.specs.EvaluationAnswers.{IsProper, objects};
+ghost use Rattle.lisp_operators.specs.EvaluationAnswers.{IsProper, objects, IsArgument};
 ghost use Rattle.evaluator.specs.Value.{has_truth};
 ghost use Rattle.lexical_evaluation.specs.Values.{sought_value_in, guarded_in};
 ghost use Rattle.lexical_evaluation.specs.Machine.{StepsOn, progn_in, chosen_in, gathered_in, guard_in, asserted_in, sought_after, to_come};
+ghost use Rattle.lexical_evaluation.specs.Arguments.{AreArguments, IsTargetOf, LeavesArguments};
 
 use crate::frame::{Awaiting, Target};
 use kept_functions::Binding;
@@ -21,9 +22,11 @@ mod binding;
 mod calling;
 mod conditional;
 mod deciding;
+mod finishing;
 mod head;
 mod places;
 mod resuming;
+mod stepping;
 mod variables;
 
 /// What is done next: a form is evaluated, a value is given to what waits for it, or the values of arguments are all there.
@@ -32,6 +35,13 @@ pub(crate) enum NextStep {
     Evaluate(Datum),
     Give(Datum),
     Finish(Target, Vec<Datum>),
+}
+
+/// What a step comes to: it goes on with what is done next, or the value is reached.
+#[derive(Drop)]
+pub(crate) enum Stepped {
+    GoesOn(NextStep),
+    Reached(Datum),
 }
 
 /// An evaluation that goes on: what waits for values, the variables that are seen, how many steps are left, how many calls may still
@@ -49,8 +59,9 @@ pub(crate) struct Machine {
 impl Machine {
     /// Forms of which the last one's value is wanted, the next one last.
     pub(crate) fn sequence(&mut self, forms: Vec<Datum>) -> Result<NextStep, EvaluationError>
-        ensures { StepsOn self.old self.new result
+        ensures gives { StepsOn self.old self.new result
             (λ does rules around p. progn_in rules around (to_come forms.items) p) }
+        ensures arguments { LeavesArguments self.old self.new result (λ u. AreArguments u forms.items) }
     {
         let mut forms = forms;
         match forms.pop() {
@@ -72,8 +83,9 @@ impl Machine {
         test: &Datum,
     ) -> Result<NextStep, EvaluationError>
         requires { IsProper test.now }
-        ensures { StepsOn self.old self.new result
+        ensures gives { StepsOn self.old self.new result
             (λ does rules around p. chosen_in rules around (is_true (object_of test.now)) (map object_of (reverse forms.items)) p) }
+        ensures arguments { LeavesArguments self.old self.new result (λ u. AreArguments u forms.items) }
     {
         let mut forms = forms;
         let second = forms.pop();
@@ -95,8 +107,10 @@ impl Machine {
         forms: Vec<Datum>,
         values: Vec<Datum>,
     ) -> Result<NextStep, EvaluationError>
-        ensures { StepsOn self.old self.new result
+        ensures gives { StepsOn self.old self.new result
             (λ does rules around p. gathered_in rules does around target (objects values.items) (to_come forms.items) p) }
+        ensures arguments { LeavesArguments self.old self.new result
+            (λ u. IsTargetOf u target × AreArguments u forms.items × AreArguments u values.items) }
     {
         let mut forms = forms;
         match forms.pop() {
@@ -116,8 +130,9 @@ impl Machine {
         forms: Vec<Datum>,
     ) -> Result<NextStep, EvaluationError>
         requires { 0 < length forms.items }
-        ensures { StepsOn self.old self.new result
+        ensures gives { StepsOn self.old self.new result
             (λ does rules around p. sought_value_in rules around truth p (to_come forms.items)) }
+        ensures arguments { LeavesArguments self.old self.new result (λ u. AreArguments u forms.items) }
     {
         let mut forms = forms;
         match forms.pop() {
@@ -140,8 +155,10 @@ impl Machine {
         value: Datum,
     ) -> Result<NextStep, EvaluationError>
         requires { IsProper value }
-        ensures { StepsOn self.old self.new result
+        ensures gives { StepsOn self.old self.new result
             (λ does rules around p. sought_after rules around truth (object_of value) (to_come forms.items) p) }
+        ensures arguments { LeavesArguments self.old self.new result
+            (λ u. AreArguments u forms.items × IsArgument u value) }
     {
         if has_truth(truth, &value) {
             return Ok(NextStep::Give(value));
@@ -158,8 +175,9 @@ impl Machine {
         truth: bool,
         forms: Vec<Datum>,
     ) -> Result<NextStep, EvaluationError>
-        ensures { StepsOn self.old self.new result
+        ensures gives { StepsOn self.old self.new result
             (λ does rules around p. guarded_in rules around truth p (to_come forms.items)) }
+        ensures arguments { LeavesArguments self.old self.new result (λ u. AreArguments u forms.items) }
     {
         let mut forms = forms;
         match forms.pop() {
@@ -179,8 +197,9 @@ impl Machine {
         value: &Datum,
     ) -> Result<NextStep, EvaluationError>
         requires { IsProper value.now }
-        ensures { StepsOn self.old self.new result
+        ensures gives { StepsOn self.old self.new result
             (λ does rules around p. guard_in rules around truth (object_of value.now) (to_come forms.items) p) }
+        ensures arguments { LeavesArguments self.old self.new result (λ u. AreArguments u forms.items) }
     {
         if has_truth(truth, value) {
             return self.sequence(forms);
@@ -191,8 +210,9 @@ impl Machine {
     /// ASSERT, where the value of its test is this.
     pub(crate) fn assert(&mut self, value: &Datum) -> Result<NextStep, EvaluationError>
         requires { IsProper value.now }
-        ensures { StepsOn self.old self.new result
+        ensures gives { StepsOn self.old self.new result
             (λ does rules around p. asserted_in (object_of value.now) p) }
+        ensures arguments { LeavesArguments self.old self.new result (λ u. Unit {0}) }
     {
         if kinds::is_true(value) {
             return Ok(NextStep::Give(values::empty_list(self.alloc)?));

@@ -1,10 +1,10 @@
 // The operators that bind, take a function or define one.
-ghost use Rattle.std.specs.Prelude.{ℕ, ◌≡◌, ◌<◌, List, true, length, is_some, codes, Ok};
+ghost use Rattle.std.specs.Prelude.{ℕ, ◌≡◌, ◌<◌, List, true, length, is_some, codes, Ok, IfOk};
 ghost use Rattle.lisp_object.specs.Object.{Object, pair, nil, list_of};
 ghost use Rattle.lisp_object.specs.Datum.{object_of};
-ghost use Rattle.package_table.specs.Table.{Name};
+ghost use Rattle.package_table.specs.Table.{Name, Table};
 ghost use Rattle.plist_state.specs.State.{WorldState};
-ghost use Rattle.lisp_operators.specs.EvaluationAnswers.{IsProper, AreProper, objects};
+ghost use Rattle.lisp_operators.specs.EvaluationAnswers.{IsProper, AreProper, objects, IsArgument};
 ghost use Rattle.evaluator.specs.Operators.{first};
 ghost use Rattle.kept_functions.specs.Environments.{variables_of};
 ghost use Rattle.evaluator.specs.Value.{rest};
@@ -12,6 +12,8 @@ ghost use Rattle.kept_functions.specs.LocalOperators.{takes_so_many, is_own_symb
 ghost use Rattle.lexical_evaluation.specs.Values.{local_value, applied_in, other_value_in};
 ghost use Rattle.lexical_evaluation.specs.Machine.{StepsOn, KeepsOutcome, to_come};
 ghost use Rattle.lexical_evaluation.specs.Ways.{ways, parts_in, IsCallee, is_headed_by_lambda, is_headed_by_function, IsWritten, IsQuoted};
+ghost use Rattle.lexical_evaluation.specs.Arguments.{AreArguments, LeavesArguments, IsCalleeOf};
+ghost use Rattle.plist_state.specs.Sound.{IsValue};
 
 use super::conditional::headed;
 use super::{Machine, NextStep};
@@ -77,7 +79,8 @@ fn has_variables(parts: &[Datum]) -> bool
 fn written(lambda: Datum) -> Result<Callee, EvaluationError>
     requires proper { IsProper lambda }
     requires lambda { is_headed_by_lambda (object_of lambda) ≡ true }
-    ensures { IsWritten (rest (object_of lambda)) result }
+    ensures gives { IsWritten (rest (object_of lambda)) result }
+    ensures arguments { (u : Table) → IsArgument u lambda → IfOk result (IsCalleeOf u) }
 {
     match headed(lambda) {
         None => Err(Refused(ARGUMENT_KIND)),
@@ -99,7 +102,8 @@ fn written(lambda: Datum) -> Result<Callee, EvaluationError>
 fn quoted(function: Datum) -> Result<Callee, EvaluationError>
     requires proper { IsProper function }
     requires function { is_headed_by_function (object_of function) ≡ true }
-    ensures { IsQuoted (rest (object_of function)) result }
+    ensures gives { IsQuoted (rest (object_of function)) result }
+    ensures arguments { (u : Table) → IsArgument u function → IfOk result (IsCalleeOf u) }
 {
     match headed(function) {
         None => Err(Refused(ARGUMENT_COUNT)),
@@ -121,7 +125,8 @@ fn quoted(function: Datum) -> Result<Callee, EvaluationError>
 // The function that the argument of FUNCTION names or writes down.
 fn quoted_form(named: Datum) -> Result<Callee, EvaluationError>
     requires { IsProper named }
-    ensures { IsQuoted (pair (object_of named) nil) result }
+    ensures gives { IsQuoted (pair (object_of named) nil) result }
+    ensures arguments { (u : Table) → IsArgument u named → IfOk result (IsCalleeOf u) }
 {
     if is_headed_by_lambda(&named) {
         return written(named);
@@ -135,7 +140,8 @@ fn quoted_form(named: Datum) -> Result<Callee, EvaluationError>
 // The function that a form stands for.
 fn callee_of(form: Datum) -> Result<Callee, EvaluationError>
     requires { IsProper form }
-    ensures { IsCallee (object_of form) result }
+    ensures gives { IsCallee (object_of form) result }
+    ensures arguments { (u : Table) → IsArgument u form → IfOk result (IsCalleeOf u) }
 {
     if is_headed_by_lambda(&form) {
         return written(form);
@@ -155,9 +161,10 @@ impl Machine {
     ) -> Result<NextStep, EvaluationError>
         requires counted { takes_so_many operator (length forms.items) ≡ true }
         requires forms { AreProper forms.items }
-        ensures { (names : List Name) (s : WorldState)
+        ensures gives { (names : List Name) (s : WorldState)
             → KeepsOutcome (ways names) s s self.old self.new result
             (λ rules around p. local_value rules p operator (to_come forms.items) (parts_in rules around p (to_come forms.items))) }
+        ensures arguments { LeavesArguments self.old self.new result (λ u. IsValue u (to_come forms.items)) }
     {
         match operator {
             LocalOperator::Let => self.bind(false, forms),
@@ -172,8 +179,9 @@ impl Machine {
 
     // The value of the first form, and NIL where there is none.
     fn first_or_nil(&mut self, forms: Vec<Datum>) -> Result<NextStep, EvaluationError>
-        ensures { StepsOn self.old self.new result
+        ensures gives { StepsOn self.old self.new result
             (λ does rules around p. other_value_in rules around p (to_come forms.items)) }
+        ensures arguments { LeavesArguments self.old self.new result (λ u. AreArguments u forms.items) }
     {
         let mut forms = forms;
         match forms.pop() {
@@ -185,8 +193,9 @@ impl Machine {
     // FUNCALL: the function, and then the arguments.
     fn begin_funcall(&mut self, forms: Vec<Datum>) -> Result<NextStep, EvaluationError>
         requires { AreProper forms.items }
-        ensures { StepsOn self.old self.new result
+        ensures gives { StepsOn self.old self.new result
             (λ does rules around p. applied_in rules around p (to_come forms.items)) }
+        ensures arguments { LeavesArguments self.old self.new result (λ u. AreArguments u forms.items) }
     {
         let mut others = forms;
         match others.pop() {
@@ -204,8 +213,10 @@ impl Machine {
         function: Callee,
         forms: Vec<Datum>,
     ) -> Result<NextStep, EvaluationError>
-        ensures { (x : Object) → IsCallee x (Ok function) → StepsOn self.old self.new result
+        ensures gives { (x : Object) → IsCallee x (Ok function) → StepsOn self.old self.new result
             (λ does rules around p. applied_in rules around p (pair x (to_come forms.items))) }
+        ensures arguments { LeavesArguments self.old self.new result
+            (λ u. IsCalleeOf u function × AreArguments u forms.items) }
     {
         let values = Vec::new(self.alloc);
         match function {

@@ -4,14 +4,16 @@ ghost use Rattle.lisp_object.specs.Object.{Object, list_of};
 ghost use Rattle.lisp_object.specs.Datum.{object_of};
 ghost use Rattle.package_table.specs.Table.{Name};
 ghost use Rattle.plist_state.specs.State.{WorldState};
-ghost use Rattle.lisp_operators.specs.EvaluationAnswers.{IsProper, AreProper, objects};
+ghost use Rattle.lisp_operators.specs.EvaluationAnswers.{IsProper, AreProper, objects, IsArgument};
 ghost use Rattle.evaluator.specs.Operators.{first, is_interned};
 ghost use Rattle.evaluator.specs.Operations.{HasRightCount, action_of, operator};
 ghost use Rattle.evaluator.specs.ArgumentValues.{arguments_in, refusal_of_place, place_form_of};
 ghost use Rattle.kept_functions.specs.Counting.{here, then_on};
-ghost use Rattle.lexical_evaluation.specs.Values.{an_operator, toll, value_in, values_in, choice_in, action_in, form_value, named_function};
+ghost use Rattle.lexical_evaluation.specs.Values.{an_operator, steps_over_packages, value_in, values_in, choice_in, action_in, form_value, named_function};
 ghost use Rattle.lexical_evaluation.specs.Machine.{StepsOn, KeepsOutcome, to_come, finished_in, AreProperBindings};
 ghost use Rattle.lexical_evaluation.specs.Ways.{ways, head_shown, head_in, parts_in, is_call};
+ghost use Rattle.lexical_evaluation.specs.Arguments.{AreArguments, MayFinish, LeavesArguments};
+ghost use Rattle.plist_state.specs.Sound.{IsValue};
 
 use super::head::{FormHead, head_at, toll};
 use super::places::arguments;
@@ -31,9 +33,10 @@ impl Machine {
     pub(crate) fn begin(&mut self, world: &World, form: Datum) -> Result<NextStep, EvaluationError>
         requires form { IsProper form }
         requires bindings { AreProperBindings self.old }
-        ensures { (names : List Name)
+        ensures gives { (names : List Name)
             → KeepsOutcome (ways names) world.now.0 world.now.0 self.old self.new result
             (λ rules around p. value_in rules around p (object_of form)) }
+        ensures arguments { LeavesArguments self.old self.new result (λ u. IsArgument u form) }
     {
         match form.into_list() {
             Ok((items, tail)) => {
@@ -51,8 +54,9 @@ impl Machine {
         requires form { IsProper atom }
         requires bindings { AreProperBindings self.old }
         requires atom { (items : List Datum) (tail : Option Datum) → atom ≢ Datum.List items tail }
-        ensures { StepsOn self.old self.new result
+        ensures gives { StepsOn self.old self.new result
             (λ does rules around p. value_in rules around p (object_of atom)) }
+        ensures arguments { LeavesArguments self.old self.new result (λ u. IsArgument u atom) }
     {
         match &atom {
             Datum::Uninterned(_) => Err(Refused(NOT_A_FORM)),
@@ -71,8 +75,9 @@ impl Machine {
         requires form { IsProper symbol }
         requires bindings { AreProperBindings self.old }
         requires symbol { is_interned (object_of symbol) ≡ true }
-        ensures { StepsOn self.old self.new result
+        ensures gives { StepsOn self.old self.new result
             (λ does rules around p. value_in rules around p (object_of symbol)) }
+        ensures arguments { LeavesArguments self.old self.new result (λ u. IsArgument u symbol) }
     {
         let (home, name) = symbol_in(&symbol);
         match value_seen(self.bindings.as_slice(), home, name) {
@@ -93,9 +98,11 @@ impl Machine {
     fn begin_list(&mut self, world: &World, items: Vec<Datum>) -> Result<NextStep, EvaluationError>
         requires some { 0 < length items.items }
         requires items { AreProper items.items }
-        ensures { (names : List Name)
+        ensures gives { (names : List Name)
             → KeepsOutcome (ways names) world.now.0 world.now.0 self.old self.new result
             (λ rules around p. value_in rules around p (list_of (objects items.items))) }
+        ensures arguments { LeavesArguments self.old self.new result
+            (λ u. IsValue u (list_of (objects items.items))) }
     {
         let Ok((home, name)) = kinds::symbol(&items.as_slice()[0]) else {
             return Err(Refused(NOT_A_FORM));
@@ -115,10 +122,12 @@ impl Machine {
     ) -> Result<NextStep, EvaluationError>
         requires some { 0 < length items.items }
         requires items { AreProper items.items }
-        requires steps { steps ≡ toll (head_in items.items) }
-        ensures { (names : List Name) (s : WorldState)
+        requires steps { steps ≡ steps_over_packages (head_in items.items) }
+        ensures gives { (names : List Name) (s : WorldState)
             → KeepsOutcome (ways names) s s self.old self.new result
             (λ rules around p. form_value rules p (head_in items.items) (head_shown names head) (arguments_in items.items) (parts_in rules around p (arguments_in items.items))) }
+        ensures arguments { LeavesArguments self.old self.new result
+            (λ u. IsValue u (list_of (objects items.items))) }
     {
         match head {
             FormHead::Operator(operation) => self.begin_operator(operation, steps, items),
@@ -137,9 +146,11 @@ impl Machine {
     fn begin_call(&mut self, items: Vec<Datum>) -> Result<NextStep, EvaluationError>
         requires some { 0 < length items.items }
         requires items { AreProper items.items }
-        ensures { StepsOn self.old self.new result
+        ensures gives { StepsOn self.old self.new result
             (λ does rules around p. then_on (values_in rules around p (arguments_in items.items))
             (λ xs later. named_function rules (head_in items.items) xs later)) }
+        ensures arguments { LeavesArguments self.old self.new result
+            (λ u. IsValue u (list_of (objects items.items))) }
     {
         let mut forms = items;
         forms.reverse();
@@ -161,9 +172,12 @@ impl Machine {
     ) -> Result<NextStep, EvaluationError>
         requires some { 0 < length items.items }
         requires items { AreProper items.items }
-        ensures { (names : List Name) (head : Object) (s : WorldState) → steps ≡ toll head
+        ensures gives { (names : List Name) (head : Object) (s : WorldState)
+            → steps ≡ steps_over_packages head
             → KeepsOutcome (ways names) s s self.old self.new result
             (λ rules around p. form_value rules p head (an_operator (operator names operation)) (arguments_in items.items) (parts_in rules around p (arguments_in items.items))) }
+        ensures arguments { LeavesArguments self.old self.new result
+            (λ u. IsValue u (list_of (objects items.items))) }
     {
         if !operation.counts(items.len() - 1) {
             return Err(Refused(ARGUMENT_COUNT));
@@ -186,9 +200,11 @@ impl Machine {
         requires forms { AreProper forms.items }
         requires refusal { refusal_of_place operation (to_come forms.items) ≡ None }
         requires place { place ≡ place_form_of operation (to_come forms.items) }
-        ensures { (names : List Name) (head : Object) (s : WorldState) → steps ≡ toll head
+        ensures gives { (names : List Name) (head : Object) (s : WorldState)
+            → steps ≡ steps_over_packages head
             → KeepsOutcome (ways names) s s self.old self.new result
             (λ rules around p. action_in head p (action_of names operation) (to_come forms.items) (parts_in rules around p (to_come forms.items))) }
+        ensures arguments { LeavesArguments self.old self.new result (λ u. IsValue u (to_come forms.items)) }
     {
         match operation {
             Operation::Quote => self.begin_quote(forms),
@@ -213,9 +229,11 @@ impl Machine {
         forms: Vec<Datum>,
     ) -> Result<NextStep, EvaluationError>
         requires { (names : List Name) → is_call (action_of names operation) ≡ true }
-        ensures { (names : List Name) (head : Object) (s : WorldState) → steps ≡ toll head
+        ensures gives { (names : List Name) (head : Object) (s : WorldState)
+            → steps ≡ steps_over_packages head
             → KeepsOutcome (ways names) s s self.old self.new result
             (λ rules around p. action_in head p (action_of names operation) (to_come forms.items) (parts_in rules around p (to_come forms.items))) }
+        ensures arguments { LeavesArguments self.old self.new result (λ u. AreArguments u forms.items) }
     {
         let values = Vec::new(self.alloc);
         self.gather(Target::Operation(operation, place, steps), forms, values)
@@ -224,8 +242,9 @@ impl Machine {
     // QUOTE: the argument as it is written.
     fn begin_quote(&mut self, forms: Vec<Datum>) -> Result<NextStep, EvaluationError>
         requires { 0 < length forms.items }
-        ensures { StepsOn self.old self.new result
+        ensures gives { StepsOn self.old self.new result
             (λ does rules around p. here (first (to_come forms.items)) p) }
+        ensures arguments { LeavesArguments self.old self.new result (λ u. AreArguments u forms.items) }
     {
         let mut forms = forms;
         match forms.pop() {
@@ -237,8 +256,9 @@ impl Machine {
     // IF: its test.
     fn begin_choice(&mut self, forms: Vec<Datum>) -> Result<NextStep, EvaluationError>
         requires { 2 ≤ length forms.items }
-        ensures { StepsOn self.old self.new result
+        ensures gives { StepsOn self.old self.new result
             (λ does rules around p. choice_in rules around p (to_come forms.items)) }
+        ensures arguments { LeavesArguments self.old self.new result (λ u. AreArguments u forms.items) }
     {
         let mut forms = forms;
         match forms.pop() {
@@ -256,8 +276,10 @@ impl Machine {
         target: Target,
         forms: Vec<Datum>,
     ) -> Result<NextStep, EvaluationError>
-        ensures { StepsOn self.old self.new result
+        ensures gives { StepsOn self.old self.new result
             (λ does rules around p. finished_in rules does around target (objects (reverse forms.items)) p) }
+        ensures arguments { LeavesArguments self.old self.new result
+            (λ u. MayFinish u target (reverse forms.items) × AreArguments u forms.items) }
     {
         let mut values = forms;
         values.reverse();

@@ -1,15 +1,17 @@
 // LET and LET*, and the variables that are seen.
-ghost use Rattle.std.specs.Prelude.{◌≡◌, ◌++◌, [], ◌∷◌, true, IfOk, option_map};
+ghost use Rattle.std.specs.Prelude.{◌≡◌, ◌++◌, [], ◌∷◌, true, IfOk, option_map, IfSome};
 ghost use Rattle.std.specs.List.{list_all};
 ghost use Rattle.lisp_object.specs.Object.{list_of};
 ghost use Rattle.lisp_object.specs.Datum.{object_of};
 ghost use Rattle.plist_state.specs.Views.{symbol_of};
-ghost use Rattle.lisp_operators.specs.EvaluationAnswers.{IsProper, AreProper, objects};
+ghost use Rattle.lisp_operators.specs.EvaluationAnswers.{IsProper, AreProper, objects, IsArgument};
 ghost use Rattle.lisp_operators.specs.Members.{symbols_in};
 ghost use Rattle.kept_functions.specs.Environments.{binding};
 ghost use Rattle.kept_functions.specs.KeptFunctions.{binding_shown};
 ghost use Rattle.lexical_evaluation.specs.Values.{is_binding, is_binding_of, are_bindings, variable_named, bound_in};
 ghost use Rattle.lexical_evaluation.specs.Machine.{StepsOn, SeesMore, binding_parts, parts_shown, bound_then, to_come, variables_seen};
+ghost use Rattle.lexical_evaluation.specs.Arguments.{AreArguments, HaveArguments, IsMachineOf, LeavesArguments};
+ghost use Rattle.package_table.specs.Table.{Table};
 
 use super::conditional::headed;
 use super::{Machine, NextStep};
@@ -84,8 +86,10 @@ pub(super) fn bound_to(
     values: Vec<Datum>,
 ) -> Result<Vec<Binding>, AllocError>
     requires { AreProper variables.now }
-    ensures { IfOk result
+    ensures gives { IfOk result
         (λ made. variables_seen made.items ≡ binding (symbols_in variables.now) (objects values.items) []) }
+    ensures arguments { (u : Table) → AreArguments u values.items
+        → IfOk result (λ made. HaveArguments u made.items) }
 {
     let mut values = values;
     values.reverse();
@@ -122,7 +126,8 @@ fn bindings_to_come(alloc: Global, list: Datum) -> Result<Vec<Datum>, AllocError
 // The variable and the form of a binding.
 fn binding_parts(alloc: Global, binding: Datum) -> Result<Option<(Symbol, Datum)>, AllocError>
     requires { IsProper binding }
-    ensures { IfOk result (λ parts. option_map parts_shown parts ≡ binding_parts (object_of binding)) }
+    ensures gives { IfOk result (λ parts. option_map parts_shown parts ≡ binding_parts (object_of binding)) }
+    ensures proper { IfOk result (λ parts. IfSome parts (λ p. IsProper p.1)) }
 {
     match headed(binding) {
         None => Ok(None),
@@ -142,7 +147,9 @@ fn binding_parts(alloc: Global, binding: Datum) -> Result<Option<(Symbol, Datum)
 impl Machine {
     /// These variables are seen, inside of what is seen already, until what is in hand has its value.
     pub(crate) fn scope(&mut self, made: Vec<Binding>) -> Result<(), AllocError>
-        ensures { IfOk result (λ _. SeesMore self.old self.new made.items) }
+        ensures sees { IfOk result (λ _. SeesMore self.old self.new made.items) }
+        ensures arguments { (u : Table) → IsMachineOf u self.old → HaveArguments u made.items
+            → IfOk result (λ _. IsMachineOf u self.new) }
     {
         let mut made = made;
         let length = self.bindings.len();
@@ -158,8 +165,9 @@ impl Machine {
         forms: Vec<Datum>,
     ) -> Result<NextStep, EvaluationError>
         requires { AreProper forms.items }
-        ensures { StepsOn self.old self.new result
+        ensures gives { StepsOn self.old self.new result
             (λ does rules around p. bound_in rules around in_turn p (to_come forms.items)) }
+        ensures arguments { LeavesArguments self.old self.new result (λ u. AreArguments u forms.items) }
     {
         let mut forms = forms;
         match forms.pop() {
@@ -185,8 +193,10 @@ impl Machine {
     ) -> Result<NextStep, EvaluationError>
         requires others { AreProper others.items }
         requires made { in_turn ≡ true → made.items ≡ [] }
-        ensures { StepsOn self.old self.new result
+        ensures gives { StepsOn self.old self.new result
             (λ does rules around p. bound_then rules in_turn around (variables_seen made.items ++ around) (to_come others.items) (to_come forms.items) p) }
+        ensures arguments { LeavesArguments self.old self.new result
+            (λ u. AreArguments u others.items × HaveArguments u made.items × AreArguments u forms.items) }
     {
         let mut others = others;
         match others.pop() {
@@ -218,8 +228,10 @@ impl Machine {
         forms: Vec<Datum>,
     ) -> Result<NextStep, EvaluationError>
         requires { AreProper others.items }
-        ensures { StepsOn self.old self.new result
+        ensures gives { StepsOn self.old self.new result
             (λ does rules around p. bound_then rules in_turn around (binding_shown binding ∷ (variables_seen made.items ++ around)) (to_come others.items) (to_come forms.items) p) }
+        ensures arguments { LeavesArguments self.old self.new result
+            (λ u. IsArgument u binding.value × AreArguments u others.items × HaveArguments u made.items × AreArguments u forms.items) }
     {
         let mut made = made;
         made.push(binding)?;

@@ -2,12 +2,15 @@
 ghost use Rattle.std.specs.Prelude.{ℕ, ◌≡◌, ◌^◌, ◌-◌, ◌<◌, min, IfOk};
 ghost use Rattle.lisp_object.specs.Object.{list_of};
 ghost use Rattle.lisp_object.specs.Datum.{object_of};
+ghost use Rattle.package_table.specs.Table.{Table};
 ghost use Rattle.plist_state.specs.State.{WorldState};
 ghost use Rattle.lisp_operators.specs.EvaluationAnswers.{AreProper, objects};
 ghost use Rattle.lisp_operators.specs.Members.{symbols_in};
 ghost use Rattle.kept_functions.specs.Environments.{binding};
 ghost use Rattle.kept_functions.specs.KeptFunctions.{stored_definition, IsProperDefinition};
 ghost use Rattle.lexical_evaluation.specs.Machine.{Ways, StepsOn, KeepsOutcome, RunsBody, Spends, Enters, IsCalling, progn_in, written_in, to_come};
+ghost use Rattle.lexical_evaluation.specs.Arguments.{AreArguments, HaveArguments, IsMachineOf, LeavesArguments};
+ghost use Rattle.plist_state.specs.Sound.{IsValue};
 
 use super::binding::bound_to;
 use super::{Machine, NextStep};
@@ -23,7 +26,8 @@ use std::mem;
 
 // Copies of forms, the next one last.
 fn copied_to_come(alloc: Global, forms: &[Datum]) -> Result<Vec<Datum>, AllocError>
-    ensures { IfOk result (λ v. to_come v.items ≡ list_of (objects forms.now)) }
+    ensures forms { IfOk result (λ v. to_come v.items ≡ list_of (objects forms.now)) }
+    ensures proper { AreProper forms.now → IfOk result (λ v. AreProper v.items) }
 {
     let mut copies = Vec::new(alloc);
     let mut index = forms.len();
@@ -49,7 +53,9 @@ impl Machine {
     // A function begins, which sees these variables alone.
     fn enter(&mut self, made: Vec<Binding>) -> Result<(), AllocError>
         requires { 0 < self.old.deeper }
-        ensures { IfOk result (λ _. Enters self.old self.new made.items) }
+        ensures enters { IfOk result (λ _. Enters self.old self.new made.items) }
+        ensures arguments { (u : Table) → IsMachineOf u self.old → HaveArguments u made.items
+            → IfOk result (λ _. IsMachineOf u self.new) }
     {
         let before = mem::replace(&mut self.bindings, made);
         self.frames.push(Awaiting::Call(before, self.deeper))?;
@@ -65,8 +71,10 @@ impl Machine {
     ) -> Result<NextStep, EvaluationError>
         requires deeper { 0 < self.old.deeper }
         requires definition { IsProperDefinition definition }
-        ensures { RunsBody self.old self.new result (stored_definition definition.entry)
+        ensures gives { RunsBody self.old self.new result (stored_definition definition.entry)
             (objects values.items) }
+        ensures arguments { LeavesArguments self.old self.new result
+            (λ u. IsValue u (stored_definition definition.entry).body × AreArguments u values.items) }
     {
         let made = bound_to(self.alloc, definition.variables, values)?;
         let forms = copied_to_come(self.alloc, definition.body)?;
@@ -81,8 +89,11 @@ impl Machine {
         values: Vec<Datum>,
     ) -> Result<NextStep, EvaluationError>
         requires { IsProperDefinition definition }
-        ensures { (w : Ways) (s : WorldState) → IsCalling w → KeepsOutcome w s s self.old self.new result
+        ensures gives { (w : Ways) (s : WorldState)
+            → IsCalling w → KeepsOutcome w s s self.old self.new result
             (λ rules around p. rules.call (stored_definition definition.entry) (objects values.items) p) }
+        ensures arguments { LeavesArguments self.old self.new result
+            (λ u. IsValue u (stored_definition definition.entry).body × AreArguments u values.items) }
     {
         if self.deeper == 0 {
             return Err(Refused(CALLS_TOO_DEEP));
@@ -102,8 +113,10 @@ impl Machine {
         values: Vec<Datum>,
     ) -> Result<NextStep, EvaluationError>
         requires { AreProper variables.now }
-        ensures { StepsOn self.old self.new result
+        ensures gives { StepsOn self.old self.new result
             (λ does rules around p. progn_in rules (binding (symbols_in variables.now) (objects values.items) around) (to_come forms.items) p) }
+        ensures arguments { LeavesArguments self.old self.new result
+            (λ u. AreArguments u forms.items × AreArguments u values.items) }
     {
         let made = bound_to(self.alloc, variables, values)?;
         self.scope(made)?;
@@ -117,8 +130,10 @@ impl Machine {
         values: Vec<Datum>,
     ) -> Result<NextStep, EvaluationError>
         requires { AreProper parts.items }
-        ensures { StepsOn self.old self.new result
+        ensures gives { StepsOn self.old self.new result
             (λ does rules around p. written_in rules around (list_of (objects parts.items)) (objects values.items) p) }
+        ensures arguments { LeavesArguments self.old self.new result
+            (λ u. AreArguments u parts.items × AreArguments u values.items) }
     {
         let steps = weight_of_list(parts.as_slice());
         let mut forms = parts;

@@ -1,8 +1,9 @@
 // COND.
 ghost use Rattle.lisp_object.specs.Datum.{object_of};
-ghost use Rattle.lisp_operators.specs.EvaluationAnswers.{IsProper, AreProper};
+ghost use Rattle.lisp_operators.specs.EvaluationAnswers.{IsProper, AreProper, IsArgument};
 ghost use Rattle.lexical_evaluation.specs.Values.{selected_in};
 ghost use Rattle.lexical_evaluation.specs.Machine.{StepsOn, IsHeaded, clause_in, to_come};
+ghost use Rattle.lexical_evaluation.specs.Arguments.{AreArguments, LeavesArguments};
 
 use super::{Machine, NextStep};
 use crate::frame::Awaiting;
@@ -36,8 +37,9 @@ impl Machine {
     /// COND of clauses, the next one last.
     pub(crate) fn clauses(&mut self, clauses: Vec<Datum>) -> Result<NextStep, EvaluationError>
         requires { AreProper clauses.items }
-        ensures { StepsOn self.old self.new result
+        ensures gives { StepsOn self.old self.new result
             (λ does rules around p. selected_in rules around p (to_come clauses.items)) }
+        ensures arguments { LeavesArguments self.old self.new result (λ u. AreArguments u clauses.items) }
     {
         let mut others = clauses;
         match others.pop() {
@@ -61,8 +63,10 @@ impl Machine {
     ) -> Result<NextStep, EvaluationError>
         requires value { IsProper value }
         requires others { AreProper others.items }
-        ensures { StepsOn self.old self.new result
+        ensures gives { StepsOn self.old self.new result
             (λ does rules around p. clause_in rules around (object_of value) (to_come forms.items) (to_come others.items) p) }
+        ensures arguments { LeavesArguments self.old self.new result
+            (λ u. AreArguments u forms.items × AreArguments u others.items × IsArgument u value) }
     {
         if !kinds::is_true(&value) {
             return self.clauses(others);

@@ -12,6 +12,7 @@ ghost use Rattle.kept_functions.specs.Counting.{then_on};
 ghost use Rattle.lexical_evaluation.specs.Values.{action_in, sought_value_in, other_value_in, selected_in};
 ghost use Rattle.lexical_evaluation.specs.Machine.{StepsOn, KeepsOutcome, to_come, asserted_in};
 ghost use Rattle.lexical_evaluation.specs.Ways.{ways, parts_in, selected_of};
+ghost use Rattle.lexical_evaluation.specs.Arguments.{AreArguments, LeavesArguments};
 
 use super::{Machine, NextStep};
 use crate::frame::{Awaiting, Target};
@@ -51,9 +52,10 @@ impl Machine {
     ) -> Result<NextStep, EvaluationError>
         requires counted { HasRightCount (Operation.Decides decision) (length forms.items + 1) }
         requires forms { AreProper forms.items }
-        ensures { (names : List Name) (head : Object) (s : WorldState)
+        ensures gives { (names : List Name) (head : Object) (s : WorldState)
             → KeepsOutcome (ways names) s s self.old self.new result
             (λ rules around p. action_in head p (action_of names (Operation.Decides decision)) (to_come forms.items) (parts_in rules around p (to_come forms.items))) }
+        ensures arguments { LeavesArguments self.old self.new result (λ u. AreArguments u forms.items) }
     {
         match decision {
             Decision::And => self.begin_search(false, forms),
@@ -71,8 +73,9 @@ impl Machine {
 
     // AND and OR.
     fn begin_search(&mut self, truth: bool, forms: Vec<Datum>) -> Result<NextStep, EvaluationError>
-        ensures { StepsOn self.old self.new result
+        ensures gives { StepsOn self.old self.new result
             (λ does rules around p. sought_value_in rules around truth p (to_come forms.items)) }
+        ensures arguments { LeavesArguments self.old self.new result (λ u. AreArguments u forms.items) }
     {
         if !forms.is_empty() {
             return self.seek(truth, forms);
@@ -86,8 +89,9 @@ impl Machine {
     // ASSERT: its test.
     fn begin_assert(&mut self, forms: Vec<Datum>) -> Result<NextStep, EvaluationError>
         requires { 0 < length forms.items }
-        ensures { StepsOn self.old self.new result
+        ensures gives { StepsOn self.old self.new result
             (λ does rules around p. then_on (other_value_in rules around p (to_come forms.items)) (λ x later. asserted_in x later)) }
+        ensures arguments { LeavesArguments self.old self.new result (λ u. AreArguments u forms.items) }
     {
         let mut forms = forms;
         match forms.pop() {
@@ -102,8 +106,9 @@ impl Machine {
     // COND: its clauses are looked at first.
     fn begin_clauses(&mut self, forms: Vec<Datum>) -> Result<NextStep, EvaluationError>
         requires { AreProper forms.items }
-        ensures { StepsOn self.old self.new result
+        ensures gives { StepsOn self.old self.new result
             (λ does rules around p. selected_of (to_come forms.items) (selected_in rules around p (to_come forms.items))) }
+        ensures arguments { LeavesArguments self.old self.new result (λ u. AreArguments u forms.items) }
     {
         if !each_is_clause(forms.as_slice()) {
             return Err(Refused(ARGUMENT_KIND));

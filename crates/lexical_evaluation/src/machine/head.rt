@@ -5,7 +5,7 @@ ghost use Rattle.lisp_object.specs.Object.{symbol};
 ghost use Rattle.package_table.specs.Table.{Name};
 ghost use Rattle.evaluator.specs.Operations.{action_of};
 ghost use Rattle.kept_functions.specs.LocalOperators.{local_operator_of};
-ghost use Rattle.lexical_evaluation.specs.Values.{head_of, toll};
+ghost use Rattle.lexical_evaluation.specs.Values.{head_of, steps_over_packages};
 ghost use Rattle.lexical_evaluation.specs.Ways.{ways, head_shown, is_call};
 
 use evaluator::Operation;
@@ -66,7 +66,7 @@ fn looks_at_packages(name: &[u8]) -> bool
 
 /// The steps of an operator that may look at a whole package.
 pub(super) fn toll(home: &[u8], name: &[u8]) -> u64
-    ensures { result ≡ toll (symbol home.now name.now) }
+    ensures { result ≡ steps_over_packages (symbol home.now name.now) }
 {
     if is_name(home, COMMON_LISP) && looks_at_packages(name) {
         return PACKAGE_STEPS;

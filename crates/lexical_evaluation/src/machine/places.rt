@@ -2,7 +2,7 @@
 ghost use Rattle.std.specs.Prelude.{◌≡◌, ◌<◌, ◌+◌, true, length, IfOk};
 ghost use Rattle.lisp_object.specs.Object.{pair};
 ghost use Rattle.lisp_object.specs.Datum.{object_of};
-ghost use Rattle.lisp_operators.specs.EvaluationAnswers.{IsProper, AreProper};
+ghost use Rattle.lisp_operators.specs.EvaluationAnswers.{IsProper, AreProper, IsArgument};
 ghost use Rattle.evaluator.specs.Operators.{first};
 ghost use Rattle.evaluator.specs.Value.{is_clause, rest};
 ghost use Rattle.evaluator.specs.ArgumentValues.{arguments_in};
@@ -11,6 +11,8 @@ ghost use Rattle.kept_functions.specs.Counting.{Point, then_on};
 ghost use Rattle.lexical_evaluation.specs.Values.{LexicalRules, values_in, values_at_place_in, values_before_place_in};
 ghost use Rattle.lexical_evaluation.specs.Machine.{StepsOn, finished_in, to_come};
 ghost use Rattle.lexical_evaluation.specs.Ways.{may_be_place};
+ghost use Rattle.lexical_evaluation.specs.Arguments.{AreArguments, LeavesArguments};
+ghost use Rattle.package_table.specs.Table.{Table};
 
 use super::{Machine, NextStep};
 use crate::frame::Target;
@@ -28,6 +30,7 @@ pub(super) fn arguments(items: Vec<Datum>) -> Vec<Datum>
     ensures forms { to_come result.items ≡ arguments_in items.items }
     ensures count { length result.items + 1 ≡ length items.items }
     ensures proper { AreProper result.items }
+    ensures arguments { (u : Table) → AreArguments u items.items → AreArguments u result.items }
 {
     let mut forms = items;
     forms.reverse();
@@ -41,9 +44,11 @@ pub(super) fn arguments(items: Vec<Datum>) -> Vec<Datum>
 fn with_place(forms: Vec<Datum>, place: Datum) -> Result<Vec<Datum>, AllocError>
     requires proper { IsProper place }
     requires place { may_be_place (object_of place) ≡ true }
-    ensures { IfOk result (λ all. (rules : LexicalRules) (around : Environment) (p : Point)
+    ensures gives { IfOk result (λ all. (rules : LexicalRules) (around : Environment) (p : Point)
         → values_in rules around p (to_come all.items)
         ≡ values_at_place_in rules around p (pair (object_of place) (to_come forms.items))) }
+    ensures arguments { (u : Table) → AreArguments u forms.items → IsArgument u place
+        → IfOk result (λ all. AreArguments u all.items) }
 {
     match place.into_list() {
         Ok((items, _tail)) => {
@@ -67,9 +72,10 @@ impl Machine {
         requires some { 0 < length forms.items }
         requires proper { AreProper forms.items }
         requires place { may_be_place (first (to_come forms.items)) ≡ true }
-        ensures { StepsOn self.old self.new result
+        ensures gives { StepsOn self.old self.new result
             (λ does rules around p. then_on (values_at_place_in rules around p (to_come forms.items))
             (λ xs later. finished_in rules does around (Target.Operation operation place 0) xs later)) }
+        ensures arguments { LeavesArguments self.old self.new result (λ u. AreArguments u forms.items) }
     {
         let mut others = forms;
         match others.pop() {
@@ -91,9 +97,10 @@ impl Machine {
         requires two { length forms.items ≡ 2 }
         requires proper { AreProper forms.items }
         requires place { is_clause (first (rest (to_come forms.items))) ≡ true }
-        ensures { StepsOn self.old self.new result
+        ensures gives { StepsOn self.old self.new result
             (λ does rules around p. then_on (values_before_place_in rules around p (to_come forms.items))
             (λ xs later. finished_in rules does around (Target.Operation Operation.Push place 0) xs later)) }
+        ensures arguments { LeavesArguments self.old self.new result (λ u. AreArguments u forms.items) }
     {
         let mut others = forms;
         match others.pop() {

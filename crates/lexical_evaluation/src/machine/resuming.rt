@@ -1,8 +1,9 @@
 // A value is given to what waits for it.
 ghost use Rattle.std.specs.Prelude.{◌≡◌};
 ghost use Rattle.lisp_object.specs.Datum.{object_of};
-ghost use Rattle.lisp_operators.specs.EvaluationAnswers.{IsProper, AreProper};
+ghost use Rattle.lisp_operators.specs.EvaluationAnswers.{IsProper, AreProper, IsArgument};
 ghost use Rattle.lexical_evaluation.specs.Machine.{Resumes, IsProperFrame};
+ghost use Rattle.lexical_evaluation.specs.Arguments.{IsFrameOf, LeavesArguments};
 
 use super::{Machine, NextStep};
 use crate::frame::Awaiting;
@@ -19,7 +20,9 @@ impl Machine {
     ) -> Result<NextStep, EvaluationError>
         requires value { IsProper value }
         requires frame { IsProperFrame frame }
-        ensures { Resumes self.old self.new frame (object_of value) result }
+        ensures gives { Resumes self.old self.new frame (object_of value) result }
+        ensures arguments { LeavesArguments self.old self.new result
+            (λ u. IsFrameOf u frame × IsArgument u value) }
     {
         match frame {
             Awaiting::Arguments(target, forms, values) => {

@@ -1,3 +1,4 @@
+use Rattle.lexical_evaluation.proofs.Handing.{waits_more, popped}
 use Rattle.std.proofs.Common.{ap, sym, ◌∙◌}
 use Rattle.lisp_object.specs.Datum.{object_of}
 use Rattle.kept_functions.specs.Counting.{then_on, wrote_too}
@@ -9,8 +10,8 @@ use Rattle.lexical_evaluation.proofs.Choosing.{other_first}
 use Rattle.lexical_evaluation.proofs.Continuing.{waits}
 use Rattle.lexical_evaluation.proofs.machine.Machine.begin_assert.Goals as goal
 
-pub returns : goal.returns
-returns c = λ w s.
+pub returns-clause-gives : goal.returns-clause-gives
+returns-clause-gives c = λ w s.
     let m = c.args.self.now in
     let rules = w.rules m.deeper in
     let p = point_of m s in
@@ -19,3 +20,8 @@ returns c = λ w s.
     (ap (other_value_in rules (around m) p) (next_of c.args.forms.items c.pop.new.self.items c.pop.result c.in-Some.test c.pop.ensures.items c.in-Some.is)
     ∙ other_first rules (around m) p (object_of c.in-Some.test) (to_come c.pop.new.self.items))
     ∙ ap (wrote_too m.wrote) (sym (waits w m.deeper m.frames.items c.push.new.self.items Assert m.bindings.items o c.in_ok-push-in-Some.ensures.items))
+
+pub returns-clause-arguments : goal.returns-clause-arguments
+returns-clause-arguments c = λ u hand forms.
+    let both = popped u c.args.forms.items c.pop.new.self.items c.pop.result c.in-Some.test c.pop.ensures.items c.in-Some.is forms in
+    (waits_more u c.args.self.now c.push.new.self Assert hand c.in_ok-push-in-Some.ensures.items tt, both.1)

@@ -1,5 +1,8 @@
-use Rattle.std.proofs.Common.{ap, sym, ◌∙◌}
-use Rattle.lisp_operators.specs.EvaluationAnswers.{objects}
+use Rattle.lexical_evaluation.specs.Arguments.{AreArguments}
+use Rattle.lexical_evaluation.proofs.Apart.{reversed_all}
+use Rattle.lexical_evaluation.proofs.Handing.{forms_hold, popped, no_arguments}
+use Rattle.std.proofs.Common.{ap, sym, ◌∙◌, subst}
+use Rattle.lisp_operators.specs.EvaluationAnswers.{objects, IsArgument}
 use Rattle.evaluator.specs.Operators.{first}
 use Rattle.evaluator.specs.Value.{rest}
 use Rattle.evaluator.specs.ArgumentValues.{arguments_in}
@@ -13,8 +16,8 @@ use Rattle.lexical_evaluation.proofs.Beginning.{arguments_rest}
 use Rattle.lexical_evaluation.proofs.Going.{Meaning, goes_as}
 use Rattle.lexical_evaluation.proofs.machine.Machine.begin_call.Goals as goal
 
-pub returns-in-Some : goal.returns-in-Some
-returns-in-Some c =
+pub returns-in-Some-clause-gives : goal.returns-in-Some-clause-gives
+returns-in-Some-clause-gives c =
     let m = c.args.self.now in
     let items = c.args.items.items in
     let others = c.pop.new.self.items in
@@ -25,4 +28,10 @@ returns-in-Some c =
     ∙ ap (λ x. then_on (values_in (w.rules m.deeper) (around m) (point_of m s) (rest x)) (λ xs later. named_function (w.rules m.deeper) (first x) xs later))
     (parts_apart items c.reverse.new.self.items others c.pop.result c.in-Some.head c.reverse.ensures.items c.pop.ensures.items c.in-Some.is)
     ∙ ap (λ l. gathered_in (w.rules m.deeper) w.does (around m) (Function c.in-Some.head) (objects l) (to_come others) (point_of m s)) (sym c.new-values.ensures.items))
-    c.gather.ensures
+    c.gather.ensures.gives
+
+pub returns-in-Some-clause-arguments : goal.returns-in-Some-clause-arguments
+returns-in-Some-clause-arguments c = λ u hand value.
+    let turned = reversed_all (IsArgument u) c.args.items.items (forms_hold u c.args.items.items c.requires.items value) in
+    let both = popped u c.reverse.new.self.items c.pop.new.self.items c.pop.result c.in-Some.head c.pop.ensures.items c.in-Some.is (subst (AreArguments u) (sym c.reverse.ensures.items) turned) in
+    c.gather.ensures.arguments u hand (both.1, both.0, subst (AreArguments u) (sym c.new-values.ensures.items) (no_arguments u))

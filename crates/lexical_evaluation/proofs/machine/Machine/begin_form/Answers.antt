@@ -1,4 +1,6 @@
-use Rattle.std.proofs.Common.{◌≡◌, ◌-◌, Bool, not, if◌then◌else◌, length, Err, ap, sym, ◌∙◌, arith}
+use Rattle.plist_state.specs.Sound.{IsValue}
+use Rattle.lexical_evaluation.proofs.Handing.{arguments_value}
+use Rattle.std.proofs.Common.{◌≡◌, ◌-◌, Bool, not, if◌then◌else◌, length, Err, ap, sym, ◌∙◌, arith, subst}
 use Rattle.lisp_object.specs.declared.refusal.TheConstants.{ARGUMENT_COUNT, UNKNOWN_OPERATOR}
 use Rattle.lisp_operators.specs.declared.error.EvaluationError.TheVariants.{Refused}
 use Rattle.evaluator.specs.Operators.{count}
@@ -14,8 +16,8 @@ use Rattle.lexical_evaluation.proofs.Forms.{form_as}
 use Rattle.lexical_evaluation.proofs.Going.{comes_as}
 use Rattle.lexical_evaluation.proofs.machine.Machine.begin_form.Goals as goal
 
-pub returns-then-not-takes : goal.returns-then-not-takes
-returns-then-not-takes c = λ names s.
+pub returns-then-not-takes-clause-gives : goal.returns-then-not-takes-clause-gives
+returns-then-not-takes-clause-gives c = λ names s.
     let m = c.args.self.now in
     let w = ways names in
     let p = point_of m s in
@@ -26,13 +28,13 @@ returns-then-not-takes c = λ names s.
     (ap (λ (b : Bool). comes_to w m (if not b then Err ARGUMENT_COUNT else local_value (w.rules m.deeper) p c.in-Local.operator arguments (parts_in (w.rules m.deeper) (around m) p arguments))) (so ∙ c.if-not-takes.true)
     ∙ refused w m ARGUMENT_COUNT)
 
-pub returns-in-Operator : goal.returns-in-Operator
-returns-in-Operator c = λ names s.
+pub returns-in-Operator-clause-gives : goal.returns-in-Operator-clause-gives
+returns-in-Operator-clause-gives c = λ names s.
     form_as c.args.self.now c.begin_operator.new.self c.begin_operator.result names s (head_in c.args.items.items) (arguments_in c.args.items.items) c.args.head (Operator c.in-Operator.operation) c.in-Operator.is
-    (c.begin_operator.ensures names (head_in c.args.items.items) s c.requires.steps)
+    (c.begin_operator.ensures.gives names (head_in c.args.items.items) s c.requires.steps)
 
-pub returns-else-not-takes : goal.returns-else-not-takes
-returns-else-not-takes c = λ names s.
+pub returns-else-not-takes-clause-gives : goal.returns-else-not-takes-clause-gives
+returns-else-not-takes-clause-gives c = λ names s.
     let m = c.args.self.now in
     let w = ways names in
     let rules = w.rules m.deeper in
@@ -47,13 +49,22 @@ returns-else-not-takes c = λ names s.
     (comes_to w m (local_value rules p c.in-Local.operator forms (parts_in rules (around m) p forms))) c.begin_local.new.self c.begin_local.result
     (ap (λ (b : Bool). comes_to w m (if not b then Err ARGUMENT_COUNT else local_value rules p c.in-Local.operator arguments (parts_in rules (around m) p arguments))) (so ∙ c.if-not-takes.false)
     ∙ ap (λ a. comes_to w m (local_value rules p c.in-Local.operator a (parts_in rules (around m) p a))) (sym c.arguments.ensures.forms))
-    (c.begin_local.ensures names s))
+    (c.begin_local.ensures.gives names s))
 
-pub returns-in-Function : goal.returns-in-Function
-returns-in-Function c = λ names s.
-    form_as c.args.self.now c.begin_call.new.self c.begin_call.result names s (head_in c.args.items.items) (arguments_in c.args.items.items) c.args.head Function c.in-Function.is (c.begin_call.ensures (ways names) s)
+pub returns-in-Function-clause-gives : goal.returns-in-Function-clause-gives
+returns-in-Function-clause-gives c = λ names s.
+    form_as c.args.self.now c.begin_call.new.self c.begin_call.result names s (head_in c.args.items.items) (arguments_in c.args.items.items) c.args.head Function c.in-Function.is (c.begin_call.ensures.gives (ways names) s)
 
-pub returns-in-Unknown : goal.returns-in-Unknown
-returns-in-Unknown c = λ names s.
+pub returns-in-Unknown-clause-gives : goal.returns-in-Unknown-clause-gives
+returns-in-Unknown-clause-gives c = λ names s.
     form_as c.args.self.now c.args.self.now (Err (Refused UNKNOWN_OPERATOR)) names s (head_in c.args.items.items) (arguments_in c.args.items.items) c.args.head Unknown c.in-Unknown.is
     (refused (ways names) c.args.self.now UNKNOWN_OPERATOR)
+
+pub returns-in-Operator-clause-arguments : goal.returns-in-Operator-clause-arguments
+returns-in-Operator-clause-arguments c = λ u hand given. c.begin_operator.ensures.arguments u hand given
+
+pub returns-else-not-takes-clause-arguments : goal.returns-else-not-takes-clause-arguments
+returns-else-not-takes-clause-arguments c = λ u hand value. c.begin_local.ensures.arguments u hand (subst (IsValue u) (sym c.arguments.ensures.forms) (arguments_value u c.args.items.items c.requires.some value))
+
+pub returns-in-Function-clause-arguments : goal.returns-in-Function-clause-arguments
+returns-in-Function-clause-arguments c = λ u hand given. c.begin_call.ensures.arguments u hand given

@@ -1,3 +1,4 @@
+use Rattle.lexical_evaluation.proofs.Handing.{spent_holds}
 use Rattle.std.proofs.Common.{◌≡◌, Err, refl, ap, sym, subst, ◌∙◌}
 use Rattle.std.proofs.lemmas.Result.{err_from_is_err_and}
 use Rattle.lisp_object.specs.Object.{symbol, pair, list_of}
@@ -17,8 +18,8 @@ use Rattle.lexical_evaluation.proofs.Forms.{other_head, begun_form, list_begun, 
 use Rattle.lexical_evaluation.proofs.Going.{comes_as}
 use Rattle.lexical_evaluation.proofs.machine.Machine.begin_list.Goals as goal
 
-pub returns-in_default : goal.returns-in_default
-returns-in_default c = λ names.
+pub returns-in_default-clause-gives : goal.returns-in_default-clause-gives
+returns-in_default-clause-gives c = λ names.
     let m = c.args.self.now in
     let w = ways names in
     let s = c.args.world.now.0 in
@@ -27,8 +28,8 @@ returns-in_default c = λ names.
     ∙ other_head (w.rules m.deeper) (around m) (point_of m s) (object_of c.index-as_slice-0.result) (arguments_in c.as_slice.result.now) c.in_default.ensures.1)
     ∙ refused w m NOT_A_FORM
 
-pub returns-in_err-spend : goal.returns-in_err-spend
-returns-in_err-spend c =
+pub returns-in_err-spend-clause-gives : goal.returns-in_err-spend-clause-gives
+returns-in_err-spend-clause-gives c =
     let m = c.args.self.now in
     let s = c.args.world.now.0 in
     let h = c.in-Ok.home.now in
@@ -49,8 +50,8 @@ returns-in_err-spend c =
     (step_stops w s 1 m c.spend.new.self f c.spend.new.self r.0
     (subst (λ (e : EvaluationError). Spends 1 m c.spend.new.self (Err e)) (sym r.2) (c.in_err-spend.ensures 1 refl))))
 
-pub returns : goal.returns
-returns c = λ names.
+pub returns-clause-gives : goal.returns-clause-gives
+returns-clause-gives c = λ names.
     let m = c.args.self.now in
     let s = c.args.world.now.0 in
     let h = c.in-Ok.home.now in
@@ -74,4 +75,12 @@ returns c = λ names.
     ∙ ap (λ k. comes_to w mid (form_value rules p (symbol h n) k arguments (parts_in rules (around mid) p arguments))) (c.head_at-head.ensures names mid.deeper)
     ∙ ap (λ x. comes_to w mid (form_value rules p x head arguments (parts_in rules (around mid) p arguments))) (sym (ap first parted ∙ named))
     ∙ ap (λ a. comes_to w mid (form_value rules p (head_in items) head a (parts_in rules (around mid) p a))) (ap arguments_in c.as_slice.ensures.value))
-    (c.begin_form.ensures names s)
+    (c.begin_form.ensures.gives names s)
+
+pub returns-clause-arguments : goal.returns-clause-arguments
+returns-clause-arguments c = λ u hand value. c.begin_form.ensures.arguments u (spent_holds u 1 c.args.self.now c.spend.new.self tt (c.in_ok-spend.ensures 1 refl) hand) value
+
+pub returns-in_err-spend-clause-arguments : goal.returns-in_err-spend-clause-arguments
+returns-in_err-spend-clause-arguments c =
+    let r = err_from_is_err_and c.from_residual.result c.from_residual.ensures.1 in
+    rw r.1 (λ u hand value. tt)

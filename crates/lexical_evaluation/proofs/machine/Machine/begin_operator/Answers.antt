@@ -1,4 +1,6 @@
-use Rattle.std.proofs.Common.{◌≡◌, ◌-◌, Bool, not, if◌then◌else◌, length, Err, ap, sym, ◌∙◌, arith}
+use Rattle.plist_state.specs.Sound.{IsValue}
+use Rattle.lexical_evaluation.proofs.Handing.{arguments_value}
+use Rattle.std.proofs.Common.{◌≡◌, ◌-◌, Bool, not, if◌then◌else◌, length, Err, ap, sym, ◌∙◌, arith, subst}
 use Rattle.lisp_object.specs.declared.refusal.TheConstants.{ARGUMENT_COUNT}
 use Rattle.evaluator.specs.declared.place.PlaceForm.{PlaceForm}
 use Rattle.evaluator.specs.Operators.{count, counts}
@@ -13,8 +15,8 @@ use Rattle.lexical_evaluation.proofs.Going.{comes_as}
 use Rattle.lexical_evaluation.proofs.Forms.{place_stops}
 use Rattle.lexical_evaluation.proofs.machine.Machine.begin_operator.Goals as goal
 
-pub returns-then-not-counts : goal.returns-then-not-counts
-returns-then-not-counts c = λ names head s steps.
+pub returns-then-not-counts-clause-gives : goal.returns-then-not-counts-clause-gives
+returns-then-not-counts-clause-gives c = λ names head s steps.
     let m = c.args.self.now in
     let w = ways names in
     let p = point_of m s in
@@ -24,8 +26,8 @@ returns-then-not-counts c = λ names head s steps.
     ap (λ (b : Bool). comes_to w m (if not b then Err ARGUMENT_COUNT else action_in head p (action_of names c.args.operation) arguments (parts_in (w.rules m.deeper) (around m) p arguments))) (so ∙ c.if-not-counts.true)
     ∙ refused w m ARGUMENT_COUNT
 
-pub returns-in-Ok : goal.returns-in-Ok
-returns-in-Ok c = λ names head s steps.
+pub returns-in-Ok-clause-gives : goal.returns-in-Ok-clause-gives
+returns-in-Ok-clause-gives c = λ names head s steps.
     let m = c.args.self.now in
     let w = ways names in
     let rules = w.rules m.deeper in
@@ -38,10 +40,10 @@ returns-in-Ok c = λ names head s steps.
     (comes_to w m (action_in head p (action_of names c.args.operation) forms (parts_in rules (around m) p forms))) c.begin_action.new.self c.begin_action.result
     (ap (λ (b : Bool). comes_to w m (if not b then Err ARGUMENT_COUNT else action_in head p (action_of names c.args.operation) arguments (parts_in rules (around m) p arguments))) (so ∙ c.if-not-counts.false)
     ∙ ap (λ a. comes_to w m (action_in head p (action_of names c.args.operation) a (parts_in rules (around m) p a))) (sym c.arguments.ensures.forms))
-    (c.begin_action.ensures names head s steps)
+    (c.begin_action.ensures.gives names head s steps)
 
-pub returns-in-Err : goal.returns-in-Err
-returns-in-Err c = λ names head s steps.
+pub returns-in-Err-clause-gives : goal.returns-in-Err-clause-gives
+returns-in-Err-clause-gives c = λ names head s steps.
     let m = c.args.self.now in
     let w = ways names in
     let rules = w.rules m.deeper in
@@ -55,3 +57,6 @@ returns-in-Err c = λ names head s steps.
     (ap (λ (b : Bool). comes_to w m (if not b then Err ARGUMENT_COUNT else action_in head p (action_of names c.args.operation) arguments (parts_in rules (around m) p arguments))) (so ∙ c.if-not-counts.false)
     ∙ ap (λ a. comes_to w m (action_in head p (action_of names c.args.operation) a (parts_in rules (around m) p a))) (ap arguments_in (sym c.as_slice.ensures.value)))
     (place_stops PlaceForm names s head m c.args.operation others c.in-Err.error c.in-Err.ensures.refusal)
+
+pub returns-in-Ok-clause-arguments : goal.returns-in-Ok-clause-arguments
+returns-in-Ok-clause-arguments c = λ u hand value. c.begin_action.ensures.arguments u hand (subst (IsValue u) (sym c.arguments.ensures.forms) (arguments_value u c.args.items.items c.requires.some value))

@@ -1,4 +1,6 @@
-use Rattle.std.proofs.Common.{◌≡◌, ◌∷◌, length, ap, sym, ◌∙◌, arith}
+use Rattle.lexical_evaluation.specs.Arguments.{AreArguments}
+use Rattle.lexical_evaluation.proofs.Handing.{popped, no_arguments, form_more}
+use Rattle.std.proofs.Common.{◌≡◌, ◌∷◌, length, ap, sym, ◌∙◌, arith, subst}
 use Rattle.lisp_object.specs.Object.{pair, nil}
 use Rattle.lisp_object.specs.Datum.{object_of}
 use Rattle.lisp_operators.specs.EvaluationAnswers.{objects}
@@ -17,8 +19,8 @@ use Rattle.lexical_evaluation.proofs.Thens.{then_each}
 use Rattle.lexical_evaluation.proofs.Going.{Meaning, goes_as}
 use Rattle.lexical_evaluation.proofs.machine.Machine.gather_before_place.Goals as goal
 
-pub returns-in_ok-push-in-Some-pop : goal.returns-in_ok-push-in-Some-pop
-returns-in_ok-push-in-Some-pop c =
+pub returns-in_ok-push-in-Some-pop-clause-gives : goal.returns-in_ok-push-in-Some-pop-clause-gives
+returns-in_ok-push-in-Some-pop-clause-gives c =
     let m = c.args.self.now in
     let target = AnOperation Push c.args.place 0 in
     let others = c.pop.new.self.items in
@@ -42,8 +44,15 @@ returns-in_ok-push-in-Some-pop c =
     (λ y later. then_on (values_at_place_in (w.rules m.deeper) (around m) later (pair place nil)) (λ ys end'. here (y ∷ ys) end'))
     (λ y later. then_on (values_in (w.rules m.deeper) (around m) later (to_come before)) (λ ys end'. here (y ∷ ys) end'))
     (λ y later. ap (λ o. then_on o (λ ys end'. here (y ∷ ys) end'))
-    (ap (λ l. values_at_place_in (w.rules m.deeper) (around m) later (pair place l)) (sym (none_to_come last none)) ∙ sym (c.in_ok-all-in-Some-pop.ensures (w.rules m.deeper) (around m) later)))
+    (ap (λ l. values_at_place_in (w.rules m.deeper) (around m) later (pair place l)) (sym (none_to_come last none)) ∙ sym (c.in_ok-all-in-Some-pop.ensures.gives (w.rules m.deeper) (around m) later)))
     ∙ sym (values_first (w.rules m.deeper) (around m) (point_of m s) x (to_come before)))
     ∙ ap (λ l. then_on (values_in (w.rules m.deeper) (around m) (point_of m s) l) (λ xs later. finished_in (w.rules m.deeper) w.does (around m) target xs later)) (sym (come_more before all c.in-Some.pushed c.in_ok-push-in-Some-pop.ensures.items))
     ∙ ap (λ l. gathered_in (w.rules m.deeper) w.does (around m) target (objects l) (to_come all) (point_of m s)) (sym c.new-values.ensures.items))
-    c.gather.ensures
+    c.gather.ensures.gives
+
+pub returns-in_ok-push-in-Some-pop-clause-arguments : goal.returns-in_ok-push-in-Some-pop-clause-arguments
+returns-in_ok-push-in-Some-pop-clause-arguments c = λ u hand forms.
+    let both = popped u c.args.forms.items c.pop.new.self.items c.pop.result c.in-Some.pushed c.pop.ensures.items c.in-Some.is forms in
+    let more = popped u c.pop.new.self.items c.pop-in-Some.new.self.items c.pop-in-Some.result c.in-Some-pop.form c.pop-in-Some.ensures.items c.in-Some-pop.is both.0 in
+    c.gather.ensures.arguments u hand
+    (tt, form_more u c.in_ok-all-in-Some-pop.all.items c.push.new.self.items c.in-Some.pushed c.in_ok-push-in-Some-pop.ensures.items (c.in_ok-all-in-Some-pop.ensures.arguments u more.0 more.1) both.1, subst (AreArguments u) (sym c.new-values.ensures.items) (no_arguments u))
