@@ -33,7 +33,7 @@ pub record IsSpotBehind (spot : Spot) (text : List ℕ) (later : Spot) : Type 0 
   pub line : later.line ≡ line_from spot.line text
   pub column : later.column ≡ column_from spot.column text
 
--- the same of a place that is known
+-- a place that is known, and behind it by this text the second one
 abbrev pub IsMovedFrom : Option Spot → List ℕ → Spot → Type 0
 IsMovedFrom before text later = (spot : Spot) × (before ≡ Some spot) × IsSpotBehind spot text later
 

@@ -27,7 +27,7 @@ start_text line column = codes "which began at line " ++ (decimal line ++ (codes
 abbrev pub place_line : ℕ → ℕ → Spots → List ℕ
 place_line number form spots = spot_text spots.at.line spots.at.column ++ (refused_text number form ++ start_text spots.start.line spots.start.column)
 
--- the same in bytes, if no lines are known
+-- a place in bytes, if no lines are known
 abbrev pub byte_text : ℕ → List ℕ
 byte_text bytes = codes "after " ++ (decimal bytes ++ codes " bytes: ")
 

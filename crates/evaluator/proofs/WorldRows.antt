@@ -6,7 +6,7 @@ use Rattle.readtable_core.specs.declared.table.Case.TheVariants.{Invert}
 use Rattle.readtable_core.specs.Tables as readtable
 use Rattle.readtable_core.specs.Tables.{entry_at, dispatch_at}
 use Rattle.readtable_core.specs.Cases.{case_name}
-use Rattle.readtable_core.specs.Changes.{macro_entry, dispatching_entry, with_function}
+use Rattle.readtable_core.specs.Changes.{macro_entry, dispatching_entry, with_dispatch_function}
 use Rattle.readtable_core.specs.Changes.{with_character_entry as with_entry_at}
 use Rattle.readtable_core.specs.Sound.{is_dispatching}
 use Rattle.package_table.specs.Table.{common_lisp, keyword, symbol_count, with_entry, with_used, with_new_package}
@@ -252,7 +252,7 @@ module _ (s : WorldState) where
 
       dispatches_set : is_dispatching (entry_at table 97) ≡ true
           → value [] s (call (codes "SET-DISPATCH-MACRO-CHARACTER") (character 97 ∷ character 98 ∷ named (codes "STD-LIST") ∷ named (codes "X") ∷ []))
-          ≡ writes t (record s { readtables = finite.insert s.readtables (codes "X") (with_entry_at table 97 (with_function (entry_at table 97) 98 (codes "STD-LIST"))) })
+          ≡ writes t (record s { readtables = finite.insert s.readtables (codes "X") (with_entry_at table 97 (with_dispatch_function (entry_at table 97) 98 (codes "STD-LIST"))) })
       unfolding value_over
       dispatches_set dispatches = rw (there, dispatches) refl
 

@@ -37,7 +37,7 @@ abbrev pub arguments_of : List Object → Object
 arguments_of [] = nil
 arguments_of (x ∷ xs) = list_of xs
 
--- the same, of data; the first of them is the operator itself
+-- the arguments of a form, of the data of which it is the list; the first of them is the operator
 abbrev pub arguments_in : List Datum → Object
 arguments_in items = arguments_of (objects items)
 
@@ -62,7 +62,7 @@ operation_value names operation arguments s = action_value s (action_of names op
 abbrev pub Evaluates : List Name → Object → WorldState → WorldState → Result Evaluated EvaluationError → Type 0
 Evaluates names x old new result = Answers done result new (value names old x)
 
--- the same, where less is asked of the value
+-- The value of a form is told so far as it is asked for, from the first of two states to the second.
 abbrev pub EvaluatesFor : ValueUse → List Name → Object → WorldState → WorldState → Result Evaluated EvaluationError → Type 0
 EvaluatesFor wanted names x old new result = Answers done result new (seen wanted (value names old x))
 
@@ -87,7 +87,7 @@ HasValue x result = (s : WorldState) → Answers done result s (gives x s)
 abbrev pub values_after : List Name → List Object → Bool → WorldState → Object → Evaluation (List Object)
 values_after names xs wrote s forms = also wrote (and_then (values names s forms) (λ ys end'. gives (xs ++ ys) end'))
 
--- the same of the subforms of a place
+-- The values of the subforms of a place after these values, where whether those wrote is known; a symbol has no subforms.
 abbrev pub subforms : List Name → List Object → Bool → WorldState → Object → Evaluation (List Object)
 subforms names xs wrote s (pair operator forms) = values_after names xs wrote s forms
 subforms names xs wrote s (symbol home name) = Ok (record { value = xs; state = s; wrote = wrote })

@@ -105,7 +105,7 @@ value_here s (Err code) = Err code
 abbrev pub computed : ValueFunction → List Object → WorldState → Evaluation Object
 computed function xs s = value_here s (call_value function xs)
 
--- the same, where it takes so many arguments at most
+-- what a function of values gives that is applied to them, where the count of its arguments is not known to be right
 abbrev pub computed_value : ValueFunction → List Object → WorldState → Evaluation Object
 computed_value function xs s = value_here s (function_value function xs)
 

@@ -29,7 +29,7 @@ get_place_refusal (pair operator subforms) =
     else (if count subforms == 2 then None else Some ARGUMENT_COUNT)
 get_place_refusal _ = Some ARGUMENT_KIND
 
--- the same, where the place may have a default
+-- Why an object is no place that GET names, where GET may have a default: as `get_place_refusal`, with one count more.
 abbrev pub default_place_refusal : Object → Option ℕ
 default_place_refusal (pair operator subforms) =
     if not (is_standard (codes "GET") operator && is_proper_list subforms) then Some ARGUMENT_KIND
@@ -184,6 +184,7 @@ unfoldable mutual
       and_then (value_over based table s test) (λ x later. if is_true x then value_over based table later then' else other_value_over based table later others)
   choice_over based table s _ = Err ARGUMENT_COUNT
 
+  -- IF, as its first form was false: the value of the third, or NIL where there is none
   pub other_value_over : Bool → OperatorTable → WorldState → Object → Evaluation Object
   other_value_over based table s (pair x xs) = value_over based table s x
   other_value_over based table s _ = gives nil s

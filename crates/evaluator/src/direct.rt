@@ -104,7 +104,7 @@ fn into_items(form: Datum) -> Result<Vec<Datum>, Datum>
     }
 }
 
-// What is quoted by a form that is headed by QUOTE.
+// What is quoted by a form that is headed by QUOTE. A None says nothing of the form.
 fn quoted(form: &Datum) -> Option<&Datum>
     requires { IsProper form.now }
     ensures object { IfSome result (λ x. object_of form.now ≡ quoted (object_of x.now)) }
@@ -117,7 +117,7 @@ fn quoted(form: &Datum) -> Option<&Datum>
     Some(&items[1])
 }
 
-// The symbol that is quoted by a form.
+// The symbol that is quoted by a form. A None says nothing of the form.
 fn quoted_symbol(form: &Datum) -> Option<BorrowedSymbol<'_>>
     requires { IsProper form.now }
     ensures { IfSome result (λ s.
@@ -132,7 +132,8 @@ fn quoted_symbol(form: &Datum) -> Option<BorrowedSymbol<'_>>
     })
 }
 
-/// The property that a form headed by GET names, where its arguments are two quoted symbols.
+/// The property that a form headed by GET names, where its arguments are two quoted symbols. A None says nothing of them: the form
+/// is then evaluated as any other.
 pub(crate) fn quoted_property(items: &[Datum]) -> Option<QuotedProperty<'_>>
     requires { AreProper items.now }
     ensures { IfSome result (λ p.
@@ -150,7 +151,7 @@ pub(crate) fn quoted_property(items: &[Datum]) -> Option<QuotedProperty<'_>>
     Some(QuotedProperty { symbol, indicator })
 }
 
-// The object that a form gives in every state: what it quotes, or itself.
+// The object that a form gives in every state: what it quotes, or itself. A None says nothing of the form.
 fn literal(form: &Datum) -> Option<&Datum>
     requires { IsProper form.now }
     ensures value { IfSome result (λ x. IsLiteral (object_of form.now) (object_of x.now)) }
@@ -211,11 +212,12 @@ fn into_quoted(form: Datum) -> Result<Datum, Datum>
     }
 }
 
-// The property that a place names, where it is GET of two quoted symbols.
+// The property that a place names, where it is GET of two quoted symbols. A None says nothing of the place.
 fn place_property(place: &Datum) -> Option<QuotedProperty<'_>>
     requires { IsProper place.now }
     ensures { IfSome result (λ p. object_of place.now
-        ≡ pair (symbol common_lisp (codes "GET")) (quoted_key (symbol_named p.symbol) (symbol_named p.indicator))) }
+        ≡ pair (symbol common_lisp (codes "GET"))
+        (quoted_key (symbol_named p.symbol) (symbol_named p.indicator))) }
 {
     let Some(items) = call(place, b"GET", 3) else {
         return None;
@@ -271,7 +273,8 @@ pub(crate) fn set_directly(
 ) -> Result<Evaluated, EvaluationError>
     requires { IsStorable world.old.0.packages assignment.property assignment.literal.now }
     ensures gives { Answers done result world.new.0
-        (seen wanted (value_set assignment.entry.property (object_of assignment.entry.literal.now) world.old.0)) }
+        (seen wanted
+        (value_set assignment.entry.property (object_of assignment.entry.literal.now) world.old.0)) }
     ensures proper { IfOk result IsProperValue }
     ensures marked { world.new.1 ≡ world.old.1 }
 {

@@ -295,7 +295,8 @@ fn extended(
     requires values { AreArgumentsOf world.old values.values.items }
     requires forms { AreArgumentsOf world.old forms.now }
     ensures gives { Answers all_done result world.new.0
-        (values_after names.now (objects values.values.items) values.wrote world.old.0 (list_of (objects (drop from forms.now)))) }
+        (values_after names.now (objects values.values.items) values.wrote
+        world.old.0 (list_of (objects (drop from forms.now)))) }
     ensures values { IfOk result (λ v. AreArgumentsOf world.new v.values.items) }
     ensures kept { IfOk result (λ _. KeepsArguments world.old.0.packages world.new.0.packages) }
     ensures marked { world.new.1 ≡ world.old.1 }

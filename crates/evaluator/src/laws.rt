@@ -48,9 +48,12 @@ pub fn more_operators_change_no_value()
         → (d : Done Object) → AreOperatorsAmong fewer more
         → value_over based fewer s x ≡ Ok d → value_over based more s x ≡ Ok d }
     ensures standard { (based : Bool) (names : List Name) (s : WorldState) (x : Object)
-        → (d : Done Object) → value_over based (standard_operator_of names) s x ≡ Ok d → value_by based names s x ≡ Ok d }
+        → (d : Done Object) → value_over based (standard_operator_of names) s x ≡ Ok d
+        → value_by based names s x ≡ Ok d }
     ensures before_deciding { (based : Bool) (names : List Name) (s : WorldState) (x : Object)
-        → (d : Done Object) → value_over based (operators_before_deciding names) s x ≡ Ok d → value_by based names s x ≡ Ok d }
+        → (d : Done Object) → value_over based (operators_before_deciding names) s x ≡ Ok d
+        → value_by based names s x ≡ Ok d }
     ensures before_places { (based : Bool) (names : List Name) (s : WorldState) (x : Object)
-        → (d : Done Object) → value_over based (operators_before_places names) s x ≡ Ok d → value_by based names s x ≡ Ok d }
+        → (d : Done Object) → value_over based (operators_before_places names) s x ≡ Ok d
+        → value_by based names s x ≡ Ok d }
 {}

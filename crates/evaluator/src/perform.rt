@@ -38,7 +38,9 @@ pub(crate) fn perform(
     requires names { AreFunctionNames names.now }
     requires values { AreArgumentsOf world.old values.values.items }
     ensures gives { Answers done result world.new.0
-        (also values.wrote (seen task.wanted (function_of_operation names.now task.operation place (objects values.values.items) world.old.0))) }
+        (also values.wrote
+        (seen task.wanted (function_of_operation names.now task.operation place
+        (objects values.values.items) world.old.0))) }
     ensures proper { IfOk result IsProperValue }
     ensures marked { world.new.1 ≡ world.old.1 }
 {

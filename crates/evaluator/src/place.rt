@@ -33,8 +33,11 @@ pub enum PlaceForm {
 fn accessor(place: &Datum) -> Option<(&Datum, usize)>
     requires { IsProper place.now }
     ensures value { MatchOption result
-        ((get_place_refusal (object_of place.now) ≡ Some WRONG_KIND) × (list_place_refusal (object_of place.now) ≡ Some WRONG_KIND) × (default_place_refusal (object_of place.now) ≡ Some WRONG_KIND))
-        (λ p. (subforms : Object) × (object_of place.now ≡ pair (object_of p.0.now) subforms) × (is_proper_list subforms ≡ true) × (count subforms ≡ p.1)) }
+        ((get_place_refusal (object_of place.now) ≡ Some WRONG_KIND)
+        × (list_place_refusal (object_of place.now) ≡ Some WRONG_KIND)
+        × (default_place_refusal (object_of place.now) ≡ Some WRONG_KIND))
+        (λ p. (subforms : Object) × (object_of place.now ≡ pair (object_of p.0.now) subforms)
+        × (is_proper_list subforms ≡ true) × (count subforms ≡ p.1)) }
     ensures proper { MatchOption result (Unit {0}) (λ p. is_proper p.0.now ≡ true) }
 {
     match place {

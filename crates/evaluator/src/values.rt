@@ -40,7 +40,8 @@ impl Values {
     /// These, and one more.
     pub(crate) fn with(self, evaluated: Evaluated) -> Result<Values, AllocError>
         ensures { IfOk result (λ v.
-            (v.values.items ≡ self.values.items ++ evaluated.value ∷ []) × (v.wrote ≡ (self.wrote || evaluated.wrote))) }
+            (v.values.items ≡ self.values.items ++ evaluated.value ∷ [])
+            × (v.wrote ≡ (self.wrote || evaluated.wrote))) }
     {
         let Values { mut values, wrote } = self;
         values.push(evaluated.value)?;

@@ -48,9 +48,11 @@ pub fn needed_symbols_stay()
 /// - `packages`, `uses`, `external`: the packages, what each uses, and what is external in each
 pub fn what_is_not_forgotten()
     ensures rest { (held : List Symbol) (s : WorldState)
-        → without_unneeded_symbols held s ≡ record s { packages = (without_unneeded_symbols held s).packages } }
+        → without_unneeded_symbols held s
+        ≡ record s { packages = (without_unneeded_symbols held s).packages } }
     ensures packages { (held : List Symbol) (s : WorldState) (p : Name)
-        → finite.contains_key (without_unneeded_symbols held s).packages p ≡ finite.contains_key s.packages p }
+        → finite.contains_key (without_unneeded_symbols held s).packages p
+        ≡ finite.contains_key s.packages p }
     ensures uses { (held : List Symbol) (s : WorldState) (p q : Name)
         → is_used (without_unneeded_symbols held s).packages p q ≡ is_used s.packages p q }
     ensures external { (held : List Symbol) (s : WorldState) (p n : Name)

@@ -72,7 +72,8 @@ fn mark_owners(
     owners: &[(&[u8], &[u8])],
 ) -> Result<(), AllocError>
     ensures { OnOk result (AddsMarks (table_now packages.now) marks.old.items marks.new.items
-        (flat_map (λ o. borrowed_symbol o ∷ plist_symbols (plist world.now.0 (borrowed_symbol o))) owners.now)) }
+        (flat_map (λ o. borrowed_symbol o ∷ plist_symbols (plist world.now.0 (borrowed_symbol o)))
+        owners.now)) }
 {
     for owner in owners {
         mark_owner(packages, marks, world, *owner)?;
@@ -137,7 +138,8 @@ fn push_unneeded<'a>(
 ) -> Result<(), AllocError>
     ensures { OnOk result (borrowed_symbols found.new.items ≡ borrowed_symbols found.old.items
         ++ filter (λ x. not (is_external packages.now.0 x.0 x.1
-        || is_marked (table_now packages.now) marks.now x)) (map (λ n. (home.now, n)) (own_names packages.now.0 home.now))) }
+        || is_marked (table_now packages.now) marks.now x))
+        (map (λ n. (home.now, n)) (own_names packages.now.0 home.now))) }
 {
     let Ok(names) = packages.own_names(alloc, home) else {
         return Err(AllocError);

@@ -41,7 +41,7 @@ abbrev pub accepted_over : Bool → OperatorTable → WorldState → Result (Tab
 accepted_over based table s (Ok p) x = also p.1 (value_over based table (with_packages s p.0) x)
 accepted_over based table s (Err e) x = Err (package_error_number e)
 
--- `accepted_over` of a form whose symbols are interned first
+-- `accepted_over` of a form whose symbols are interned first; the test in front is whether *READ-BASE* is a variable
 abbrev pub accept_over : Bool → OperatorTable → WorldState → Object → Evaluation Object
 accept_over based table s x = accepted_over based table s (with_symbols_interned s.packages (symbols x)) x
 
@@ -49,7 +49,7 @@ accept_over based table s x = accepted_over based table s (with_symbols_interned
 abbrev pub accepted_by : Bool → List Name → WorldState → Result (Table × Bool) PackageError → Object → Evaluation Object
 accepted_by based names = accepted_over based (operator_of names)
 
--- `accept_over` by the same operators
+-- `accept_over` by the operators that there are, where these are the names of the program's macro functions
 abbrev pub accept_by : Bool → List Name → WorldState → Object → Evaluation Object
 accept_by based names = accept_over based (operator_of names)
 

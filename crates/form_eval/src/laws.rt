@@ -29,7 +29,8 @@ pub fn silent_forms_change_nothing()
 /// at most 100 whose symbols fit the packages. For proofs: it does nothing.
 pub fn accepted_states_are_sound()
     ensures { (names : List Name) (s : WorldState) (x : Object) (d : Done Object)
-        → AreFunctionNames names → IsSoundWorldState s → IsForm s.packages x → accept names s x ≡ Ok d → IsSoundAfter s d }
+        → AreFunctionNames names → IsSoundWorldState s → IsForm s.packages x
+        → accept names s x ≡ Ok d → IsSoundAfter s d }
 {}
 
 /// Where the readtables of a state name no function but those of the standard readtable and these names of macro functions, a
@@ -126,7 +127,8 @@ pub fn decisions_are_those_of_if()
 pub fn changes_of_places_are_those_of_setf()
     ensures pop { (names : List Name) (s : WorldState) (x i : Symbol)
         → value names s (pop_form (get_form x i))
-        ≡ value names s (prog1_form (car_form (get_form x i)) (setf_form (get_form x i) (cdr_form (get_form x i)))) }
+        ≡ value names s (prog1_form (car_form (get_form x i))
+        (setf_form (get_form x i) (cdr_form (get_form x i)))) }
     ensures decf { (names : List Name) (s : WorldState) (x i : Symbol) (n : ℤ)
         → value names s (decf_form (get_form x i) (integer n))
         ≡ value names s (incf_form (get_form x i) (integer (neg_ℤ n))) }

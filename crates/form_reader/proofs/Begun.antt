@@ -5,8 +5,8 @@ use Rattle.std.proofs.lemmas.Bool.{lt-ltb}
 use Rattle.std.proofs.lemmas.List.{take-append-le, drop-append-le}
 use Rattle.std.proofs.Math.Seq.{take-length, drop-length, take-append_seam, drop-append_seam}
 use Rattle.lisp_object.specs.declared.refusal.TheConstants.{DOT_CONTEXT}
-use Rattle.lisp_reading.specs.declared.found.Found.{Found}
-use Rattle.lisp_reading.specs.declared.found.Found.TheVariants.{Nothing as nothing, One as one, LoneDot as lone_dot, TheEnd as the_end}
+use Rattle.lisp_reading.specs.declared.attempt.Found.{Found}
+use Rattle.lisp_reading.specs.declared.attempt.Found.TheVariants.{Nothing as nothing, One as one, LoneDot as lone_dot, TheEnd as the_end}
 use Rattle.lisp_reading.specs.Plans.{Read, fault, run}
 use Rattle.lisp_reading.specs.Deciding.{decided_from}
 use Rattle.lisp_reading.proofs.Deciding.{decided_is}
@@ -24,7 +24,7 @@ use Rattle.form_reader.specs.declared.state.State.TheVariants.{Object as AtObjec
 use Rattle.form_reader.specs.declared.step.Change.{Change}
 use Rattle.form_reader.specs.declared.step.Change.TheVariants.{Goes, Form as ChangeForm, Refused as ChangeRefused}
 use Rattle.std.specs.declared.alloc.AllocError.{AllocError}
-use Rattle.form_reader.specs.Step.{is_space, outcome_of, start_of, verdict_of, ChangesTo, BeginsAnew, AttemptEndsBefore, Starts}
+use Rattle.form_reader.specs.Step.{is_space, outcome_of, start_of, verdict_of, ChangesTo, OpensNothingAtStart, AttemptEndsBefore, Starts}
 use Rattle.form_reader.specs.State.{state_gives}
 use Rattle.form_reader.specs.EndOfText.{RefusesIn}
 use Rattle.form_reader.specs.declared.reader.ReadOutcome.{ReadOutcome}
@@ -229,7 +229,7 @@ module _ (setting : Setting) (old : FormReader) (state : State) (bytes : List �
   pub stepped_begun : (mid new : FormReader) (stack : List Frame) (change : Change) (step : Advance)
       → (IsBetweenForms old → is_space setting byte ≡ true → change ≡ Goes (old.start + 1) 0 AtObject)
       → ((cs : List ℕ) → ChangesTo setting stack cs change (verdict_of setting old.start (state_gives setting old.stack state old.at (byte ∷ cs))))
-      → Starts setting old.stack state old.start old.at byte change → BeginsAnew stack change → Becomes change mid new step → mid.stack ≡ stack
+      → Starts setting old.stack state old.start old.at byte change → OpensNothingAtStart stack change → Becomes change mid new step → mid.stack ≡ stack
       → Steps setting new (bytes ++ byte ∷ []) step → StepsBegun setting new (bytes ++ byte ∷ []) step
   stepped_begun mid new stack (Goes start at there) step passes turns starts anew takes same steps =
       subst (λ (s : Advance). StepsBegun setting new (bytes ++ byte ∷ []) s) (sym takes.0) (by at refl)

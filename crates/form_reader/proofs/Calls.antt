@@ -17,8 +17,8 @@ use Rattle.form_reader.specs.declared.state.Event.{Event}
 use Rattle.form_reader.specs.declared.state.Event.TheVariants.{Open as IsAt, Gives as IsGiven, Refused as IsRefused}
 use Rattle.form_reader.specs.declared.value.Return.{Return}
 use Rattle.form_reader.specs.declared.value.Return.TheVariants.{Refused as ReturnRefused}
-use Rattle.lisp_reading.specs.declared.found.Found.{Found}
-use Rattle.form_reader.specs.State.{space, IsReady, IsEnd, Brings}
+use Rattle.lisp_reading.specs.declared.attempt.Found.{Found}
+use Rattle.form_reader.specs.State.{discarded_space_length, IsReady, IsEnd, Brings}
 use Rattle.form_reader.specs.Value.{IsReturnAt}
 use Rattle.lisp_object.specs.declared.refusal.TheConstants.{DOT_CONTEXT}
 use Rattle.std_macros.specs.Values.{Material, many, dotted}
@@ -63,16 +63,16 @@ end_within less most at (IsAt state) h le = h
 end_within less most at (IsGiven found) h le = omega (arith, h, le)
 end_within less most at (IsRefused code offset) h le = h
 
-pub or_none : (a : Bool) → space (a || false) ≡ space a
+pub or_none : (a : Bool) → discarded_space_length (a || false) ≡ discarded_space_length a
 or_none true = refl
 or_none false = refl
 
-pub space_or : (a b : Bool) → space a ≤ space (a || b)
+pub space_or : (a b : Bool) → discarded_space_length a ≤ discarded_space_length (a || b)
 space_or true b = omega arith
 space_or false true = omega arith
 space_or false false = omega arith
 
-pub or_space : (a b : Bool) → space b ≤ space (a || b)
+pub or_space : (a b : Bool) → discarded_space_length b ≤ discarded_space_length (a || b)
 or_space true true = omega arith
 or_space true false = omega arith
 or_space false true = omega arith

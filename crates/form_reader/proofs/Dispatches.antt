@@ -8,7 +8,7 @@ use Rattle.token_scan.specs.ByteByByte.{Scan, first_scan, begun_escaped}
 use Rattle.std_macros.specs.Values.{marked, nothing as no_material}
 use Rattle.form_reader.specs.declared.call.CallValue.{CallValue}
 use Rattle.form_reader.specs.declared.call.CallValue.TheVariants.{Refused}
-use Rattle.lisp_reading.specs.declared.found.Found.{Found}
+use Rattle.lisp_reading.specs.declared.attempt.Found.{Found}
 use Rattle.form_reader.specs.declared.stack.Frame.{Frame}
 use Rattle.form_reader.specs.declared.stack.Part.{Part}
 use Rattle.form_reader.specs.declared.stack.Part.TheVariants.{Next as InNext, List as InList, Until as InUntil, Dotted as InDotted, Tailed as InTailed}

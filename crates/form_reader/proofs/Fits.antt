@@ -17,8 +17,8 @@ use Rattle.package_table.specs.Table.{Table as Packages}
 use Rattle.lisp_object.specs.declared.refusal.TheConstants.{MACRO_ANSWER}
 use Rattle.user_macros.specs.declared.call.Answer.TheVariants.{One}
 use Rattle.user_macros.specs.Calls.{value, improper, answer_of}
-use Rattle.lisp_reading.specs.declared.found.Found.{Found}
-use Rattle.lisp_reading.specs.declared.found.Found.TheVariants.{One as one}
+use Rattle.lisp_reading.specs.declared.attempt.Found.{Found}
+use Rattle.lisp_reading.specs.declared.attempt.Found.TheVariants.{One as one}
 use Rattle.lisp_reading.specs.Plans.{Plan, gives, refuses}
 use Rattle.lisp_reading.specs.Answering.{are_known, may_be_answered}
 use Rattle.lisp_reading.specs.Reading.{plan_after_answer}

@@ -10,7 +10,7 @@ use Rattle.readtable_core.specs.declared.characters.Syntax.TheVariants.{Whitespa
 use Rattle.readtable_core.specs.Tables.{Table, CharacterEntry, entry_at, no_entry}
 use Rattle.token_scan.specs.ByteByByte.{first_scan, Scan}
 use Rattle.lisp_reading.specs.declared.limits.Limits.{Limits}
-use Rattle.lisp_reading.specs.declared.found.Found.{Found}
+use Rattle.lisp_reading.specs.declared.attempt.Found.{Found}
 use Rattle.form_reader.specs.declared.stack.Frame.{Frame}
 use Rattle.form_reader.specs.declared.state.Event.{Event}
 use Rattle.lisp_reading.specs.Plans.{Plan, refuses, takes, scans, then_plan, Read, fault, within, run}
@@ -29,9 +29,9 @@ use Rattle.token_scan.specs.Spelling.{ends_tokens}
 use Rattle.form_reader.specs.declared.state.Moved.{Moved}
 use Rattle.form_reader.specs.declared.state.State.{State}
 use Rattle.form_reader.specs.declared.token.FirstByte.{FirstByte}
-use Rattle.lisp_reading.specs.declared.told.ResolvedToken.{ResolvedToken}
-use Rattle.lisp_reading.specs.declared.told.ResolutionError.{ResolutionError}
-use Rattle.lisp_reading.specs.declared.told.ResolutionError.TheVariants.{Refused as TellRefused}
+use Rattle.lisp_reading.specs.declared.token_resolution.ResolvedToken.{ResolvedToken}
+use Rattle.lisp_reading.specs.declared.token_resolution.ResolutionError.{ResolutionError}
+use Rattle.lisp_reading.specs.declared.token_resolution.ResolutionError.TheVariants.{Refused as TellRefused}
 use Rattle.lisp_reading.specs.Naming.{token_meant, told_meaning, TellsMeaning}
 use Rattle.token_meaning.specs.Meanings.{meaning_of}
 use Rattle.token_meaning.specs.Folding.{folded_marks}

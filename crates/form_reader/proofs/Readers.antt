@@ -11,13 +11,13 @@ use Rattle.form_reader.specs.declared.state.State.{State}
 use Rattle.form_reader.specs.declared.state.State.TheVariants.{Object as AtObject}
 use Rattle.form_reader.specs.declared.step.Change.{Change}
 use Rattle.form_reader.specs.declared.step.Change.TheVariants.{Goes, Form as ChangeForm, Refused as ChangeRefused}
-use Rattle.lisp_reading.specs.declared.found.Found.{Found}
-use Rattle.lisp_reading.specs.declared.found.Found.TheVariants.{Nothing as nothing, One as one, LoneDot as lone_dot, TheEnd as the_end}
+use Rattle.lisp_reading.specs.declared.attempt.Found.{Found}
+use Rattle.lisp_reading.specs.declared.attempt.Found.TheVariants.{Nothing as nothing, One as one, LoneDot as lone_dot, TheEnd as the_end}
 use Rattle.lisp_reading.specs.Plans.{Read, fault, gives}
 use Rattle.std.specs.declared.alloc.AllocError.{AllocError}
 use Rattle.form_reader.specs.declared.step.object.Passed.{Passed}
 use Rattle.form_reader.specs.declared.step.object.Passed.TheVariants.{Done as PassedDone}
-use Rattle.form_reader.specs.Step.{Passes, outcome_of, rest_of_attempt, verdict_of, ChangesTo, IsReadyChange, Settles, BeginsAnew}
+use Rattle.form_reader.specs.Step.{Passes, outcome_of, rest_of_attempt, verdict_of, ChangesTo, IsReadyChange, Settles, OpensNothingAtStart}
 use Rattle.form_reader.specs.State.{state_gives, Brings}
 use Rattle.lisp_reading.specs.Setting.{Setting}
 use Rattle.lisp_reading.specs.Reading.{form, refused, reads, ReadingResult, empty, reads_at}
@@ -131,13 +131,13 @@ brought setting stack at (IsRefused code offset) = (fault code offset, refl)
 
 -- where the outermost attempt comes to something, no call is open
 pub done_anew : (setting : Setting) (stack : List Frame) (at : ℕ) (settled : Event) (found : Found) (read : Read Found) (change : Change) → settled ≡ IsGiven found
-    → Settles setting stack at [] settled read → BeginsAnew [] change → BeginsAnew stack change
+    → Settles setting stack at [] settled read → OpensNothingAtStart [] change → OpensNothingAtStart stack change
 done_anew setting stack at settled found read change e settles anew =
     let told : Settles setting stack at [] (IsGiven found) read = subst (λ (s : Event). Settles setting stack at [] s read) e settles in
-    subst (λ (fs : List Frame). BeginsAnew fs change) (sym told.1) anew
+    subst (λ (fs : List Frame). OpensNothingAtStart fs change) (sym told.1) anew
 
 -- where the attempt that is open after a change has no byte, the reader is between forms
-pub anew_between : (mid new : FormReader) (after : List Frame) (change : Change) (step : Advance) → BeginsAnew after change → Becomes change mid new step → mid.stack ≡ after
+pub anew_between : (mid new : FormReader) (after : List Frame) (change : Change) (step : Advance) → OpensNothingAtStart after change → Becomes change mid new step → mid.stack ≡ after
     → step ≡ AdvanceMore → begun new ≡ fed new → IsBetweenForms new
 anew_between mid new after (Goes start at state) step anew takes same e here =
     let none = anew (omega (arith, takes.2, here)) in

@@ -5,7 +5,7 @@ use Rattle.lisp_object.specs.Object.{Object}
 use Rattle.lisp_object.specs.declared.refusal.TheConstants.{FORM_TOO_LONG}
 use Rattle.readtable_core.specs.Tables.{Table}
 use Rattle.lisp_reading.specs.declared.limits.Limits.{Limits}
-use Rattle.lisp_reading.specs.declared.found.Found.{Found}
+use Rattle.lisp_reading.specs.declared.attempt.Found.{Found}
 use Rattle.form_reader.specs.declared.stack.Frame.{Frame}
 use Rattle.form_reader.specs.declared.stack.Part.TheVariants.{List as InList, Until as InUntil}
 use Rattle.lisp_reading.specs.Plans.{Plan, takes, then_plan, Fault, Read, within, run}

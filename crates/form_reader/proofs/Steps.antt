@@ -1,8 +1,8 @@
 -- What a change is to the outcome, from what a byte brings; whitespace that is discarded where an object may begin; where what is
 -- open after a byte began.
 use Rattle.std.proofs.Common.{◌≡◌, ℕ, ◌+◌, ◌≤◌, Bool, List, [], ◌∷◌, length, Result, Ok, IfOk, sym, ap, subst, ◌∙◌, ◌<◌, true, false, refl, arith, inl, inr, Err}
-use Rattle.lisp_reading.specs.declared.found.Found.{Found}
-use Rattle.lisp_reading.specs.declared.found.Found.TheVariants.{Nothing as nothing}
+use Rattle.lisp_reading.specs.declared.attempt.Found.{Found}
+use Rattle.lisp_reading.specs.declared.attempt.Found.TheVariants.{Nothing as nothing}
 use Rattle.form_reader.specs.declared.stack.Frame.{Frame}
 use Rattle.lisp_reading.specs.declared.limits.Limits.{Limits}
 use Rattle.form_reader.specs.declared.state.State.TheVariants.{Object as AtObject}

@@ -7,8 +7,8 @@ use Rattle.std_macros.specs.Values.{one as one_object}
 use Rattle.form_reader.specs.declared.call.CallValue.{CallValue}
 use Rattle.form_reader.specs.declared.value.Return.{Return}
 use Rattle.form_reader.specs.declared.value.Return.TheVariants.{Gives as ReturnGives, Waits}
-use Rattle.lisp_reading.specs.declared.found.Found.{Found}
-use Rattle.lisp_reading.specs.declared.found.Found.TheVariants.{Nothing as nothing, One as one, LoneDot as lone_dot, TheEnd as the_end}
+use Rattle.lisp_reading.specs.declared.attempt.Found.{Found}
+use Rattle.lisp_reading.specs.declared.attempt.Found.TheVariants.{Nothing as nothing, One as one, LoneDot as lone_dot, TheEnd as the_end}
 use Rattle.form_reader.specs.declared.stack.Frame.{Frame}
 use Rattle.form_reader.specs.declared.stack.Part.{Part}
 use Rattle.form_reader.specs.declared.stack.Part.TheVariants.{Next as InNext, List as InList, Until as InUntil, Dotted as InDotted, Tailed as InTailed}
@@ -17,7 +17,7 @@ use Rattle.lisp_reading.specs.InvokedCalls.{InvokedCall}
 use Rattle.lisp_reading.specs.Setting.{Setting}
 use Rattle.lisp_reading.specs.Reading.{next_item, without_space, items_after, undotted_plan, after_tail, list_end, completed_call}
 use Rattle.form_reader.specs.Call.{plan_of}
-use Rattle.form_reader.specs.Value.{AttemptTakes, Shortens, Returns}
+use Rattle.form_reader.specs.Value.{AttemptTakes, ShortensOpenCalls, Returns}
 use Rattle.form_reader.specs.Stack.{attempt_in, next_item_in, call_in, outer_plan, between_objects, next_item_gives, with_object, with_dot, with_found, calls_with, is_next, is_waiting, plan_gives}
 use Rattle.form_reader.proofs.Stacks.{space_given, list_is, until_is}
 use Rattle.lisp_reading.proofs.Turns.{space_same}
@@ -261,7 +261,7 @@ as_many (f ∷ fs) after found e = by (with_found f.part found) refl
     by None n = let never : None ≡ Some after = sym (ap (option_map calls) n) ∙ e in cc
     by (Some new) n = ap length (sym (some_same (calls new) after (sym (ap (option_map calls) n) ∙ e)))
 
-pub stays_open : (stack after : List Frame) (found : Found) (token : Bool) → calls_with stack found ≡ Some after → Shortens stack after (Waits token)
+pub stays_open : (stack after : List Frame) (found : Found) (token : Bool) → calls_with stack found ≡ Some after → ShortensOpenCalls stack after (Waits token)
 stays_open stack after found token e = let many : length after ≡ length stack = as_many stack after found e in omega (arith, many)
 
 -- ---- call after call

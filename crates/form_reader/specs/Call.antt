@@ -1,7 +1,7 @@
 -- What the calls of functions come to.
 use Rattle.form_reader.specs.declared.call.CallValue.{CallValue}
 use Rattle.form_reader.specs.declared.call.CallValue.TheVariants.{Gives, Refused}
-use Rattle.lisp_reading.specs.declared.found.Found.{Found}
+use Rattle.lisp_reading.specs.declared.attempt.Found.{Found}
 use Rattle.lisp_reading.specs.Plans.{Plan, gives, refuses}
 use Rattle.std.specs.Prelude.{ℕ, List}
 use Rattle.form_reader.specs.declared.stack.Frame.{Frame}

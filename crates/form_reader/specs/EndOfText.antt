@@ -9,7 +9,7 @@ use Rattle.form_reader.specs.declared.state.Event.TheVariants.{Open as IsAt, Giv
 use Rattle.form_reader.specs.declared.state.State.TheVariants.{Object as AtObject}
 use Rattle.form_reader.specs.declared.reader.ReadOutcome.{ReadOutcome}
 use Rattle.form_reader.specs.declared.reader.ReadOutcome.TheVariants.{Refused as ReadRefused}
-use Rattle.lisp_reading.specs.declared.found.Found.{Found}
+use Rattle.lisp_reading.specs.declared.attempt.Found.{Found}
 use Rattle.lisp_reading.specs.Plans.{Read, fault}
 use Rattle.lisp_reading.specs.Setting.{Setting}
 use Rattle.form_reader.specs.Step.{start_of}

@@ -186,8 +186,8 @@ pub record FeedsReader (setting : Setting) (reader : FormReader) (before bytes :
   pub steps : Steps setting reader (before ++ take count bytes) step
   pub undecided : is_more step ≡ false → 1 < count → DecideNothing setting (before ++ take (count - 1) bytes)
 
--- how many bytes it was fed after so many steps, the last of which answers this, and where what is open then began: of a form, its
--- object
+-- After so many steps, the last of which answers this: more bytes are so many more that were fed, and after a form none was. What was
+-- open began where what is open then began, or before: of a form, its object. Of how many were fed as one is refused nothing is said.
 abbrev pub AdvancesFed : FormReader → FormReader → ℕ → Advance → Type 0
 AdvancesFed old new count AdvanceMore = (fed new ≡ fed old + count) × (begun old ≤ begun new) × (begun new ≤ fed new)
 AdvancesFed old new count (AdvanceForm datum start «end» next) = (fed new ≡ 0) × (begun old ≤ start) × (begun new ≡ 0)

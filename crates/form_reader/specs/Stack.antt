@@ -4,8 +4,8 @@ use Rattle.std.specs.Prelude.{ℕ, ◌≡◌, ◌+◌, ◌-◌, ◌==◌, Bool, 
 use Rattle.lisp_object.specs.Object.{Object}
 use Rattle.token_scan.specs.declared.mark.Mark.{Mark}
 use Rattle.std_macros.specs.Values.{one as one_object}
-use Rattle.lisp_reading.specs.declared.found.Found.{Found}
-use Rattle.lisp_reading.specs.declared.found.Found.TheVariants.{Nothing as nothing, One as one, LoneDot as lone_dot, TheEnd as the_end}
+use Rattle.lisp_reading.specs.declared.attempt.Found.{Found}
+use Rattle.lisp_reading.specs.declared.attempt.Found.TheVariants.{Nothing as nothing, One as one, LoneDot as lone_dot, TheEnd as the_end}
 use Rattle.form_reader.specs.declared.stack.Frame.{Frame}
 use Rattle.form_reader.specs.declared.stack.Part.{Part}
 use Rattle.form_reader.specs.declared.stack.Part.TheVariants.{Next as InNext, List as InList, Until as InUntil, Dotted as InDotted, Tailed as InTailed}
@@ -108,7 +108,7 @@ outer_plan setting [] plan = plan
 outer_plan setting (f ∷ fs) plan =
     outer_plan setting fs (then_plan (then_plan plan (λ found. piece_of setting.table (next_item_in setting f fs) found)) (λ p. call_in setting f fs p))
 
--- the same where an object may begin
+-- what the outermost attempt comes to, if in the innermost call an object may begin next
 abbrev pub between_objects : Setting → List Frame → Plan Found
 between_objects setting [] = attempt setting setting.limits.nesting
 between_objects setting (f ∷ fs) = outer_plan setting fs (then_plan (next_item_in setting f fs) (λ p. call_in setting f fs p))

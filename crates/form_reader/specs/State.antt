@@ -1,7 +1,7 @@
 -- Where a reader is in its innermost call: what is given there on a text, what a byte brings, and what keeps the reader going.
 use Rattle.std.specs.Prelude.{ℕ, ◌≡◌, ◌+◌, ◌-◌, ◌≤◌, false, true, List, [], ◌∷◌, ◌++◌, length, Option, IsTrue, ◌&&◌, nat_le, Bool}
 use Rattle.std_macros.specs.Values.{letters, marked, nothing as no_material}
-use Rattle.lisp_reading.specs.declared.found.Found.{Found}
+use Rattle.lisp_reading.specs.declared.attempt.Found.{Found}
 use Rattle.form_reader.specs.declared.stack.Frame.{Frame}
 use Rattle.form_reader.specs.declared.state.State.{State}
 use Rattle.form_reader.specs.declared.state.State.TheVariants.{Object as AtObject, Token as AtToken, CallToken as AtCallToken, Text as AtText, Escaped as AtEscaped, Line as AtLine, Block as AtBlock, Number as AtNumber}
@@ -18,7 +18,7 @@ use Rattle.form_reader.specs.Stack.{between_objects, plan_gives, token_goes_on}
 use Rattle.lisp_reading.specs.declared.limits.Limits.{Limits}
 use Rattle.form_reader.specs.declared.reader.ReaderState.{ReaderState}
 use Rattle.form_reader.specs.declared.reader.ReaderState.TheVariants.{Open, Refused, OutOfMemory}
-use Rattle.lisp_reading.specs.declared.found.Found.TheVariants.{Nothing as nothing, One as one, LoneDot as lone_dot, TheEnd as the_end}
+use Rattle.lisp_reading.specs.declared.attempt.Found.TheVariants.{Nothing as nothing, One as one, LoneDot as lone_dot, TheEnd as the_end}
 
 -- an attempt where so many calls are open
 abbrev pub attempt_at : Setting → ℕ → Plan Found
@@ -64,7 +64,7 @@ Brings setting stack at cs (IsAt state) read = read ≡ state_gives setting stac
 Brings setting stack at cs (IsGiven found) read = read ≡ plan_gives setting stack (gives found) at cs
 Brings setting stack at cs (IsRefused number offset) read = read ≡ fault number offset
 
--- the same before the byte at this offset
+-- What was read is what this brings, where it was brought at the byte at this offset: before it, or as it was taken.
 abbrev pub Moves : Setting → List Frame → ℕ → ℕ → List ℕ → Moved → Read Found → Type 0
 Moves setting stack at c cs (AfterByte event) read = Brings setting stack (at + 1) cs event read
 Moves setting stack at c cs (BeforeByte event) read = Brings setting stack at (c ∷ cs) event read
@@ -83,14 +83,14 @@ is_standing limits stack at (Refused number offset) = true
 is_standing limits stack at OutOfMemory = true
 
 -- one character, where a token ended
-abbrev pub space : Bool → ℕ
-space true = 1
-space false = 0
+abbrev pub discarded_space_length : Bool → ℕ
+discarded_space_length true = 1
+discarded_space_length false = 0
 
 -- How much of the text after it may still matter: nothing; one character, which ended a token; the end of the text.
 abbrev pub lookahead : Found → ℕ
-lookahead (nothing token) = space token
-lookahead (one token x) = space token
+lookahead (nothing token) = discarded_space_length token
+lookahead (one token x) = discarded_space_length token
 lookahead lone_dot = 1
 lookahead the_end = 2
 

@@ -1,6 +1,6 @@
 -- What one byte is to a reader, wherever it is in a form: by the outcome of the whole text.
 use Rattle.std.specs.Prelude.{ℕ, ◌≡◌, ◌+◌, ◌≤◌, List, [], length, Ok, ◌∷◌, ◌<◌, ◌&&◌, nat_lt, Bool, false, ◌⊎◌}
-use Rattle.lisp_reading.specs.declared.found.Found.{Found}
+use Rattle.lisp_reading.specs.declared.attempt.Found.{Found}
 use Rattle.form_reader.specs.declared.stack.Frame.{Frame}
 use Rattle.lisp_reading.specs.declared.limits.Limits.{Limits}
 use Rattle.form_reader.specs.declared.state.State.{State}
@@ -16,13 +16,13 @@ use Rattle.lisp_reading.specs.Reading.{ReadingResult, form, refused, outcome, re
 use Rattle.form_reader.specs.State.{IsStateAt, state_gives, lookahead, Brings, IsReady}
 use Rattle.form_reader.specs.declared.step.object.Passed.{Passed}
 use Rattle.form_reader.specs.declared.step.object.Passed.TheVariants.{Brings as PassedBrings, Done as PassedDone}
-use Rattle.lisp_reading.specs.declared.found.Found.TheVariants.{Nothing as nothing}
+use Rattle.lisp_reading.specs.declared.attempt.Found.TheVariants.{Nothing as nothing}
 
 -- What is read of the whole text, where the attempt that began at start comes to this; after discarded text a new one begins.
 abbrev pub outcome_of : Setting → ℕ → Read Found → ReadingResult
 outcome_of setting start read = outcome setting.table start (λ next cs. reads_at setting next cs) read
 
--- the same, where the attempt is in this state, so many bytes after it began, and these bytes follow
+-- what is read of the whole text, where the attempt that began at start is in this state, so many bytes after it began, and these bytes follow
 abbrev pub rest_of_attempt : Setting → List Frame → State → ℕ → ℕ → List ℕ → ReadingResult
 rest_of_attempt setting stack state start at cs = outcome_of setting start (state_gives setting stack state at cs)
 
@@ -71,10 +71,10 @@ BeginsFrom from (Form x start «end» next) = from ≤ start
 BeginsFrom from (Refused start number offset) = from ≤ start
 
 -- where the attempt that is open has no byte, nothing is open
-abbrev pub BeginsAnew : List Frame → Change → Type 0
-BeginsAnew stack (Goes start at state) = at ≡ 0 → (stack ≡ []) × (state ≡ AtObject)
-BeginsAnew stack (Form x start «end» next) = Unit {0}
-BeginsAnew stack (Refused start number offset) = Unit {0}
+abbrev pub OpensNothingAtStart : List Frame → Change → Type 0
+OpensNothingAtStart stack (Goes start at state) = at ≡ 0 → (stack ≡ []) × (state ≡ AtObject)
+OpensNothingAtStart stack (Form x start «end» next) = Unit {0}
+OpensNothingAtStart stack (Refused start number offset) = Unit {0}
 
 -- What a byte is to them after what was found before it: it is taken, and brings this; or the outermost attempt came to this
 -- before it.
@@ -97,14 +97,15 @@ StartsAt from (Goes start at state) = (start ≡ from) ⊎ (at ≡ 0)
 StartsAt from (Form x start «end» next) = Unit {0}
 StartsAt from (Refused start number offset) = start ≡ from
 
--- at this byte, which is at this offset and is not discarded there; or nothing is open
+-- What is open after a change, or what it refused, began with this byte, which is at this offset and is not discarded there; or nothing
+-- is open.
 abbrev pub StartsWith : Setting → ℕ → ℕ → Change → Type 0
 StartsWith setting from c (Goes start at state) = (at ≡ 0) ⊎ ((start ≡ from) × (is_space setting c ≡ false))
 StartsWith setting from c (Form x start «end» next) = Unit {0}
 StartsWith setting from c (Refused start number offset) = (start ≡ from) × (is_space setting c ≡ false)
 
--- the same where this was found before it, so many bytes after an attempt began at start: that attempt came to nothing; or what is
--- refused is that attempt
+-- Where this was found so many bytes after an attempt began at start: what is open after a change began with this byte, and that attempt
+-- had come to nothing, or nothing is open. What is refused began so too, or it is that attempt.
 abbrev pub StartsAfter : Setting → Found → ℕ → ℕ → ℕ → Change → Type 0
 StartsAfter setting found start at c (Goes from count state) =
     (count ≡ 0) ⊎ ((from ≡ start + at) × (is_space setting c ≡ false) × ((token : Bool) × (found ≡ nothing token)))

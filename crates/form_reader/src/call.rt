@@ -11,7 +11,7 @@ ghost use Rattle.lisp_reading.specs.Setting.{macro_call, user_material, Setting}
 ghost use Rattle.form_reader.specs.Context.{setting};
 ghost use Rattle.lisp_reading.specs.Reading.{bytes_back, finished_plan, plan_after_answer, completed_call, closed};
 ghost use Rattle.form_reader.specs.Call.{plan_of, value_lookahead, CallComesTo};
-ghost use Rattle.form_reader.specs.State.{space, Brings, IsReady, IsEnd};
+ghost use Rattle.form_reader.specs.State.{discarded_space_length, Brings, IsReady, IsEnd};
 ghost use Rattle.form_reader.specs.declared.stack.Frame.{Frame};
 ghost use Rattle.form_reader.specs.Stack.{plan_gives, call_in};
 
@@ -55,8 +55,9 @@ pub(crate) fn call_value<R: MacroFunctions>(
     requires answers { R.answers with.now.macros.now }
     requires proper { IsProperGathered gathered }
     ensures gives { let setting = setting R.functions with.now in
-        IfOk result (λ r. completed_call setting depth call.now token spaced (view_gathered gathered) ≡ plan_of r) }
-    ensures ends { IfOk result (λ r. value_lookahead r ≤ space (token || spaced)) }
+        IfOk result (λ r. completed_call setting depth call.now token spaced (view_gathered gathered)
+        ≡ plan_of r) }
+    ensures ends { IfOk result (λ r. value_lookahead r ≤ discarded_space_length (token || spaced)) }
 {
     match call.function() {
         Function::Standard(kind) => {
@@ -94,7 +95,7 @@ fn standard_value(
     requires { IsProperGathered gathered }
     ensures gives { IfOk result (λ r.
         finished_plan token (value_of kind case number (view_gathered gathered)) ≡ plan_of r) }
-    ensures ends { IfOk result (λ r. value_lookahead r ≤ space token) }
+    ensures ends { IfOk result (λ r. value_lookahead r ≤ discarded_space_length token) }
 {
     match finish(alloc, kind, case, number, gathered) {
         Ok(Finished::One(datum)) => {
@@ -130,7 +131,7 @@ fn user_value(
 ) -> CallValue
     ensures gives { plan_after_answer packages.now.0 nesting depth token spaced (answer_of answer)
         ≡ plan_of result }
-    ensures ends { value_lookahead result ≤ space (token || spaced) }
+    ensures ends { value_lookahead result ≤ discarded_space_length (token || spaced) }
 {
     match answer {
         Answer::One(datum) => {
@@ -218,8 +219,9 @@ pub(crate) fn end_call<R: MacroFunctions>(
     ensures brings { let setting = setting R.functions with.now in
         (stack : List Frame) (cs : List ℕ) → depth ≡ length stack
         → IfOk result (λ event. Brings setting stack at cs event
-        (plan_gives setting stack (completed_call setting (length stack) call.now token false (view_gathered gathered)) at cs)) }
-    ensures ends { IfOk result (IsEnd (space token) at) }
+        (plan_gives setting stack
+        (completed_call setting (length stack) call.now token false (view_gathered gathered)) at cs)) }
+    ensures ends { IfOk result (IsEnd (discarded_space_length token) at) }
 {
     Ok(event_of(call_value(with, depth, call, token, false, gathered)?, at))
 }

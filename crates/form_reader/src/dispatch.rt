@@ -42,7 +42,8 @@ pub(crate) fn begin_macro<R: MacroFunctions>(
     requires nesting { length stack.old ≤ with.now.limits.nesting }
     ensures brings { let setting = setting R.functions with.now in
         (cs : List ℕ) → IfOk result (λ event. Brings setting stack.new at cs event
-        (plan_gives setting stack.old (macro_called setting (length stack.old) (inner_at setting (length stack.old)) c
+        (plan_gives setting stack.old
+        (macro_called setting (length stack.old) (inner_at setting (length stack.old)) c
         (entry_at setting.table c).function) at cs)) }
     ensures ready { IfOk result (IsReady with.now.limits at) }
     ensures nesting { IfOk result (λ _. length stack.new ≤ with.now.limits.nesting) }
@@ -99,7 +100,8 @@ fn sub_byte<R: MacroFunctions>(
     requires nesting { length stack.old ≤ with.now.limits.nesting }
     ensures brings { let setting = setting R.functions with.now in
         (cs : List ℕ) → IfOk result (λ event. Brings setting stack.new (at + 1) cs event
-        (plan_gives setting stack.old (sub_there setting (length stack.old) (inner_at setting (length stack.old))
+        (plan_gives setting stack.old
+        (sub_there setting (length stack.old) (inner_at setting (length stack.old))
         character number) at (c ∷ cs))) }
     ensures ready { IfOk result (IsReady with.now.limits (at + 1)) }
     ensures nesting { IfOk result (λ _. length stack.new ≤ with.now.limits.nesting) }
@@ -160,7 +162,8 @@ fn gather<R: MacroFunctions>(
     requires within { at ≤ with.now.limits.text }
     requires nesting { length stack.old ≤ with.now.limits.nesting }
     ensures gathers { let setting = setting R.functions with.now in
-        (cs : List ℕ) → IfOk result (λ event. CallGathers setting stack.new stack.old call way at cs event) }
+        (cs : List ℕ) → IfOk result
+        (λ event. CallGathers setting stack.new stack.old call way at cs event) }
     ensures ready { IfOk result (IsReady with.now.limits at) }
     ensures nesting { IfOk result (λ _. length stack.new ≤ with.now.limits.nesting) }
 {
@@ -214,7 +217,8 @@ fn open_call<R: MacroFunctions>(
     requires within { at ≤ with.now.limits.text }
     requires nesting { length stack.old ≤ with.now.limits.nesting }
     ensures gathers { let setting = setting R.functions with.now in
-        (cs : List ℕ) → IfOk result (λ event. CallGathers setting stack.new stack.old frame.call (way_of_part frame.part) at cs event) }
+        (cs : List ℕ) → IfOk result
+        (λ event. CallGathers setting stack.new stack.old frame.call (way_of_part frame.part) at cs event) }
     ensures ready { IfOk result (IsReady with.now.limits at) }
     ensures nesting { IfOk result (λ _. length stack.new ≤ with.now.limits.nesting) }
 {

@@ -7,7 +7,7 @@ ghost use Rattle.lisp_reading.specs.Setting.{Setting};
 ghost use Rattle.form_reader.specs.Context.{setting};
 ghost use Rattle.form_reader.specs.declared.state.State.TheVariants.{Object as AtObject, Token as AtToken, CallToken as AtCallToken, Line as AtLine};
 ghost use Rattle.form_reader.specs.declared.reader.ReadOutcome.TheVariants.{Empty as IsEmpty};
-ghost use Rattle.lisp_reading.specs.declared.found.Found.TheVariants.{TheEnd as the_end};
+ghost use Rattle.lisp_reading.specs.declared.attempt.Found.TheVariants.{TheEnd as the_end};
 ghost use Rattle.form_reader.specs.declared.state.Event.TheVariants.{Open as IsAt};
 ghost use Rattle.form_reader.specs.declared.state.Event.TheVariants.{Gives as IsDone};
 ghost use Rattle.form_reader.specs.State.{Brings, state_gives};

@@ -59,7 +59,8 @@ pub(crate) fn text_byte(
     requires { at ≤ limits.now.text }
     ensures feeds { (cs : List ℕ) → IfOk result (λ fed.
         TextFeeds readtable.now limits.now terminator text.new at cs fed
-        (run readtable.now limits.now (loop limits.now (text_turn readtable.now terminator) text.old) at (c ∷ cs))) }
+        (run readtable.now limits.now
+        (loop limits.now (text_turn readtable.now terminator) text.old) at (c ∷ cs))) }
     ensures more { result ≡ Ok TextMore → at < limits.now.text }
     ensures escape { result ≡ Ok TextEscape → at < limits.now.text }
     ensures ended { result ≡ Ok TextEnded → at < limits.now.text }
@@ -93,7 +94,8 @@ pub(crate) fn escaped_byte(
 ) -> Result<Option<u16>, AllocError>
     ensures feeds { (cs : List ℕ) → IfOk result (λ fed.
         EscapeFeeds readtable.now limits.now terminator text.new at cs fed
-        (run readtable.now limits.now (next_byte (λ d. loop limits.now (text_turn readtable.now terminator) (text.old ++ d ∷ []))) at (c ∷ cs))) }
+        (run readtable.now limits.now
+        (next_byte (λ d. loop limits.now (text_turn readtable.now terminator) (text.old ++ d ∷ []))) at (c ∷ cs))) }
     ensures more { result ≡ Ok None → at < limits.now.text }
 {
     if at >= limits.text {

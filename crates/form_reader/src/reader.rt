@@ -98,7 +98,8 @@ impl FormReader {
         ensures value { result ≡ begun self.now }
         ensures within { result ≤ fed self.now }
         ensures form { (setting : Setting) (bytes more : List ℕ) (x : Object) (start end next : ℕ)
-            → IsAfterBytes setting self.now bytes → reads setting (bytes ++ more) ≡ form x start end next → result ≤ start }
+            → IsAfterBytes setting self.now bytes
+            → reads setting (bytes ++ more) ≡ form x start end next → result ≤ start }
     {
         let FormReader { start, .. } = self;
         *start

@@ -1,7 +1,7 @@
 //! Open calls. An error is want of memory: the reader takes no byte after it, and answers it again.
 ghost use Rattle.std.specs.Prelude.{◌≡◌, ◌==◌, Bool, Some, None, true, false, [], ◌∷◌, length, MatchOption, OnOk, IfOk};
 ghost use Rattle.form_reader.specs.declared.stack.Part.TheVariants.{Next as InNext};
-ghost use Rattle.lisp_reading.specs.declared.found.Found.TheVariants.{One as one, LoneDot as lone_dot};
+ghost use Rattle.lisp_reading.specs.declared.attempt.Found.TheVariants.{One as one, LoneDot as lone_dot};
 ghost use Rattle.form_reader.specs.Stack.{close_of, close_of_stack, IsNoClose, with_object, with_dot, calls_with, is_next, is_waiting};
 
 use lisp_reading::{HeldObject, HeldObjects, Invoked};

@@ -2,12 +2,12 @@
 //! An error is want of memory: the reader takes no byte after it, and answers it again.
 ghost use Rattle.std.specs.Prelude.{◌≡◌, ◌≤◌, ◌<◌, ◌+◌, ◌^◌, ℕ, List, [], ◌∷◌, length, true, Ok, IfOk};
 ghost use Rattle.lisp_reading.specs.Plans.{Read};
-ghost use Rattle.lisp_reading.specs.declared.found.Found.{Found as FoundThere};
+ghost use Rattle.lisp_reading.specs.declared.attempt.Found.{Found as FoundThere};
 ghost use Rattle.form_reader.specs.declared.stack.Frame.{Frame};
 ghost use Rattle.lisp_reading.specs.declared.limits.Limits.{Limits as Bounds};
 ghost use Rattle.lisp_reading.specs.Setting.{Setting};
 ghost use Rattle.form_reader.specs.Context.{setting};
-ghost use Rattle.form_reader.specs.Step.{Passes, IsReadyPass, verdict_of, Settles, ChangesTo, IsStanding, IsReadySettled, IsReadyChange, BeginsFrom, BeginsAnew, StartsAt, StartsWith, StartsAfter, Starts, is_space};
+ghost use Rattle.form_reader.specs.Step.{Passes, IsReadyPass, verdict_of, Settles, ChangesTo, IsStanding, IsReadySettled, IsReadyChange, BeginsFrom, OpensNothingAtStart, StartsAt, StartsWith, StartsAfter, Starts, is_space};
 ghost use Rattle.form_reader.specs.declared.state.State.TheVariants.{Object as AtObject};
 ghost use Rattle.form_reader.specs.declared.step.Change.TheVariants.{Goes};
 ghost use Rattle.form_reader.specs.State.{Brings, state_gives, lookahead, IsReady, Moves, IsReadyMove};
@@ -103,7 +103,7 @@ fn done_after(found: Found, start: usize, at: usize) -> Change
     ensures ready { (limits : Bounds) (stack : List Frame) → length stack ≤ limits.nesting
         → IsReadyChange limits stack (start + at) result }
     ensures begins { BeginsFrom start result }
-    ensures anew { BeginsAnew [] result }
+    ensures anew { OpensNothingAtStart [] result }
     ensures starts { StartsAt start result }
 {
     match found {
@@ -137,7 +137,7 @@ fn change_of<R: MacroFunctions>(
 
     // Where the attempt began that is then open.
     ensures begins { IfOk result (BeginsFrom start) }
-    ensures anew { IfOk result (BeginsAnew stack.new) }
+    ensures anew { IfOk result (OpensNothingAtStart stack.new) }
     ensures starts { IfOk result (StartsAt start) }
 {
     match settle(with, stack, event, at)? {
@@ -175,7 +175,7 @@ fn first_change<R: MacroFunctions>(
 
     // Where the attempt began that is then open, also after whitespace.
     ensures begins { IfOk result (BeginsFrom start) }
-    ensures anew { IfOk result (BeginsAnew stack.new) }
+    ensures anew { IfOk result (OpensNothingAtStart stack.new) }
     ensures starts { IfOk result (StartsWith (setting R.functions with.now) start c) }
     ensures space { is_space (setting R.functions with.now) c ≡ true
         → (result ≡ Ok (Goes (start + 1) 0 AtObject)) × (stack.new ≡ []) }
@@ -211,7 +211,7 @@ fn done_before<R: MacroFunctions>(
 
     // Where the attempt began that is then open.
     ensures begins { IfOk result (BeginsFrom start) }
-    ensures anew { IfOk result (BeginsAnew stack.new) }
+    ensures anew { IfOk result (OpensNothingAtStart stack.new) }
     ensures starts { IfOk result (StartsAfter (setting R.functions with.now) found start at c) }
 {
     match found {
@@ -261,7 +261,7 @@ pub(crate) fn take_byte<R: MacroFunctions>(
 
     // Where the attempt began that is then open, also after whitespace.
     ensures begins { IfOk result (BeginsFrom start) }
-    ensures anew { IfOk result (BeginsAnew stack.new) }
+    ensures anew { IfOk result (OpensNothingAtStart stack.new) }
     ensures starts { IfOk result (Starts (setting R.functions with.now) stack.old state start at c) }
     ensures space { is_space (setting R.functions with.now) c ≡ true
         → at ≡ 0 → stack.old ≡ [] → state ≡ AtObject

@@ -83,7 +83,8 @@ pub(crate) fn first_byte(
     requires within { at ≤ limits.now.text }
     requires begins { IsFalse (ends_tokens (kind (typed_byte readtable.now c))) }
     ensures feeds { (cs : List ℕ) → IfOk result (λ fed.
-        FirstFeeds readtable.now limits.now at cs fed (token_read readtable.now limits.now (first_scan limits.now.token) at (c ∷ cs))) }
+        FirstFeeds readtable.now limits.now at cs fed
+        (token_read readtable.now limits.now (first_scan limits.now.token) at (c ∷ cs))) }
     ensures going { (scan : Scan) → result ≡ Ok (FirstMore scan) → IsTrue (is_going scan.stage) }
     ensures below { (scan : Scan) → result ≡ Ok (FirstMore scan) → at < limits.now.text }
 {
@@ -116,7 +117,8 @@ impl BegunScan {
     ) -> Result<BegunByte, AllocError>
         requires { at ≤ limits.now.text }
         ensures feeds { (cs : List ℕ) → IfOk result (λ fed.
-            FeedsBegunToken readtable.now limits.now at c cs fed (token_read readtable.now limits.now self at (c ∷ cs))) }
+            FeedsBegunToken readtable.now limits.now at c cs fed
+            (token_read readtable.now limits.now self at (c ∷ cs))) }
         ensures ended { IfOk result IsBegunByte }
         ensures going { (scan : Scan) → result ≡ Ok (BegunMore scan) → IsTrue (is_going scan.stage) }
         ensures below { (scan : Scan) → result ≡ Ok (BegunMore scan) → at < limits.now.text }
@@ -142,7 +144,8 @@ pub(crate) fn token_byte(
 ) -> Result<LineByte, AllocError>
     requires { at ≤ limits.now.text }
     ensures feeds { (cs : List ℕ) → IfOk result (λ fed.
-        TokenFeeds readtable.now limits.now scan.new at c cs fed (token_read readtable.now limits.now scan.old at (c ∷ cs))) }
+        TokenFeeds readtable.now limits.now scan.new at c cs fed
+        (token_read readtable.now limits.now scan.old at (c ∷ cs))) }
     ensures ended { result ≡ Ok LineEnded → (scan.new ≡ scan.old) × (scan.new.stage ≡ Outside) }
     ensures ends { result ≡ Ok LineEnded → IsTrue (ends_tokens (kind (typed_byte readtable.now c))) }
     ensures more { result ≡ Ok LineMore → IsTrue (has_begun scan.new) }

@@ -2,14 +2,14 @@
 //! An error is want of memory: the reader takes no byte after it, and answers it again.
 ghost use Rattle.std.specs.Prelude.{◌≤◌, ◌<◌, ℕ, List, length, IfOk};
 ghost use Rattle.lisp_reading.specs.Plans.{gives};
-ghost use Rattle.lisp_reading.specs.declared.found.Found.TheVariants.{One as one, LoneDot as lone_dot};
+ghost use Rattle.lisp_reading.specs.declared.attempt.Found.TheVariants.{One as one, LoneDot as lone_dot};
 ghost use Rattle.form_reader.specs.declared.stack.Frame.{Frame};
 ghost use Rattle.form_reader.specs.Call.{plan_of, value_lookahead};
 ghost use Rattle.lisp_reading.specs.Setting.{Setting};
 ghost use Rattle.form_reader.specs.Context.{setting};
 ghost use Rattle.form_reader.specs.Stack.{plan_gives};
-ghost use Rattle.form_reader.specs.Value.{AttemptTakes, Shortens, Returns, IsReturnAt};
-ghost use Rattle.form_reader.specs.State.{space, lookahead};
+ghost use Rattle.form_reader.specs.Value.{AttemptTakes, ShortensOpenCalls, Returns, IsReturnAt};
+ghost use Rattle.form_reader.specs.State.{discarded_space_length, lookahead};
 
 use crate::call::{CallValue, call_value};
 use crate::context::Context;
@@ -45,7 +45,7 @@ fn take<R: MacroFunctions>(
         (cs : List ℕ) → IfOk result (λ received. AttemptTakes setting stack.new at cs received
         (plan_gives setting stack.old (gives found) at cs)) }
     ensures leaves { IfOk result (IsReturnAt (lookahead found) at) }
-    ensures shorter { IfOk result (Shortens stack.old stack.new) }
+    ensures shorter { IfOk result (ShortensOpenCalls stack.old stack.new) }
 {
     match found {
         Found::Nothing(token) => Ok(Return::Waits(token)),
@@ -69,8 +69,8 @@ fn take_one<R: MacroFunctions>(
     ensures takes { let setting = setting R.functions with.now in
         (cs : List ℕ) → IfOk result (λ received. AttemptTakes setting stack.new at cs received
         (plan_gives setting stack.old (gives (one token x)) at cs)) }
-    ensures leaves { IfOk result (IsReturnAt (space token) at) }
-    ensures shorter { IfOk result (Shortens stack.old stack.new) }
+    ensures leaves { IfOk result (IsReturnAt (discarded_space_length token) at) }
+    ensures shorter { IfOk result (ShortensOpenCalls stack.old stack.new) }
 {
     match stack.pop_waiting() {
         Some(call) => {
@@ -95,7 +95,7 @@ fn take_dot(stack: &mut Stack, at: usize) -> Return
         → AttemptTakes setting stack.new at cs result
         (plan_gives setting stack.old (gives lone_dot) at cs) }
     ensures leaves { IsReturnAt 1 at result }
-    ensures shorter { Shortens stack.old stack.new result }
+    ensures shorter { ShortensOpenCalls stack.old stack.new result }
 {
     if stack.take_dot() {
         Return::Waits(false)

@@ -14,7 +14,7 @@ use Rattle.readtable_core.specs.Names.{is_among, is_standard, is_dispatch_name}
 use Rattle.readtable_core.specs.NamedFunctions.{functions_of}
 use Rattle.readtable_core.specs.Tables as readtable
 use Rattle.readtable_core.specs.Tables.{entry_at}
-use Rattle.readtable_core.specs.Changes.{with_character_entry, macro_entry, dispatching_entry, with_function, dispatch_refusal}
+use Rattle.readtable_core.specs.Changes.{with_character_entry, macro_entry, dispatching_entry, with_dispatch_function, dispatch_refusal}
 use Rattle.readtable_core.proofs.Named.{named_after, named_at, named_with_function}
 use Rattle.user_macros.specs.Registry.{is_covered}
 use Rattle.package_table.specs.Table.{Name, name_cmp}
@@ -22,7 +22,7 @@ use Rattle.package_table.proofs.Names.{name_total}
 use Rattle.plist_state.specs.declared.error.ReadtableError.{ReadtableError}
 use Rattle.plist_state.specs.declared.error.ReadtableError.TheVariants.{NoReadtable, StandardReadtable, Limit}
 use Rattle.plist_state.specs.State.{Readtables, WorldState, standard_name}
-use Rattle.plist_state.specs.Changes.{put_changed, with_changed, changed_readtable as changed_readtables, with_case, with_macro, with_dispatching, with_sub_function, readtable_error_of, with_dispatch, with_syntax, with_copy}
+use Rattle.plist_state.specs.Changes.{put_changed, readtables_with_change, changed_readtable as changed_readtables, with_case, with_macro, with_dispatching, with_sub_function, readtable_error_of, with_dispatch, with_syntax, with_copy}
 use Rattle.lisp_operators.specs.Readtables.{AreCovered, is_function}
 use Rattle.lisp_operators.proofs.KeepingOperators as keeping
 use Rattle.lisp_operators.proofs.KeepingOperators.{Changes}
@@ -56,12 +56,12 @@ module _ (names : List Name) where
     put_leaves (Err e) good = tt
 
     module _ (change : readtable.Table → Result readtable.Table ReadtableError) (each : AreCovered names m → (table : readtable.Table) → Good table → GoodAfter (change table)) where
-      named_leaves : (b : Bool) (table : readtable.Table) → finite.get m n ≡ Some table → Leaves m (with_changed m n change (cond b (Err StandardReadtable) (Ok table)))
+      named_leaves : (b : Bool) (table : readtable.Table) → finite.get m n ≡ Some table → Leaves m (readtables_with_change m n change (cond b (Err StandardReadtable) (Ok table)))
       named_leaves true table there = tt
       named_leaves false table there = put_leaves (change table) (λ all. each all table (all n table there))
 
       found_leaves : (o : Option readtable.Table) → finite.get m n ≡ o
-          → Leaves m (with_changed m n change (option_map_or (λ table. cond (bytes_eq n standard_name) (Err StandardReadtable) (Ok table)) o (Err NoReadtable)))
+          → Leaves m (readtables_with_change m n change (option_map_or (λ table. cond (bytes_eq n standard_name) (Err StandardReadtable) (Ok table)) o (Err NoReadtable)))
       found_leaves None there = tt
       found_leaves (Some table) there = named_leaves (bytes_eq n standard_name) table there
 
@@ -89,9 +89,9 @@ module _ (names : List Name) where
 
     dispatched_good : (c sub : ℕ) (f : Name) → is_covered names f ≡ true → (table : readtable.Table) → Good table → GoodAfter (with_sub_function table c sub f)
     dispatched_good c sub f is table good =
-        elim (dispatch_refusal table c sub) as (λ o. GoodAfter (option_map_or (λ r. Err (readtable_error_of r)) o (Ok (with_character_entry table c (with_function (entry_at table c) sub f))))) [
+        elim (dispatch_refusal table c sub) as (λ o. GoodAfter (option_map_or (λ r. Err (readtable_error_of r)) o (Ok (with_character_entry table c (with_dispatch_function (entry_at table c) sub f))))) [
           | Some refusal ↦ tt
-          | None ↦ named_after (is_covered names) table c (with_function (entry_at table c) sub f) good (named_with_function (is_covered names) (entry_at table c) sub f (named_at (is_covered names) table c good) is)
+          | None ↦ named_after (is_covered names) table c (with_dispatch_function (entry_at table c) sub f) good (named_with_function (is_covered names) (entry_at table c) sub f (named_at (is_covered names) table c good) is)
         ]
 
     dispatch_leaves : (c sub : ℕ) (f : Name) → is_function names f ≡ true → Leaves m (with_dispatch m n c sub f)

@@ -19,7 +19,7 @@ use Rattle.plist_state.specs.declared.error.ReadtableError.{ReadtableError}
 use Rattle.plist_state.specs.declared.error.ReadtableError.TheVariants.{NoReadtable}
 use Rattle.plist_state.specs.Properties.{Symbol, Properties, with_value, with_list}
 use Rattle.plist_state.specs.State.{Readtables, WorldState, standard_name}
-use Rattle.plist_state.specs.Changes.{plist, property, without_property, with_packages, with_base, after_in_readtable, with_case, with_macro, with_dispatching, with_dispatch, with_syntax, with_copy, in_state}
+use Rattle.plist_state.specs.Changes.{plist, property, without_property, with_packages, with_base, after_in_readtable, with_case, with_macro, with_dispatching, with_dispatch, with_syntax, with_copy, state_with_readtables}
 use Rattle.lisp_operators.specs.ArgumentKinds.{a_symbol, a_name, a_text, an_integer, a_character, a_keyword, a_source, a_case, one_or_each, given_or, given_or_nil, is_true}
 use Rattle.lisp_operators.specs.Evaluation.{Evaluation, gives}
 use Rattle.lisp_operators.specs.Properties.{t, if_within_limits, list, get, set, removed_property, remove, in_turn, symbol_plist, amount, is_in_range, increment, push}
@@ -152,7 +152,7 @@ module _ (names : List Name) (Kept : WorldState → WorldState → Type 0) (chan
       keeps_option Kept s (packages_named s.packages ns) _ (Err NO_SUCH_PACKAGE) (λ qs. in_package_keeps s q _ (λ p. use_all_keeps s p qs)) (record { kept = tt })))
 
   -- ---- readtables
-  readtables_keep : (s : WorldState) (x : Object) (r : Result Readtables ReadtableError) → Leaves Kept s r → Keeps s (value_after s x (in_state s r))
+  readtables_keep : (s : WorldState) (x : Object) (r : Result Readtables ReadtableError) → Leaves Kept s r → Keeps s (value_after s x (state_with_readtables s r))
   readtables_keep s x (Ok later) leaves = record { kept = leaves }
   readtables_keep s x (Err e) leaves = record { kept = tt }
 

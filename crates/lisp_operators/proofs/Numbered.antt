@@ -20,7 +20,7 @@ use Rattle.package_table.specs.ErrorNumbers as package_errors
 use Rattle.plist_state.specs.declared.error.ReadtableError.{ReadtableError}
 use Rattle.plist_state.specs.ErrorNumbers as readtable_errors
 use Rattle.plist_state.specs.State.{Readtables, WorldState, standard_name}
-use Rattle.plist_state.specs.Changes.{writable, put_changed, with_changed, changed_readtable, with_case, with_macro, with_dispatching, readtable_error_of, with_sub_function, with_dispatch, with_syntax, with_copy}
+use Rattle.plist_state.specs.Changes.{writable, put_changed, readtables_with_change, changed_readtable, with_case, with_macro, with_dispatching, readtable_error_of, with_sub_function, with_dispatch, with_syntax, with_copy}
 use Rattle.lisp_operators.specs.Evaluation.{Evaluation, also, and_then, of_kind}
 
 -- a number of evaluation
@@ -121,7 +121,7 @@ changed_numbered : (m : Readtables) (n : Name) (change : readtable.Table → Res
 changed_numbered m n change each =
     with_writable (writable m n) (found_or readtable_errors.readtable_error_number (finite.get m n) _ _ (λ t. refuses readtable_errors.readtable_error_number (bytes_eq n standard_name) _ _ (omega arith, omega arith) tt) (omega arith, omega arith))
   where
-    with_writable : (r : Result readtable.Table ReadtableError) → IsReadtablesNumbered r → IsReadtablesNumbered (with_changed m n change r)
+    with_writable : (r : Result readtable.Table ReadtableError) → IsReadtablesNumbered r → IsReadtablesNumbered (readtables_with_change m n change r)
     with_writable (Ok t) is = put_numbered m n (change t) (each t)
     with_writable (Err e) is = is
 

@@ -15,7 +15,7 @@ use Rattle.plist_state.specs.declared.error.ReadtableError.{ReadtableError}
 use Rattle.plist_state.specs.Properties.{Symbol}
 use Rattle.plist_state.specs.declared.error.ReadtableError.TheVariants.{NoReadtable}
 use Rattle.plist_state.specs.State.{Readtables, WorldState, standard_name}
-use Rattle.plist_state.specs.Changes.{plist, property, after_in_readtable, with_case, with_macro, with_dispatching, with_dispatch, with_syntax, with_copy, in_state}
+use Rattle.plist_state.specs.Changes.{plist, property, after_in_readtable, with_case, with_macro, with_dispatching, with_dispatch, with_syntax, with_copy, state_with_readtables}
 use Rattle.lisp_operators.specs.ArgumentKinds.{a_symbol, a_name, a_text, an_integer, a_character, a_keyword, a_source, a_case, one_or_each, given_or, given_or_nil, is_true}
 use Rattle.lisp_operators.specs.Evaluation.{Evaluation, gives}
 use Rattle.lisp_operators.specs.Properties.{t, if_within_limits, list, get, set, removed_property, remove, in_turn, symbol_plist, amount, is_in_range, increment, push}
@@ -132,7 +132,7 @@ use_numbered (x ∷ rest) s =
     numbered_option (packages_named s.packages ns) _ (Err NO_SUCH_PACKAGE) (λ qs. in_package_numbered s q _ (λ p. use_all_numbered s p qs)) (record { number = (omega arith, omega arith) })))
 
 -- ---- readtables
-after_numbered : (s : WorldState) (x : Object) (r : Result Readtables ReadtableError) → IsReadtablesNumbered r → Numbered (value_after s x (in_state s r))
+after_numbered : (s : WorldState) (x : Object) (r : Result Readtables ReadtableError) → IsReadtablesNumbered r → Numbered (value_after s x (state_with_readtables s r))
 after_numbered s x (Ok m) is = record { number = tt }
 after_numbered s x (Err e) is = record { number = is }
 

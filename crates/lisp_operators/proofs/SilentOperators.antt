@@ -14,7 +14,7 @@ use Rattle.package_table.specs.Changes.{after_make, after_intern, after_export, 
 use Rattle.plist_state.specs.declared.error.ReadtableError.{ReadtableError}
 use Rattle.plist_state.specs.Properties.{Symbol}
 use Rattle.plist_state.specs.State.{WorldState, standard_name}
-use Rattle.plist_state.specs.Changes.{plist, property, with_packages, after_in_readtable, with_case, with_macro, with_dispatching, with_dispatch, with_syntax, with_copy, in_state}
+use Rattle.plist_state.specs.Changes.{plist, property, with_packages, after_in_readtable, with_case, with_macro, with_dispatching, with_dispatch, with_syntax, with_copy, state_with_readtables}
 use Rattle.lisp_operators.specs.ArgumentKinds.{a_symbol, a_name, a_text, an_integer, a_character, a_keyword, a_source, a_case, one_or_each, given_or, given_or_nil, is_true}
 use Rattle.lisp_operators.specs.Evaluation.{Evaluation, gives}
 use Rattle.lisp_operators.specs.Properties.{t, if_within_limits, list, get, set, removed_property, remove, in_turn, symbol_plist, amount, is_in_range, increment, push}
@@ -141,11 +141,11 @@ case_silent (r ∷ []) s = keeps_kind s (a_keyword r) _ (λ n. in_readtable_sile
 case_silent _ s = record { same = tt }
 
 pub set_case_silent : IsSilent set_case
-set_case_silent (r ∷ k ∷ []) s = keeps_kind s (a_keyword r) _ (λ n. keeps_kind s (a_case k) _ (λ letters. after_silent s k (in_state s (with_case s.readtables n letters))))
+set_case_silent (r ∷ k ∷ []) s = keeps_kind s (a_keyword r) _ (λ n. keeps_kind s (a_case k) _ (λ letters. after_silent s k (state_with_readtables s (with_case s.readtables n letters))))
 set_case_silent _ s = record { same = tt }
 
 pub copy_silent : IsSilent copy_readtable
-copy_silent (z ∷ k ∷ []) s = keeps_kind s (a_source z) _ (λ m. keeps_kind s (a_keyword k) _ (λ n. after_silent s k (in_state s (with_copy s.readtables m n))))
+copy_silent (z ∷ k ∷ []) s = keeps_kind s (a_source z) _ (λ m. keeps_kind s (a_keyword k) _ (λ n. after_silent s k (state_with_readtables s (with_copy s.readtables m n))))
 copy_silent _ s = record { same = tt }
 
 pub enter_readtable_silent : IsSilent enter_readtable
@@ -158,7 +158,7 @@ set_syntax_silent (c ∷ []) s = record { same = tt }
 set_syntax_silent (c ∷ d ∷ rest) s =
     keeps_kind s (a_character c) _ (λ to. keeps_kind s (a_character d) _ (λ from.
     keeps_kind s (given_or a_keyword s.current_readtable rest) _ (λ n. keeps_kind s (given_or a_source standard_name (after_first rest)) _ (λ m.
-    after_silent s t (in_state s (with_syntax s.readtables n to m from))))))
+    after_silent s t (state_with_readtables s (with_syntax s.readtables n to m from))))))
 
 pub set_macro_silent : (names : List Name) → IsSilent (set_macro names)
 set_macro_silent names [] s = record { same = tt }
@@ -166,7 +166,7 @@ set_macro_silent names (c ∷ []) s = record { same = tt }
 set_macro_silent names (c ∷ f ∷ rest) s =
     keeps_kind s (a_character c) _ (λ at. keeps_kind s (a_keyword f) _ (λ function.
     keeps_kind s (given_or a_keyword s.current_readtable (after_first rest)) _ (λ n. changeable_silent s n _
-    (function_silent s names function _ (after_silent s t (in_state s (with_macro s.readtables n at function (is_true (given_or_nil rest)))))))))
+    (function_silent s names function _ (after_silent s t (state_with_readtables s (with_macro s.readtables n at function (is_true (given_or_nil rest)))))))))
 
 pub get_macro_silent : IsSilent get_macro
 get_macro_silent [] s = record { same = tt }
@@ -177,7 +177,7 @@ pub make_dispatch_silent : IsSilent make_dispatch
 make_dispatch_silent [] s = record { same = tt }
 make_dispatch_silent (c ∷ rest) s =
     keeps_kind s (a_character c) _ (λ at. keeps_kind s (given_or a_keyword s.current_readtable (after_first rest)) _ (λ n.
-    after_silent s t (in_state s (with_dispatching s.readtables n at (is_true (given_or_nil rest))))))
+    after_silent s t (state_with_readtables s (with_dispatching s.readtables n at (is_true (given_or_nil rest))))))
 
 pub set_dispatch_silent : (names : List Name) → IsSilent (set_dispatch names)
 set_dispatch_silent names [] s = record { same = tt }
@@ -186,7 +186,7 @@ set_dispatch_silent names (c ∷ d ∷ []) s = record { same = tt }
 set_dispatch_silent names (c ∷ d ∷ f ∷ rest) s =
     keeps_kind s (a_character c) _ (λ at. keeps_kind s (a_character d) _ (λ sub. keeps_kind s (a_keyword f) _ (λ function.
     keeps_kind s (given_or a_keyword s.current_readtable rest) _ (λ n. changeable_silent s n _
-    (function_silent s names function _ (after_silent s t (in_state s (with_dispatch s.readtables n at sub function))))))))
+    (function_silent s names function _ (after_silent s t (state_with_readtables s (with_dispatch s.readtables n at sub function))))))))
 
 pub get_dispatch_silent : IsSilent get_dispatch
 get_dispatch_silent [] s = record { same = tt }

@@ -26,7 +26,7 @@ use Rattle.package_table.proofs.Growing.{grows_same}
 use Rattle.plist_state.specs.declared.error.ReadtableError.{ReadtableError}
 use Rattle.plist_state.specs.declared.error.ReadtableError.TheVariants.{NoReadtable}
 use Rattle.plist_state.specs.State.{Readtables, WorldState, standard_name}
-use Rattle.plist_state.specs.Changes.{after_in_readtable, with_case, with_macro, with_dispatching, with_sub_function, with_dispatch, with_syntax, with_copy, in_state}
+use Rattle.plist_state.specs.Changes.{after_in_readtable, with_case, with_macro, with_dispatching, with_sub_function, with_dispatch, with_syntax, with_copy, state_with_readtables}
 use Rattle.plist_state.specs.Sound.{IsSymbol, IsValue, IsSoundWorldState}
 use Rattle.plist_state.proofs.Soundness.{sound_in_readtable}
 use Rattle.plist_state.proofs.KeptWorld.{sound_changed, named_case, named_macro, named_dispatching, named_dispatched, sound_syntax, sound_copied, dispatch_there}
@@ -95,7 +95,7 @@ name_value s None sound named = nil_value s.packages sound.packages
 name_value s (Some f) sound named = keyword_value s f sound (symbol_there s.packages keyword f (named f refl))
 
 -- ---- the operators
-after_safe : (s : WorldState) (x : Object) (r : Result Readtables ReadtableError) → ((v : Readtables) → r ≡ Ok v → IsSoundWorldState (record s { readtables = v })) → IsValue s.packages x → Goods IsValue s (value_after s x (in_state s r))
+after_safe : (s : WorldState) (x : Object) (r : Result Readtables ReadtableError) → ((v : Readtables) → r ≡ Ok v → IsSoundWorldState (record s { readtables = v })) → IsValue s.packages x → Goods IsValue s (value_after s x (state_with_readtables s r))
 after_safe s x (Ok v) sound is = goods_state IsValue s x (record s { readtables = v }) true (sound v refl) (grows_same s.packages) is
 after_safe s x (Err e) sound is = refused s _
 

@@ -27,7 +27,7 @@ abbrev pub stepped : Direction → ℤ → ℤ → ℤ
 stepped Increment m n = m +ℤ n
 stepped Decrement m n = m -ℤ n
 
--- the same, where it has at most 128 bits
+-- the integer that comes of another one and an amount, where it has at most 128 bits
 abbrev pub if_stepped : Direction → ℤ → ℤ → Option ℤ
 if_stepped way m n = if is_in_range (stepped way m n) then Some (stepped way m n) else None
 

@@ -17,7 +17,7 @@ use Rattle.std.specs.FinMap as finite
 use Rattle.plist_state.specs.declared.error.ReadtableError.{ReadtableError}
 use Rattle.plist_state.specs.State.{Readtables, WorldState, standard_name}
 use Rattle.plist_state.specs.ErrorNumbers.{readtable_error_number}
-use Rattle.plist_state.specs.Changes.{after_in_readtable, with_case, with_macro, with_dispatching, with_dispatch, with_syntax, with_copy, in_state}
+use Rattle.plist_state.specs.Changes.{after_in_readtable, with_case, with_macro, with_dispatching, with_dispatch, with_syntax, with_copy, state_with_readtables}
 use Rattle.lisp_operators.specs.Evaluation.{Evaluation, gives, writes, of_kind}
 use Rattle.lisp_operators.specs.ArgumentKinds.{a_character, a_keyword, a_source, a_case, given_or, given_or_nil, is_true}
 use Rattle.lisp_operators.specs.Properties.{t}
@@ -38,7 +38,7 @@ value_after s x (Err e) = Err (readtable_error_number e)
 
 -- a value, in the state with other readtables
 abbrev pub with_readtables : WorldState → Object → Result Readtables ReadtableError → Evaluation Object
-with_readtables s x tables = value_after s x (in_state s tables)
+with_readtables s x tables = value_after s x (state_with_readtables s tables)
 
 -- what goes on with the readtable of this name
 abbrev pub in_readtable : WorldState → Name → (readtable.Table → Evaluation Object) → Evaluation Object

@@ -35,8 +35,8 @@ use Rattle.std_macros.specs.declared.kind.Standard.TheVariants.{List as AList, C
 use Rattle.std_macros.specs.declared.refusal.StdRefusal.TheVariants.{VectorLength, UninternedToken}
 use Rattle.std_macros.specs.Kinds.{radix_of}
 use Rattle.std_macros.specs.Values.{Material, nothing, one, many, dotted, letters, marked, Value, gives_one, headed_value, list_value, text_value, code_named, character_or_refused, character_of, character_value, last_of, bounded_value, vector_with, vector_of, vector_value, is_own_name, uninterned_value, rational_or_refused, rational_value, radix_value, value_of}
-use Rattle.lisp_reading.specs.declared.told.ResolvedToken.{ResolvedToken}
-use Rattle.lisp_reading.specs.declared.told.ResolvedToken.TheVariants.{Object as told_object, Dot as dot_alone}
+use Rattle.lisp_reading.specs.declared.token_resolution.ResolvedToken.{ResolvedToken}
+use Rattle.lisp_reading.specs.declared.token_resolution.ResolvedToken.TheVariants.{Object as told_object, Dot as dot_alone}
 use Rattle.lisp_reading.specs.Answering.{is_known, are_known}
 use Rattle.lisp_reading.specs.Naming.{symbol_at, symbol_in, named, told_meaning}
 use Rattle.lisp_reading.specs.Setting.{Setting}

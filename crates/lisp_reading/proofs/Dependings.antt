@@ -21,8 +21,8 @@ use Rattle.token_meaning.specs.Folding.{folded_marks}
 use Rattle.token_meaning.specs.Meanings.{Meaning, number, dot, name, meaning_of}
 use Rattle.user_macros.specs.Calls.{MacroAnswer, value, no_value, improper, refused as answer_refused}
 use Rattle.std_macros.specs.Values.{Material, nothing as no_material, one as one_object, letters, marked}
-use Rattle.lisp_reading.specs.declared.found.Found.{Found}
-use Rattle.lisp_reading.specs.declared.found.Found.TheVariants.{One as one}
+use Rattle.lisp_reading.specs.declared.attempt.Found.{Found}
+use Rattle.lisp_reading.specs.declared.attempt.Found.TheVariants.{One as one}
 use Rattle.lisp_reading.specs.declared.way.Function.{Function}
 use Rattle.lisp_reading.specs.declared.way.Function.TheVariants.{Standard as AStandard, User}
 use Rattle.lisp_reading.specs.declared.way.Way.{Way}

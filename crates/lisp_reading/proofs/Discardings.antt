@@ -14,10 +14,10 @@ use Rattle.token_scan.specs.Spelling.{is_plain_syntax}
 use Rattle.token_scan.specs.Tokens.{TypedByte, Scanned, fault_of_scan as scan_fault, with_front, is_character, kind, typed_byte, typed_text, in_bytes, token_in, outside, inside, escaped_outside}
 use Rattle.token_scan.proofs.Steps.{outside_plain, outside_escape, outside_bar, outside_invalid}
 use Rattle.token_meaning.specs.Results.{scan_refusal_number}
-use Rattle.lisp_reading.specs.declared.found.Found.{Found}
-use Rattle.lisp_reading.specs.declared.found.Found.TheVariants.{Nothing as nothing_found, One as one, LoneDot as lone_dot, TheEnd as the_end}
-use Rattle.lisp_reading.specs.declared.told.ResolvedToken.{ResolvedToken}
-use Rattle.lisp_reading.specs.declared.told.ResolvedToken.TheVariants.{Object as told_object, Dot as dot_alone}
+use Rattle.lisp_reading.specs.declared.attempt.Found.{Found}
+use Rattle.lisp_reading.specs.declared.attempt.Found.TheVariants.{Nothing as nothing_found, One as one, LoneDot as lone_dot, TheEnd as the_end}
+use Rattle.lisp_reading.specs.declared.token_resolution.ResolvedToken.{ResolvedToken}
+use Rattle.lisp_reading.specs.declared.token_resolution.ResolvedToken.TheVariants.{Object as told_object, Dot as dot_alone}
 use Rattle.lisp_reading.specs.DiscardedText.{IsDiscardedText, nothing, more}
 use Rattle.lisp_reading.specs.Naming.{token_meant}
 use Rattle.lisp_reading.specs.Plans.{Read, within, stands_below, limited_token, run}

@@ -9,8 +9,8 @@ use Rattle.readtable_core.specs.Tables.{Table}
 use Rattle.token_scan.specs.Tokens.{outside}
 use Rattle.lisp_reading.specs.Plans.{Read, run}
 use Rattle.lisp_reading.specs.Setting.{Setting}
-use Rattle.lisp_reading.specs.declared.found.Found.{Found}
-use Rattle.lisp_reading.specs.declared.found.Found.TheVariants.{Nothing as nothing, One as one, LoneDot as lone_dot, TheEnd as the_end}
+use Rattle.lisp_reading.specs.declared.attempt.Found.{Found}
+use Rattle.lisp_reading.specs.declared.attempt.Found.TheVariants.{Nothing as nothing, One as one, LoneDot as lone_dot, TheEnd as the_end}
 use Rattle.lisp_reading.specs.Reading.{is_whitespace, token_found, attempt, ReadingResult, form, space_at, outcome, reads_in, reads_at, reads, IsFramed}
 use Rattle.lisp_reading.proofs.Framing.{Framed, framed}
 use Rattle.lisp_reading.proofs.Steps.{eats}

@@ -14,8 +14,8 @@ use Rattle.token_scan.specs.Tokens.{TypedByte, Scanned, ScannedBytes, escaped_to
 use Rattle.token_scan.proofs.Spelled.{escaped_gives, spelled_gives}
 use Rattle.token_scan.proofs.Split.{SplitsBy, escaped_token_splits, splits}
 use Rattle.token_meaning.specs.Results.{scan_refusal_number}
-use Rattle.lisp_reading.specs.declared.found.Found.{Found}
-use Rattle.lisp_reading.specs.declared.found.Found.TheVariants.{Nothing as nothing, One as one, LoneDot as lone_dot, TheEnd as the_end}
+use Rattle.lisp_reading.specs.declared.attempt.Found.{Found}
+use Rattle.lisp_reading.specs.declared.attempt.Found.TheVariants.{Nothing as nothing, One as one, LoneDot as lone_dot, TheEnd as the_end}
 use Rattle.lisp_reading.specs.Plans.{Fault, Read, limited_token, stands_below, within, token_at_front}
 use Rattle.lisp_reading.specs.Reading.{ReadingResult, form, outcome}
 

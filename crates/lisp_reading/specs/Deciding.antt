@@ -1,7 +1,7 @@
 -- Where the attempt at an object begins that decides what a text begins with: what is before it came to nothing, attempt by attempt.
 use Rattle.std.specs.Prelude.{ℕ, zero, suc, ◌+◌, List, length, Ok}
-use Rattle.lisp_reading.specs.declared.found.Found.{Found}
-use Rattle.lisp_reading.specs.declared.found.Found.TheVariants.{Nothing as nothing}
+use Rattle.lisp_reading.specs.declared.attempt.Found.{Found}
+use Rattle.lisp_reading.specs.declared.attempt.Found.TheVariants.{Nothing as nothing}
 use Rattle.lisp_reading.specs.Plans.{Read, run}
 use Rattle.lisp_reading.specs.Setting.{Setting}
 use Rattle.lisp_reading.specs.Reading.{attempt}

@@ -1,6 +1,6 @@
 -- Discarded text (standard 2.2, 2.4): whitespace, and calls that give no object.
 use Rattle.std.specs.Prelude.{◌≡◌, ℕ, Bool, List, [], Ok}
-use Rattle.lisp_reading.specs.declared.found.Found.TheVariants.{Nothing as nothing_found}
+use Rattle.lisp_reading.specs.declared.attempt.Found.TheVariants.{Nothing as nothing_found}
 use Rattle.lisp_reading.specs.Plans.{run}
 use Rattle.lisp_reading.specs.Setting.{Setting}
 use Rattle.lisp_reading.specs.Reading.{attempt}

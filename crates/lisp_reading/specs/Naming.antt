@@ -14,10 +14,10 @@ use Rattle.token_meaning.specs.Meanings.{Meaning, number, dot, name, meaning_of}
 use Rattle.token_meaning.specs.Results.{meaning_refusal_number}
 use Rattle.package_table.specs.declared.resolve.Resolved.{Resolved}
 use Rattle.std.specs.Borrow.{Bor}
-use Rattle.lisp_reading.specs.declared.told.ResolvedToken.{ResolvedToken}
-use Rattle.lisp_reading.specs.declared.told.ResolvedToken.TheVariants.{Object as object, Dot as dot_alone}
-use Rattle.lisp_reading.specs.declared.told.ResolutionError.{ResolutionError}
-use Rattle.lisp_reading.specs.declared.told.ResolutionError.TheVariants.{OutOfMemory, Refused}
+use Rattle.lisp_reading.specs.declared.token_resolution.ResolvedToken.{ResolvedToken}
+use Rattle.lisp_reading.specs.declared.token_resolution.ResolvedToken.TheVariants.{Object as object, Dot as dot_alone}
+use Rattle.lisp_reading.specs.declared.token_resolution.ResolutionError.{ResolutionError}
+use Rattle.lisp_reading.specs.declared.token_resolution.ResolutionError.TheVariants.{OutOfMemory, Refused}
 use Rattle.lisp_reading.specs.Setting.{Setting}
 
 -- the symbol of this name at the home that was found, or the number of the refusal

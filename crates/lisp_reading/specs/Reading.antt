@@ -13,10 +13,10 @@ use Rattle.std_macros.specs.declared.refusal.StdRefusal.{StdRefusal}
 use Rattle.std_macros.specs.declared.refusal.StdRefusal.TheVariants.{StrayClose, OutOfProfile, NumericArgument}
 use Rattle.std_macros.specs.Values.{Value, value_of, Material, nothing as no_material, one as one_object, many, dotted, letters, marked}
 use Rattle.std_macros.specs.Results.{std_refusal_number}
-use Rattle.lisp_reading.specs.declared.found.Found.{Found}
-use Rattle.lisp_reading.specs.declared.found.Found.TheVariants.{Nothing as nothing, One as one, LoneDot as lone_dot, TheEnd as the_end}
-use Rattle.lisp_reading.specs.declared.told.ResolvedToken.{ResolvedToken}
-use Rattle.lisp_reading.specs.declared.told.ResolvedToken.TheVariants.{Object as told_object, Dot as dot_alone}
+use Rattle.lisp_reading.specs.declared.attempt.Found.{Found}
+use Rattle.lisp_reading.specs.declared.attempt.Found.TheVariants.{Nothing as nothing, One as one, LoneDot as lone_dot, TheEnd as the_end}
+use Rattle.lisp_reading.specs.declared.token_resolution.ResolvedToken.{ResolvedToken}
+use Rattle.lisp_reading.specs.declared.token_resolution.ResolvedToken.TheVariants.{Object as told_object, Dot as dot_alone}
 use Rattle.lisp_reading.specs.declared.way.Function.{Function}
 use Rattle.lisp_reading.specs.declared.way.Function.TheVariants.{Standard as AStandard, User}
 use Rattle.lisp_reading.specs.declared.way.Keep.{Keep}

@@ -20,8 +20,8 @@
 //!
 //! - `limits`: `Limits`
 //! - `way`, `ways`, `call`: functions and how they gather, and their calls
-//! - `held`, `found`: what is held while calls are open, and what an attempt at an object comes to
-//! - `told`: what a token means
+//! - `held_objects`, `attempt`: what is held while calls are open, and what an attempt at an object comes to
+//! - `token_resolution`: what a token means where packages are known
 //! - `laws`: `forms_are_framed`, `spaced_forms_are_framed`, `forms_are_within_the_limit`, `forms_are_decided`,
 //!   `refusals_are_decided`, `refusals_are_of_reading`, `empty_texts_are_discarded`, `forms_fit`,
 //!   `only_what_is_found_matters`, `only_registered_names_matter`, `a_text_is_decided`, `reading_goes_on`
@@ -40,18 +40,18 @@
 //! - proofs/Deciding.antt: where the attempt begins that decides a text.
 #![tactic(auto)]
 
+mod attempt;
 mod call;
-mod found;
-mod held;
+mod held_objects;
 mod laws;
 mod limits;
-mod told;
+mod token_resolution;
 mod way;
 mod ways;
 
+pub use attempt::Found;
 pub use call::Invoked;
-pub use found::Found;
-pub use held::{HeldCharacter, HeldNumber, HeldObject, HeldObjects, HeldText};
+pub use held_objects::{HeldCharacter, HeldNumber, HeldObject, HeldObjects, HeldText};
 pub use laws::{
     a_text_is_decided, empty_texts_are_discarded, forms_are_decided, forms_are_framed,
     forms_are_within_the_limit, forms_fit, only_registered_names_matter,
@@ -59,6 +59,6 @@ pub use laws::{
     spaced_forms_are_framed,
 };
 pub use limits::Limits;
-pub use told::{ResolutionError, ResolvedToken, tell};
+pub use token_resolution::{ResolutionError, ResolvedToken, tell};
 pub use way::{Function, Keep, Way};
 pub use ways::{function_of, is_baseless, standard_way, user_way};

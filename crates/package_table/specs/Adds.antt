@@ -24,7 +24,7 @@ pub record Adds (k u : Kept) : Type 0 where
   pub fits : (n : Sizes) → AreUpTo n (sizes_of k) → AreUpTo n (sizes_of u)
   pub cuts : (n : Sizes) → AreUpTo n (sizes_of k) → cut n u ≡ cut n k
 
--- the same where no symbol is made
+-- something is added, and no symbol is made
 abbrev pub AddsNoSymbol : Kept → Kept → Type 0
 AddsNoSymbol k u = Adds k u × (length u.symbols ≡ length k.symbols)
 

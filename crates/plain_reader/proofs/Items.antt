@@ -10,8 +10,8 @@ use Rattle.lisp_object.specs.Object.{Object}
 use Rattle.readtable_core.specs.Tables.{entry_at}
 use Rattle.readtable_core.specs.declared.characters.Syntax.{Syntax}
 use Rattle.readtable_core.specs.declared.characters.Syntax.TheVariants.{Whitespace}
-use Rattle.lisp_reading.specs.declared.found.Found.{Found}
-use Rattle.lisp_reading.specs.declared.found.Found.TheVariants.{Nothing as nothing, One as one}
+use Rattle.lisp_reading.specs.declared.attempt.Found.{Found}
+use Rattle.lisp_reading.specs.declared.attempt.Found.TheVariants.{Nothing as nothing, One as one}
 use Rattle.lisp_reading.specs.Plans.{Plan, gives, scans, then_plan, Read, fault, within, run}
 use Rattle.lisp_reading.specs.Setting.{Setting}
 use Rattle.lisp_reading.specs.Reading.{Piece, item, closed, Items, is_blank, is_whitespace, without_space, piece_of, or_closed, next_item_turn, next_item, items_step, items_turn, items_after, stands_alone, alone, token_found, inner, attempt}

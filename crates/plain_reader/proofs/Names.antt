@@ -27,7 +27,7 @@ use Rattle.token_meaning.proofs.NumberFronts.{begins_number, no_number}
 use Rattle.token_meaning.proofs.Spelled.{digits_given}
 use Rattle.package_table.specs.Resolving.{Resolution, home_of, resolution}
 use Rattle.lisp_reading.specs.Naming.{told_meaning, symbol_in}
-use Rattle.lisp_reading.specs.declared.told.ResolvedToken.TheVariants.{Object as told_object}
+use Rattle.lisp_reading.specs.declared.token_resolution.ResolvedToken.TheVariants.{Object as told_object}
 use Rattle.plain_reader.specs.declared.context.PlainContext.{PlainContext}
 use Rattle.plain_reader.specs.Tokens.{marks_of_bytes, IsToken}
 use Rattle.plain_reader.specs.Words.{is_word}

@@ -19,9 +19,9 @@ use Rattle.token_scan.specs.Marks.{are_ascii}
 use Rattle.token_scan.specs.Spelling.{is_plain_syntax, ends_tokens}
 use Rattle.token_scan.specs.Tokens.{TypedByte, kind, typed_byte, typed_text, outside, plain, with_front, in_bytes, token_in, ScannedBytes}
 use Rattle.token_scan.proofs.Steps.{outside_ends, outside_plain, room, plain_taken}
-use Rattle.lisp_reading.specs.declared.found.Found.TheVariants.{One as one}
-use Rattle.lisp_reading.specs.declared.told.ResolvedToken.{ResolvedToken}
-use Rattle.lisp_reading.specs.declared.told.ResolvedToken.TheVariants.{Object as told_object}
+use Rattle.lisp_reading.specs.declared.attempt.Found.TheVariants.{One as one}
+use Rattle.lisp_reading.specs.declared.token_resolution.ResolvedToken.{ResolvedToken}
+use Rattle.lisp_reading.specs.declared.token_resolution.ResolvedToken.TheVariants.{Object as told_object}
 use Rattle.lisp_object.specs.declared.refusal.TheConstants.{FORM_TOO_LONG}
 use Rattle.lisp_reading.specs.Naming.{token_meant}
 use Rattle.lisp_reading.specs.Plans.{Plan, Read, gives, scans, limited_token, token_at_front, run}

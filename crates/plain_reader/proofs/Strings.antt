@@ -13,8 +13,8 @@ use Rattle.readtable_core.specs.Sound.{IsReadtable}
 use Rattle.readtable_core.specs.Tables.{Table, entry_at}
 use Rattle.std_macros.specs.Values.{letters}
 use Rattle.std_macros.specs.declared.kind.Standard.TheVariants.{String}
-use Rattle.lisp_reading.specs.declared.found.Found.{Found}
-use Rattle.lisp_reading.specs.declared.found.Found.TheVariants.{One as one}
+use Rattle.lisp_reading.specs.declared.attempt.Found.{Found}
+use Rattle.lisp_reading.specs.declared.attempt.Found.TheVariants.{One as one}
 use Rattle.lisp_reading.specs.declared.way.Function.TheVariants.{Standard as AStandard}
 use Rattle.lisp_reading.specs.InvokedCalls.{InvokedCall}
 use Rattle.lisp_reading.specs.Gathering.{is_escape, text_turn}

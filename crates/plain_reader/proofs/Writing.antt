@@ -16,7 +16,7 @@ use Rattle.lisp_object.specs.Datum.{object_of}
 use Rattle.lisp_object.specs.Object as object
 use Rattle.lisp_object.specs.Object.{Object, symbol}
 use Rattle.lisp_object.proofs.Sound.{all_below, sound_nil}
-use Rattle.lisp_reading.specs.declared.found.Found.TheVariants.{One as one}
+use Rattle.lisp_reading.specs.declared.attempt.Found.TheVariants.{One as one}
 use Rattle.lisp_reading.specs.declared.limits.Limits.{Limits}
 use Rattle.lisp_reading.specs.Plans.{gives}
 use Rattle.lisp_reading.specs.Reading.{is_whitespace, attempt, form, reads}
@@ -31,9 +31,9 @@ use Rattle.readtable_core.specs.Tables.{Table}
 use Rattle.user_macros.specs.Functions.{Functions}
 use Rattle.plain_reader.specs.declared.context.PlainContext.{PlainContext}
 use Rattle.plain_reader.specs.declared.literal.Literal.{Literal}
-use Rattle.plain_reader.specs.declared.written.WrittenName.{WrittenName}
-use Rattle.plain_reader.specs.declared.written.WrittenPlace.{WrittenPlace}
-use Rattle.plain_reader.specs.declared.written.WrittenSetf.{WrittenSetf}
+use Rattle.plain_reader.specs.declared.property_forms.WrittenName.{WrittenName}
+use Rattle.plain_reader.specs.declared.property_forms.WrittenPlace.{WrittenPlace}
+use Rattle.plain_reader.specs.declared.property_forms.WrittenSetf.{WrittenSetf}
 use Rattle.plain_reader.specs.Coming.{ReadsOnAs}
 use Rattle.plain_reader.specs.Written.{lisp, quote_of, literal_of, TakesObject, TakesItems, EndsList, arguments_at, get_form_at, setf_at, FindsSymbol}
 use Rattle.plain_reader.specs.Plain.{setting, IfStill, IsHanded}

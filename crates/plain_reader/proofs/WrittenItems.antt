@@ -18,7 +18,7 @@ use Rattle.lisp_object.specs.Datum.{object_of}
 use Rattle.lisp_object.proofs.Sound.{all_below, sound_nil}
 use Rattle.package_table.specs.Symbols.{are_there}
 use Rattle.package_table.specs.Table.{AreSoundPackages}
-use Rattle.lisp_reading.specs.declared.found.Found.TheVariants.{One as one}
+use Rattle.lisp_reading.specs.declared.attempt.Found.TheVariants.{One as one}
 use Rattle.lisp_reading.specs.Plans.{gives}
 use Rattle.lisp_reading.specs.Reading.{is_whitespace, attempt}
 use Rattle.plain_reader.specs.declared.context.PlainContext.{PlainContext}

@@ -6,7 +6,7 @@ use Rattle.readtable_core.specs.Tables.{Table}
 use Rattle.package_table.specs.Symbols.{are_there}
 use Rattle.package_table.specs.Table.{Name, Table as Packages}
 use Rattle.user_macros.specs.Functions.{Functions}
-use Rattle.lisp_reading.specs.declared.found.Found.TheVariants.{One as one}
+use Rattle.lisp_reading.specs.declared.attempt.Found.TheVariants.{One as one}
 use Rattle.lisp_reading.specs.declared.limits.Limits.{Limits}
 use Rattle.lisp_reading.specs.Plans.{Plan, gives}
 use Rattle.lisp_reading.specs.Setting.{Setting, setting_of}

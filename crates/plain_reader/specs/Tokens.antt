@@ -13,7 +13,7 @@ use Rattle.token_scan.specs.Tokens.{typed_byte, kind}
 use Rattle.token_meaning.specs.Folding.{folded_marks}
 use Rattle.token_meaning.specs.Meanings.{meaning_of}
 use Rattle.lisp_reading.specs.Naming.{told_meaning}
-use Rattle.lisp_reading.specs.declared.told.ResolvedToken.TheVariants.{Object as told_object}
+use Rattle.lisp_reading.specs.declared.token_resolution.ResolvedToken.TheVariants.{Object as told_object}
 use Rattle.plain_reader.specs.declared.context.PlainContext.{PlainContext}
 
 -- whether a character of this type is one of a token

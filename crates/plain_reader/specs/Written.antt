@@ -6,7 +6,7 @@ use Rattle.package_table.specs.Resolving.{found_at, resolution}
 use Rattle.package_table.specs.Table.{Name, common_lisp}
 use Rattle.std_macros.specs.Values.{headed}
 use Rattle.user_macros.specs.Functions.{Functions}
-use Rattle.lisp_reading.specs.declared.found.Found.TheVariants.{One as one}
+use Rattle.lisp_reading.specs.declared.attempt.Found.TheVariants.{One as one}
 use Rattle.lisp_reading.specs.Plans.{gives}
 use Rattle.lisp_reading.specs.Reading.{attempt}
 use Rattle.plain_reader.specs.declared.context.PlainContext.{PlainContext}

@@ -12,7 +12,8 @@
 //!   specs/Tokens.antt: tokens without escapes; specs/Written.antt: GET and SETF by the names that stand in a text
 //!
 //! - `plain`: `PlainForm`, `read_plain`, `ReadSetf`, `read_setf`, `ReadGet`, `read_get`
-//! - `written`: where a text begins with GET of a property, or with SETF of one; `literals`: what SETF puts there; `literal`: `Literal`
+//! - `property_forms`: where a text begins with GET of a property, or with SETF of one
+//! - `literals`: what SETF puts there; `literal`: `Literal`
 //! - `context`: what reading is handed
 //! - `objects`: lists, quoted objects, texts
 //! - `tokens`: where a token ends, and what it means; `words`: names and integers that are seen from their bytes
@@ -23,9 +24,9 @@ mod literal;
 mod literals;
 mod objects;
 mod plain;
+mod property_forms;
 mod tokens;
 mod words;
-mod written;
 
 pub use literal::Literal;
 pub use plain::{PlainForm, ReadGet, ReadSetf, read_get, read_plain, read_setf};

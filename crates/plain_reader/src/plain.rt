@@ -17,7 +17,7 @@ ghost use Rattle.plain_reader.specs.Plain.{IsHanded};
 use crate::context::PlainContext;
 use crate::literal::Literal;
 use crate::objects::{calls, is_blank, list};
-use crate::written::{written_place, written_setf};
+use crate::property_forms::{written_place, written_setf};
 use lisp_object::Datum;
 use lisp_reading::Limits;
 use package_table::Packages;
@@ -139,11 +139,13 @@ pub fn read_setf<'a>(
         IfOk result (λ found. IfSome found
         (λ s. resolution packages.now.0 current.now s.symbol.now ≡ Ok (found_at h)
         → resolution packages.now.0 current.now s.indicator.now ≡ Ok (found_at i)
-        → reads setting (bytes.now ++ more) ≡ form (setf_at h s.symbol.now i s.indicator.now s.literal) 0 s.end s.end)) }
+        → reads setting (bytes.now ++ more)
+        ≡ form (setf_at h s.symbol.now i s.indicator.now s.literal) 0 s.end s.end)) }
     ensures known { (h i : Name) → IfOk result (λ found. IfSome found
         (λ s. resolution packages.now.0 current.now s.symbol.now ≡ Ok (found_at h)
         → resolution packages.now.0 current.now s.indicator.now ≡ Ok (found_at i)
-        → s.known ≡ true → are_there packages.now.0 (setf_at h s.symbol.now i s.indicator.now s.literal) ≡ true)) }
+        → s.known ≡ true
+        → are_there packages.now.0 (setf_at h s.symbol.now i s.indicator.now s.literal) ≡ true)) }
     ensures sound { (h i : Name) → IfOk result (λ found. IfSome found
         (λ s. resolution packages.now.0 current.now s.symbol.now ≡ Ok (found_at h)
         → resolution packages.now.0 current.now s.indicator.now ≡ Ok (found_at i)
@@ -196,7 +198,8 @@ pub fn read_get<'a>(
         IfSome result
         (λ g. resolution packages.now.0 current.now g.symbol.now ≡ Ok (found_at h)
         → resolution packages.now.0 current.now g.indicator.now ≡ Ok (found_at i)
-        → reads setting (bytes.now ++ more) ≡ form (get_form_at h g.symbol.now i g.indicator.now) 0 g.end g.end) }
+        → reads setting (bytes.now ++ more)
+        ≡ form (get_form_at h g.symbol.now i g.indicator.now) 0 g.end g.end) }
     ensures there { (h i : Name) → IfSome result
         (λ g. resolution packages.now.0 current.now g.symbol.now ≡ Ok (found_at h)
         → resolution packages.now.0 current.now g.indicator.now ≡ Ok (found_at i)

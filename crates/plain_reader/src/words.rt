@@ -33,7 +33,7 @@ fn has_colon(bytes: &[u8]) -> bool
     bytes.iter().any(|c| *c == b':')
 }
 
-/// The symbol of such a token.
+/// The symbol of such a token. None says that the name resolves to no symbol, and that the text is to be read as any other.
 #[inline(always)]
 pub(crate) fn word(
     with: &PlainContext<'_>,

@@ -26,7 +26,7 @@ use Rattle.plist_state.specs.Views.{NumberedRest}
 use Rattle.plist_state.specs.Undoing.{table_before, tables_before, rest_before}
 use Rattle.plist_state.specs.Journal.{CanBeUndone, IsTableChange, IsEntryNote, ContinuesJournal}
 use Rattle.plist_state.proofs.Notes.{continues_noted, continues_same}
-use Rattle.plist_state.specs.Changes.{writable, put_changed, with_changed, changed_readtable, Refused}
+use Rattle.plist_state.specs.Changes.{writable, put_changed, readtables_with_change, changed_readtable, Refused}
 use Rattle.plist_state.proofs.Orders.{name_total, name_exact, name_tied, one_name}
 
 -- the note that this was the readtable of this name, or that there was none
@@ -169,7 +169,7 @@ refused_by OutOfMemory said is other = absurd (other refl)
 
 -- a change of what may not be written is refused for that
 pub change_refused : (m : Readtables) (n : Name) (change : Table → Result Table ReadtableError) (e : ReadtableError) → (writable m n ≡ Err e) × (e ≢ OutOfMemory) → Refused e (changed_readtable m n change)
-change_refused m n change e why = refused_by e (changed_readtable m n change) (ap (with_changed m n change) why.0) why.1
+change_refused m n change e why = refused_by e (changed_readtable m n change) (ap (readtables_with_change m n change) why.0) why.1
 
 -- a readtable that may be written is there
 pub written_there : (tables : List (Vec ℕ × Table)) (n : Name) → None ≡ lookup (at n) tables → IsOk (writable (shown tables) n) → ⊥
@@ -183,16 +183,16 @@ module _ (tables later : List (Vec ℕ × Table)) (n : Name) (t w : Table) (chan
 
   pub changed_there : later ≡ set_value (at n) tables w → change t ≡ Ok w → changed_readtable (shown tables) n change ≡ Ok (shown later)
   changed_there is makes =
-      ap (with_changed (shown tables) n change) may_write ∙ ap (put_changed (shown tables) n) makes ∙ ap Ok (sym (put_there tables later n t w there is))
+      ap (readtables_with_change (shown tables) n change) may_write ∙ ap (put_changed (shown tables) n) makes ∙ ap Ok (sym (put_there tables later n t w there is))
 
   pub kept_there : (e : ReadtableError) → change t ≡ Err e → changed_readtable (shown tables) n change ≡ Err e
-  kept_there e refuses = ap (with_changed (shown tables) n change) may_write ∙ ap (put_changed (shown tables) n) refuses
+  kept_there e refuses = ap (readtables_with_change (shown tables) n change) may_write ∙ ap (put_changed (shown tables) n) refuses
 
 -- a change that refuses nothing
 pub change_ok : (m : Readtables) (n : Name) (change : Table → Table) → IsOk (writable m n) → IsOk (changed_readtable m n (λ t. Ok (change t)))
 change_ok m n change ok = done (writable m n) ok
   where
-    done : (r : Result Table ReadtableError) → IsOk r → IsOk (with_changed m n (λ t. Ok (change t)) r)
+    done : (r : Result Table ReadtableError) → IsOk r → IsOk (readtables_with_change m n (λ t. Ok (change t)) r)
     done (Ok t) e = refl
     done (Err x) e = absurd (false≢true e)
 

@@ -16,7 +16,7 @@ use Rattle.readtable_core.specs.Characters.{is_digit}
 use Rattle.readtable_core.specs.Names.{is_dispatch_name, is_function_name, dispatch_name}
 use Rattle.readtable_core.specs.Tables.{Table, entry_at}
 use Rattle.readtable_core.specs.Sound.{is_dispatching}
-use Rattle.readtable_core.specs.Changes.{with_character_entry, macro_entry, dispatching_entry, with_function}
+use Rattle.readtable_core.specs.Changes.{with_character_entry, macro_entry, dispatching_entry, with_dispatch_function}
 use Rattle.readtable_core.proofs.Sound as readtable_sound
 use Rattle.readtable_core.proofs.Named.{named_after, named_at, named_with_function}
 use Rattle.package_table.specs.Table as packages
@@ -27,7 +27,7 @@ use Rattle.plist_state.specs.declared.error.ReadtableError.{ReadtableError}
 use Rattle.plist_state.specs.declared.error.ReadtableError.TheVariants.{NoReadtable, StandardReadtable, Limit}
 use Rattle.plist_state.specs.State.{Readtables, WorldState, standard_name}
 use Rattle.plist_state.specs.Views.{NumberedRest}
-use Rattle.plist_state.specs.Changes.{put_changed, with_changed, changed_readtable, with_sub_function, readtable_error_of, with_copy, with_syntax, AnswersReadtables}
+use Rattle.plist_state.specs.Changes.{put_changed, readtables_with_change, changed_readtable, with_sub_function, readtable_error_of, with_copy, with_syntax, AnswersReadtables}
 use Rattle.plist_state.specs.Sound.{IsSymbol, HasKeywordFunctions, IsSoundWorldState}
 use Rattle.plist_state.proofs.Orders.{name_total}
 use Rattle.plist_state.proofs.Soundness.{sound_table, symbol_from}
@@ -64,7 +64,7 @@ sound_changed s n change sound named v is =
     → with_writable o ≡ Ok v → IsSoundWorldState (record s { readtables = v })) [
       | None ↦ λ _ e. absurd (err_ok e)
       | Some t ↦ λ there e.
-          elim (bytes_eq n standard_name) as (λ b. bytes_eq n standard_name ≡ b → with_changed s.readtables n change (if b then Err StandardReadtable else Ok t) ≡ Ok v → IsSoundWorldState (record s { readtables = v })) [
+          elim (bytes_eq n standard_name) as (λ b. bytes_eq n standard_name ≡ b → readtables_with_change s.readtables n change (if b then Err StandardReadtable else Ok t) ≡ Ok v → IsSoundWorldState (record s { readtables = v })) [
             | true ↦ λ _ f. absurd (err_ok f)
             | false ↦ λ other f.
                 elim (change t) as (λ r. change t ≡ r → put_changed s.readtables n r ≡ Ok v → IsSoundWorldState (record s { readtables = v })) [
@@ -79,7 +79,7 @@ sound_changed s n change sound named v is =
     ] refl is
   where
     with_writable : Option Table → Result Readtables ReadtableError
-    with_writable o = with_changed s.readtables n change (option_map_or (λ t. if bytes_eq n standard_name then Err StandardReadtable else Ok t) o (Err NoReadtable))
+    with_writable o = readtables_with_change s.readtables n change (option_map_or (λ t. if bytes_eq n standard_name then Err StandardReadtable else Ok t) o (Err NoReadtable))
 
 -- ---- the readtables after each change
 pub named_case : (t : packages.Table) (letters : Case) (r u : Table) → HasKeywordFunctions t r → ◌≡◌ {A = Result Table ReadtableError} (Ok (record r { letters = letters })) (Ok u) → HasKeywordFunctions t u
@@ -110,17 +110,17 @@ named_dispatched t c sub f r u below low other fits at_home named is =
       | true ↦ λ d e.
           elim (is_digit sub) as (λ b. is_digit sub ≡ b → made (if b then Some Digit else None) ≡ Ok u → HasKeywordFunctions t u) [
             | true ↦ λ _ g. absurd (err_ok g)
-            | false ↦ λ digit g. subst (HasKeywordFunctions t) (ok_same (with_character_entry r c (with_function (entry_at r c) sub f)) u g) (record {
-              readtable = readtable_sound.kept r c (with_function (entry_at r c) sub f) below named.readtable
+            | false ↦ λ digit g. subst (HasKeywordFunctions t) (ok_same (with_character_entry r c (with_dispatch_function (entry_at r c) sub f)) u g) (record {
+              readtable = readtable_sound.kept r c (with_dispatch_function (entry_at r c) sub f) below named.readtable
                   (readtable_sound.function_sound (entry_at r c) sub f (named.readtable.each c) (readtable_sound.place_of (entry_at r c) sub (named.readtable.each c) d low) digit other fits);
-              functions = named_after (is_symbol t keyword) r c (with_function (entry_at r c) sub f) named.functions
+              functions = named_after (is_symbol t keyword) r c (with_dispatch_function (entry_at r c) sub f) named.functions
                   (named_with_function (is_symbol t keyword) (entry_at r c) sub f (named_at (is_symbol t keyword) r c named.functions) (symbol_from t keyword f at_home));
             })
           ] refl e
     ] refl is
   where
     made : Option DispatchRefusal → Result Table ReadtableError
-    made o = option_map_or (λ x. Err (readtable_error_of x)) o (Ok (with_character_entry r c (with_function (entry_at r c) sub f)))
+    made o = option_map_or (λ x. Err (readtable_error_of x)) o (Ok (with_character_entry r c (with_dispatch_function (entry_at r c) sub f)))
 
 pub sound_syntax : (s : WorldState) (n : Name) (c : ℕ) (m : Name) (d : ℕ) → IsSoundWorldState s → c < 128 → (v : Readtables) → with_syntax s.readtables n c m d ≡ Ok v → IsSoundWorldState (record s { readtables = v })
 sound_syntax s n c m d sound below v is =

@@ -10,7 +10,7 @@ use Rattle.std.specs.BTreeMap.{insert_entry, is_at}
 use Rattle.std.proofs.lemmas.List.{length-map, map-append}
 use Rattle.lisp_object.specs.declared.datum.Datum.{Datum}
 use Rattle.property_rows.specs.declared.property.NumberedProperty.{NumberedProperty}
-use Rattle.plist_state.specs.RowIndexes.{Index, Indexes, order_of, orders, nth, order_in, index_at, HasRisingOrders, IsRowIndex, IsIndexedIn}
+use Rattle.plist_state.specs.RowIndexes.{Index, Indexes, order_of, orders, indexed_order, order_in, index_at, HasRisingOrders, IsRowIndex, IsIndexedIn}
 use Rattle.plist_state.proofs.Indices.{has}
 use Rattle.plist_state.proofs.ListRows.{number_tied}
 use Rattle.plist_state.proofs.Placing.{inserted, written_at, not_same, index_put, same_some}
@@ -23,7 +23,7 @@ module _ (old new : Indexes) (n : ℕ) (items : List NumberedProperty) (i o : �
   long : length (orders items) ≡ length items
   long = length-map items order_of
 
-  unlike : (k : ℕ) → k < length (orders items) → (nth (orders items) k).0 ≢ i
+  unlike : (k : ℕ) → k < length (orders items) → (indexed_order (orders items) k).0 ≢ i
   unlike k lt = elsewhere items i absent k (omega (arith, long, lt))
 
   here : index_at new n ≡ Some later
@@ -37,7 +37,7 @@ module _ (old new : Indexes) (n : ℕ) (items : List NumberedProperty) (i o : �
       subst (λ (z : Index). IsRowIndex z.entries (orders items)) (at y e)
       (IsIndexed-noted x.entries later.entries (orders items) i o (inserted x.entries later.entries i o put) unlike (λ q other. not_same q i other) (number_tied i) (indexed x there))
 
-  pub next : (HasRisingOrders (orders items) → (k : ℕ) → k < length items → (nth (orders items) k).1 < o)
+  pub next : (HasRisingOrders (orders items) → (k : ℕ) → k < length items → (indexed_order (orders items) k).1 < o)
       → (p : NumberedProperty) → p.indicator ≡ i → p.order ≡ o → IsIndexedIn new n (items ++ p ∷ [])
   next above p is_i is_o y e =
       let one : order_of p ≡ (i, o) = λ t. (is_i t, is_o t) in
@@ -52,11 +52,11 @@ module _ (old new : Indexes) (n : ℕ) (items : List NumberedProperty) (p : Numb
     (there : index_at old n ≡ Some x) (is : new ≡ set_value (is_at (nat_cmp n)) old later)
     (put : (q : ℕ) → order_in later.entries q ≡ cond (eq_by_cmp nat_cmp q p.indicator) (Some p.order) (order_in x.entries q))
     (indexed : IsIndexedIn old n items) (absent : position (has p.indicator) items ≡ None) (within : k ≤ length items)
-    (low : 0 < k → (nth (orders items) (k - 1)).1 < p.order) (high : k < length items → p.order < (nth (orders items) k).1) where
+    (low : 0 < k → (indexed_order (orders items) (k - 1)).1 < p.order) (high : k < length items → p.order < (indexed_order (orders items) k).1) where
   as_long : length (orders items) ≡ length items
   as_long = length-map items order_of
 
-  none : (j : ℕ) → j < length (orders items) → (nth (orders items) j).0 ≢ p.indicator
+  none : (j : ℕ) → j < length (orders items) → (indexed_order (orders items) j).0 ≢ p.indicator
   none j lt = elsewhere items p.indicator absent j (omega (arith, as_long, lt))
 
   known : order_in later.entries p.indicator ≡ Some p.order

@@ -8,7 +8,7 @@ use Rattle.readtable_core.specs.declared.table.Case.{Case}
 use Rattle.readtable_core.specs.declared.refusal.DispatchRefusal.{DispatchRefusal}
 use Rattle.readtable_core.specs.declared.refusal.DispatchRefusal.TheVariants.{NotDispatching as NoDispatch, DigitSubcharacter as Digit}
 use Rattle.readtable_core.specs.Tables.{Table, entry_at}
-use Rattle.readtable_core.specs.Changes.{with_character_entry, macro_entry, dispatching_entry, with_function, dispatch_refusal}
+use Rattle.readtable_core.specs.Changes.{with_character_entry, macro_entry, dispatching_entry, with_dispatch_function, dispatch_refusal}
 use Rattle.package_table.specs.declared.error.PackageError.{PackageError}
 use Rattle.package_table.specs.declared.error.PackageError.TheVariants.{NoSuchPackage}
 use Rattle.package_table.specs.Table as packages
@@ -61,13 +61,13 @@ put_changed m n (Ok t) = Ok (finite.insert m n t)
 put_changed m n (Err e) = Err e
 
 -- with what a change of the readtable of this name gives
-abbrev pub with_changed : Readtables → Name → (Table → Result Table ReadtableError) → Result Table ReadtableError → Result Readtables ReadtableError
-with_changed m n change (Ok t) = put_changed m n (change t)
-with_changed m n change (Err e) = Err e
+abbrev pub readtables_with_change : Readtables → Name → (Table → Result Table ReadtableError) → Result Table ReadtableError → Result Readtables ReadtableError
+readtables_with_change m n change (Ok t) = put_changed m n (change t)
+readtables_with_change m n change (Err e) = Err e
 
 -- the readtable of this name after a change; none changes the standard one
 abbrev pub changed_readtable : Readtables → Name → (Table → Result Table ReadtableError) → Result Readtables ReadtableError
-changed_readtable m n change = with_changed m n change (writable m n)
+changed_readtable m n change = readtables_with_change m n change (writable m n)
 
 -- the case (standard 23.2, READTABLE-CASE)
 abbrev pub with_case : Readtables → Name → Case → Result Readtables ReadtableError
@@ -89,7 +89,7 @@ readtable_error_of Digit = DigitSubcharacter
 -- a readtable with a function at a sub-character
 abbrev pub with_sub_function : Table → ℕ → ℕ → Name → Result Table ReadtableError
 with_sub_function t c sub f =
-    option_map_or (λ r. Err (readtable_error_of r)) (dispatch_refusal t c sub) (Ok (with_character_entry t c (with_function (entry_at t c) sub f)))
+    option_map_or (λ r. Err (readtable_error_of r)) (dispatch_refusal t c sub) (Ok (with_character_entry t c (with_dispatch_function (entry_at t c) sub f)))
 
 -- SET-DISPATCH-MACRO-CHARACTER (standard 23.2)
 abbrev pub with_dispatch : Readtables → Name → ℕ → ℕ → Name → Result Readtables ReadtableError
@@ -110,9 +110,9 @@ with_copy m o n =
     else Ok (finite.insert m n t))) (finite.get m o) (Err NoReadtable)
 
 -- a change of the readtables of a state
-abbrev pub in_state : WorldState → Result Readtables ReadtableError → Result WorldState ReadtableError
-in_state s (Ok m) = Ok (record s { readtables = m })
-in_state s (Err e) = Err e
+abbrev pub state_with_readtables : WorldState → Result Readtables ReadtableError → Result WorldState ReadtableError
+state_with_readtables s (Ok m) = Ok (record s { readtables = m })
+state_with_readtables s (Err e) = Err e
 
 -- A call answers what the definition says. That a growth was refused it answers only where the definition refuses nothing.
 abbrev pub Refused : {B : Type 0} → ReadtableError → Result B ReadtableError → Type 0

@@ -67,7 +67,7 @@ pub record ContinuesJournal (ms : List (List Note)) (t : NumberedRest) (ns : Lis
   pub same : rests_at ns u ≡ rests_at ms t
   pub journal : (rows : Rows) → FitsRows rows t → IsJournal ms t rows → IsJournal ns u rows
 
--- the same of a change of the readtables alone, whatever else is kept
+-- A change of the readtables alone: whatever else is kept, one gets back to what one got back to before.
 abbrev pub ContinuesTables : List (List Note) → Readtables → List (List Note) → Readtables → Type 0
 ContinuesTables ms before ns later =
     (r : NumberedRest) → ContinuesJournal ms (record r { readtables = before }) ns (record r { readtables = later })

@@ -16,7 +16,7 @@ use Rattle.plist_state.specs.Sizes.{Sizes, AreSizes}
 use Rattle.plist_state.specs.Undoing.{rests_at}
 use Rattle.plist_state.specs.Journal.{marks_of, IsJournal}
 
--- the same, with the property lists by their symbols
+-- what is kept beside the packages, with the property lists by their symbols and not by their numbers
 abbrev pub rest_in : Numbered → NumberedRest → Rest
 rest_in s r =
     record {

@@ -21,7 +21,7 @@ before_change (Removed index property) p =
 before_change (Pushed index empty) p = Some p
 before_change (Popped index items) p = Some p
 
--- the same of any note, where the list is that of the symbol x
+-- Where the property at a place of the list of the symbol x was before a note; a note on anything else leaves the place.
 abbrev pub before_note : ℕ → Note → PropertyPlace → Option PropertyPlace
 before_note x (Property number change) p = if number == x then before_change change p else Some p
 before_note x (Made name) p = Some p

@@ -29,6 +29,6 @@ popped_list value = without_first (unwrap_or value nil)
 abbrev pub with_popped_by : {K : Type 0} → (K → K → Bool) → List (K × Object) → K → List (K × Object)
 with_popped_by same ps i = with_value_by same ps i (popped_list (value_beside same ps i))
 
--- the same, by numbers
+-- lists by numbers, without the first item of the list beside the indicator of a symbol
 abbrev pub with_popped_in : NumberedLists → ℕ → ℕ → NumberedLists
 with_popped_in m i j = with_row m i (with_popped_by same_number (plist_of_number m i) j)

@@ -28,6 +28,6 @@ with_pushed_by same ps i x = with_value_by same ps i (pushed_list x (value_besid
 abbrev pub with_pushed : WorldState → Symbol → Symbol → Object → WorldState
 with_pushed s x i v = with_property s x i (pushed_list v (property s x i))
 
--- the same, by numbers
+-- lists by numbers, with this value before the one beside the indicator of a symbol
 abbrev pub with_pushed_in : NumberedLists → ℕ → ℕ → Object → NumberedLists
 with_pushed_in m i j v = with_row m i (with_pushed_by same_number (plist_of_number m i) j v)

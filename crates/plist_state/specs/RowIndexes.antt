@@ -20,8 +20,8 @@ abbrev pub orders : List NumberedProperty → Orders
 orders items = map order_of items
 
 -- the indicator and the order of the property at a place
-abbrev pub nth : Orders → ℕ → ℕ × ℕ
-nth ks k = slice_index_or ks k (0, 0)
+abbrev pub indexed_order : Orders → ℕ → ℕ × ℕ
+indexed_order ks k = slice_index_or ks k (0, 0)
 
 -- the order that an index has for an indicator
 abbrev pub order_in : Orders → ℕ → Option ℕ
@@ -29,11 +29,11 @@ order_in x i = lookup (is_at (nat_cmp i)) x
 
 -- the orders rise along the row
 abbrev pub HasRisingOrders : Orders → Type 0
-HasRisingOrders ks = (i j : ℕ) → i < j → j < length ks → (nth ks i).1 < (nth ks j).1
+HasRisingOrders ks = (i j : ℕ) → i < j → j < length ks → (indexed_order ks i).1 < (indexed_order ks j).1
 
 -- The index has the order of each property of the row, and the orders rise. It may have other indicators.
 pub record IsRowIndex (x ks : Orders) : Type 0 where
-  pub finds : (k : ℕ) → k < length ks → order_in x (nth ks k).0 ≡ Some (nth ks k).1
+  pub finds : (k : ℕ) → k < length ks → order_in x (indexed_order ks k).0 ≡ Some (indexed_order ks k).1
   pub rising : HasRisingOrders ks
 
 -- the indexes of rows, by the numbers of their symbols

@@ -22,7 +22,7 @@ size_at sizes i j = lookup (is_at (nat_cmp (size_key i j))) sizes
 abbrev pub AreSizes : NumberedLists → Sizes → Type 0
 AreSizes m sizes = (i j n : ℕ) → j < 4294967296 → size_at sizes i j ≡ Some n → pair_size (value_in m i j) ≡ Some n
 
--- the same of all properties but one
+-- each size that is noted, but that of one property, is that of the list that is there
 abbrev pub AreOtherSizes : NumberedLists → ℕ → ℕ → Sizes → Type 0
 AreOtherSizes m x y sizes =
     (i j n : ℕ) → j < 4294967296 → eq_by_cmp nat_cmp (size_key x y) (size_key i j) ≡ false → size_at sizes i j ≡ Some n

@@ -2,7 +2,7 @@
 ghost use Rattle.std.specs.Prelude.{◌≡◌, ◌<◌, IfErr, IsFalse};
 ghost use Rattle.readtable_core.specs.Names.{is_dispatch_name};
 ghost use Rattle.package_table.specs.Table.{keyword};
-ghost use Rattle.plist_state.specs.Changes.{with_case, with_macro, with_dispatching, with_dispatch, with_syntax, with_copy, in_state, after_in_readtable, AnswersReadtables};
+ghost use Rattle.plist_state.specs.Changes.{with_case, with_macro, with_dispatching, with_dispatch, with_syntax, with_copy, state_with_readtables, after_in_readtable, AnswersReadtables};
 ghost use Rattle.plist_state.specs.Sound.{IsSymbol};
 
 use crate::copies::copy;
@@ -38,7 +38,7 @@ impl World {
     /// memory runs out. Nothing has changed then.
     pub fn set_case(&mut self, name: &[u8], letters: Case) -> Result<(), ReadtableError>
         ensures gives { AnswersReadtables (λ _. self.new.0) result
-            (in_state self.old.0 (with_case self.old.0.readtables name.now letters)) }
+            (state_with_readtables self.old.0 (with_case self.old.0.readtables name.now letters)) }
         ensures marked { self.new.1 ≡ self.old.1 }
         ensures unchanged { IfErr result (λ _. self.new ≡ self.old) }
     {
@@ -68,7 +68,7 @@ impl World {
         requires other { IsFalse (is_dispatch_name function) }
         requires keyword { IsSymbol self.old.0.packages (keyword, function) }
         ensures gives { AnswersReadtables (λ _. self.new.0) result
-            (in_state self.old.0 (with_macro self.old.0.readtables name.now c function non_terminating)) }
+            (state_with_readtables self.old.0 (with_macro self.old.0.readtables name.now c function non_terminating)) }
         ensures marked { self.new.1 ≡ self.old.1 }
         ensures unchanged { IfErr result (λ _. self.new ≡ self.old) }
     {
@@ -98,7 +98,7 @@ impl World {
     ) -> Result<(), ReadtableError>
         requires { c < 128 }
         ensures gives { AnswersReadtables (λ _. self.new.0) result
-            (in_state self.old.0 (with_dispatching self.old.0.readtables name.now c non_terminating)) }
+            (state_with_readtables self.old.0 (with_dispatching self.old.0.readtables name.now c non_terminating)) }
         ensures marked { self.new.1 ≡ self.old.1 }
         ensures unchanged { IfErr result (λ _. self.new ≡ self.old) }
     {
@@ -132,7 +132,7 @@ impl World {
         requires other { IsFalse (is_dispatch_name function) }
         requires keyword { IsSymbol self.old.0.packages (keyword, function) }
         ensures gives { AnswersReadtables (λ _. self.new.0) result
-            (in_state self.old.0 (with_dispatch self.old.0.readtables name.now c sub function)) }
+            (state_with_readtables self.old.0 (with_dispatch self.old.0.readtables name.now c sub function)) }
         ensures marked { self.new.1 ≡ self.old.1 }
         ensures unchanged { IfErr result (λ _. self.new ≡ self.old) }
     {
@@ -164,7 +164,7 @@ impl World {
         requires to { c < 128 }
         requires from { d < 128 }
         ensures gives { AnswersReadtables (λ _. self.new.0) result
-            (in_state self.old.0 (with_syntax self.old.0.readtables to.now c from.now d)) }
+            (state_with_readtables self.old.0 (with_syntax self.old.0.readtables to.now c from.now d)) }
         ensures marked { self.new.1 ≡ self.old.1 }
         ensures unchanged { IfErr result (λ _. self.new ≡ self.old) }
     {
@@ -188,7 +188,7 @@ impl World {
     pub fn copy_readtable(&mut self, from: &[u8], to: &[u8]) -> Result<(), ReadtableError>
         requires { IsSymbol self.old.0.packages (keyword, to.now) }
         ensures gives { AnswersReadtables (λ _. self.new.0) result
-            (in_state self.old.0 (with_copy self.old.0.readtables from.now to.now)) }
+            (state_with_readtables self.old.0 (with_copy self.old.0.readtables from.now to.now)) }
         ensures marked { self.new.1 ≡ self.old.1 }
         ensures unchanged { IfErr result (λ _. self.new ≡ self.old) }
     {

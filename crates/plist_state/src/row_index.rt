@@ -4,7 +4,7 @@ ghost use Rattle.std.specs.List.{position, insert};
 ghost use Rattle.std.specs.Ordering.{nat_cmp, eq_by_cmp};
 ghost use Rattle.property_rows.specs.declared.property.NumberedProperty.{NumberedProperty as Numbered};
 ghost use Rattle.plist_state.specs.Lists.{same_number};
-ghost use Rattle.plist_state.specs.RowIndexes.{Orders, orders, nth, order_in, HasRisingOrders, IsRowIndex, IsIndexedIn, KeepsOthers};
+ghost use Rattle.plist_state.specs.RowIndexes.{Orders, orders, indexed_order, order_in, HasRisingOrders, IsRowIndex, IsIndexedIn, KeepsOthers};
 
 use property_rows::{NumberedProperty, Row};
 use std::alloc::{AllocError, Global};
@@ -30,9 +30,9 @@ fn searched(row: &Row, indicator: u32) -> Option<usize>
 fn by_order(row: &Row, order: u64) -> Option<usize>
     requires { HasRisingOrders (orders row.now.items) }
     ensures found { IfSome result (λ k. (k < length row.now.items)
-        × ((nth (orders row.now.items) k).1 ≡ order)) }
+        × ((indexed_order (orders row.now.items) k).1 ≡ order)) }
     ensures absent { result ≡ None → (k : ℕ) → k < length row.now.items
-        → (nth (orders row.now.items) k).1 ≢ order }
+        → (indexed_order (orders row.now.items) k).1 ≢ order }
 {
     let mut first = 0;
     let mut end = row.len();
@@ -86,7 +86,7 @@ pub(crate) fn place(row: &Row, indexes: &Indexes, number: u32, indicator: u32) -
 // The order of a property that is new in a row.
 fn next_order(row: &Row) -> Result<u64, AllocError>
     ensures { IfOk result (λ next. HasRisingOrders (orders row.now.items)
-        → (k : ℕ) → k < length row.now.items → (nth (orders row.now.items) k).1 < next) }
+        → (k : ℕ) → k < length row.now.items → (indexed_order (orders row.now.items) k).1 < next) }
 {
     match row.last_order().checked_add(1) {
         Some(next) => Ok(next),
@@ -155,7 +155,7 @@ fn note_order(
     requires indexed { IsIndexedIn indexes.old.entries number row.now.items }
     requires new { position (λ p. same_number indicator p.indicator) row.now.items ≡ None }
     requires above { HasRisingOrders (orders row.now.items) → (k : ℕ) → k < length row.now.items
-        → (nth (orders row.now.items) k).1 < order }
+        → (indexed_order (orders row.now.items) k).1 < order }
     ensures indexed { IsIndexedIn indexes.new.entries number row.now.items }
     ensures next { OnOk result ((p : Numbered) → p.indicator ≡ indicator → p.order ≡ order
         → IsIndexedIn indexes.new.entries number (row.now.items ++ p ∷ [])) }
@@ -195,9 +195,9 @@ pub(crate) fn new_order(
 // Whether the orders rise where a property of this order comes to a place.
 fn is_between(row: &Row, place: usize, order: u64) -> bool
     requires { place ≤ length row.now.items }
-    ensures below { result ≡ true → 0 < place → (nth (orders row.now.items) (place - 1)).1 < order }
+    ensures below { result ≡ true → 0 < place → (indexed_order (orders row.now.items) (place - 1)).1 < order }
     ensures above { result ≡ true → place < length row.now.items
-        → order < (nth (orders row.now.items) place).1 }
+        → order < (indexed_order (orders row.now.items) place).1 }
 {
     if place > 0 && row.order(place - 1) >= order {
         return false;
@@ -218,9 +218,9 @@ fn fits(
     ensures new { result ≡ true
         → position (λ p. same_number property.now.indicator p.indicator) row.now.items ≡ None }
     ensures below { result ≡ true → 0 < index
-        → (nth (orders row.now.items) (index - 1)).1 < property.now.order }
+        → (indexed_order (orders row.now.items) (index - 1)).1 < property.now.order }
     ensures above { result ≡ true → index < length row.now.items
-        → property.now.order < (nth (orders row.now.items) index).1 }
+        → property.now.order < (indexed_order (orders row.now.items) index).1 }
 {
     if place(row, indexes, number, property.indicator).is_some() {
         return false;

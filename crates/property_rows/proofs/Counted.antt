@@ -15,12 +15,12 @@ use Rattle.std.proofs.Math.Seq.{take-append_seam, drop-append_seam, take-append-
 use Rattle.std.proofs.lemmas.List.{take-append-drop, length-append, length-take-le, length-drop, length_push, append_assoc}
 use Rattle.std.specs.List.{slice_index_or}
 use Rattle.property_rows.specs.declared.slot.Slot.{Slot}
-use Rattle.property_rows.specs.Slots.{is_gone, property_in, there, gone_in, slot_at, full, IsNode, AreSlotsCounted, IsTree, IsTreeSize, IsSlots}
+use Rattle.property_rows.specs.Slots.{is_gone, property_in, present_properties, gone_in, slot_at, whole_tree_length, IsNode, AreSlotsCounted, IsTree, IsTreeSize, IsSlots}
 
-pub there-append : (a b : List Slot) → there (a ++ b) ≡ there a ++ there b
+pub there-append : (a b : List Slot) → present_properties (a ++ b) ≡ present_properties a ++ present_properties b
 there-append [] b = refl
 there-append (s ∷ a) b =
-    elim (is_gone s) as (λ g. cond g (there (a ++ b)) (property_in s ∷ there (a ++ b)) ≡ cond g (there a) (property_in s ∷ there a) ++ there b) [
+    elim (is_gone s) as (λ g. cond g (present_properties (a ++ b)) (property_in s ∷ present_properties (a ++ b)) ≡ cond g (present_properties a) (property_in s ∷ present_properties a) ++ present_properties b) [
       | true ↦ there-append a b
       | false ↦ ap (λ ps. property_in s ∷ ps) (there-append a b)
     ]
@@ -29,27 +29,27 @@ pub gone-append : (a b : List Slot) → gone_in (a ++ b) ≡ gone_in a + gone_in
 gone-append [] b = omega arith
 gone-append (s ∷ a) b = let e = gone-append a b in omega (arith, e)
 
-pub there_and_gone : (slots : List Slot) → length (there slots) + gone_in slots ≡ length slots
+pub there_and_gone : (slots : List Slot) → length (present_properties slots) + gone_in slots ≡ length slots
 there_and_gone [] = refl
 there_and_gone (s ∷ ss) =
     let e = there_and_gone ss in
-    elim (is_gone s) as (λ g. is_gone s ≡ g → length (cond g (there ss) (property_in s ∷ there ss)) + (s.gone % 2 + gone_in ss) ≡ suc (length ss)) [
+    elim (is_gone s) as (λ g. is_gone s ≡ g → length (cond g (present_properties ss) (property_in s ∷ present_properties ss)) + (s.gone % 2 + gone_in ss) ≡ suc (length ss)) [
       | true ↦ λ t. grind (arith, nat_tests, t, e)
       | false ↦ λ t. grind (arith, nat_tests, t, e)
     ] refl
 
 -- ---- trees of another depth
-short_node : (d : ℕ) (before rest : List Slot) → ((slots : List Slot) → AreSlotsCounted d slots → length slots ≤ full d) → IsNode (AreSlotsCounted d) before rest → length rest ≤ suc (full d)
+short_node : (d : ℕ) (before rest : List Slot) → ((slots : List Slot) → AreSlotsCounted d slots → length slots ≤ whole_tree_length d) → IsNode (AreSlotsCounted d) before rest → length rest ≤ suc (whole_tree_length d)
 short_node d before [] short node = omega arith
 short_node d before (s ∷ ss) short node = let e = short ss node.1 in omega (arith, e)
 
-pub counted-short : (d : ℕ) (slots : List Slot) → AreSlotsCounted d slots → length slots ≤ full d
+pub counted-short : (d : ℕ) (slots : List Slot) → AreSlotsCounted d slots → length slots ≤ whole_tree_length d
 counted-short zero slots counted = let e = ap length counted in omega (arith, e)
 counted-short (suc d) slots counted =
-    let front = counted-short d (take (full d) slots) counted.0 in
-    let back = short_node d (take (full d) slots) (drop (full d) slots) (counted-short d) counted.1 in
-    let long = ap length (take-append-drop (full d) slots) in
-    let both = length-append (take (full d) slots) (drop (full d) slots) in
+    let front = counted-short d (take (whole_tree_length d) slots) counted.0 in
+    let back = short_node d (take (whole_tree_length d) slots) (drop (whole_tree_length d) slots) (counted-short d) counted.1 in
+    let long = ap length (take-append-drop (whole_tree_length d) slots) in
+    let both = length-append (take (whole_tree_length d) slots) (drop (whole_tree_length d) slots) in
     omega (arith, front, back, long, both)
 
 -- all of a short list
@@ -59,44 +59,44 @@ take_all zero (s ∷ ss) le = absurd (omega (arith, le))
 take_all (suc n) [] le = refl
 take_all (suc n) (s ∷ ss) le = ap (λ ts. s ∷ ts) (take_all n ss (omega (arith, le)))
 
-pub counted-lower : (d : ℕ) (slots : List Slot) → length slots ≤ full d → AreSlotsCounted (suc d) slots → AreSlotsCounted d slots
-counted-lower d slots le counted = subst (AreSlotsCounted d) (take_all (full d) slots le) counted.0
+pub counted-lower : (d : ℕ) (slots : List Slot) → length slots ≤ whole_tree_length d → AreSlotsCounted (suc d) slots → AreSlotsCounted d slots
+counted-lower d slots le counted = subst (AreSlotsCounted d) (take_all (whole_tree_length d) slots le) counted.0
 
 pub counted-higher : (d : ℕ) (slots : List Slot) → AreSlotsCounted d slots → AreSlotsCounted (suc d) slots
 counted-higher d slots counted =
     let le = counted-short d slots counted in (
-      subst (AreSlotsCounted d) (sym (take_all (full d) slots le)) counted,
-      subst (IsNode (AreSlotsCounted d) (take (full d) slots)) (sym (drop_of_length-le slots le)) tt,
+      subst (AreSlotsCounted d) (sym (take_all (whole_tree_length d) slots le)) counted,
+      subst (IsNode (AreSlotsCounted d) (take (whole_tree_length d) slots)) (sym (drop_of_length-le slots le)) tt,
     )
 
 -- ---- a slot, and the trees beside it
-pub node : (d : ℕ) (l : List Slot) (s : Slot) (r : List Slot) → length l ≡ full d → AreSlotsCounted (suc d) (l ++ s ∷ r)
+pub node : (d : ℕ) (l : List Slot) (s : Slot) (r : List Slot) → length l ≡ whole_tree_length d → AreSlotsCounted (suc d) (l ++ s ∷ r)
     → AreSlotsCounted d l × (s.gone / 2 ≡ gone_in l) × AreSlotsCounted d r
 node d l s r long counted =
-    let front : take (full d) (l ++ s ∷ r) ≡ l = subst (λ n. take n (l ++ s ∷ r) ≡ l) long (take-append_seam l (s ∷ r)) in
-    let back : drop (full d) (l ++ s ∷ r) ≡ s ∷ r = subst (λ n. drop n (l ++ s ∷ r) ≡ s ∷ r) long (drop-append_seam l (s ∷ r)) in
+    let front : take (whole_tree_length d) (l ++ s ∷ r) ≡ l = subst (λ n. take n (l ++ s ∷ r) ≡ l) long (take-append_seam l (s ∷ r)) in
+    let back : drop (whole_tree_length d) (l ++ s ∷ r) ≡ s ∷ r = subst (λ n. drop n (l ++ s ∷ r) ≡ s ∷ r) long (drop-append_seam l (s ∷ r)) in
     let here : (s.gone / 2 ≡ gone_in l) × AreSlotsCounted d r = subst (λ (ts : List Slot × List Slot). IsNode (AreSlotsCounted d) ts.0 ts.1) (λ i. (front i, back i)) counted.1 in
     (subst (AreSlotsCounted d) front counted.0, here.0, here.1)
 
-pub node-back : (d : ℕ) (l : List Slot) (s : Slot) (r : List Slot) → length l ≡ full d → AreSlotsCounted d l → s.gone / 2 ≡ gone_in l → AreSlotsCounted d r
+pub node-back : (d : ℕ) (l : List Slot) (s : Slot) (r : List Slot) → length l ≡ whole_tree_length d → AreSlotsCounted d l → s.gone / 2 ≡ gone_in l → AreSlotsCounted d r
     → AreSlotsCounted (suc d) (l ++ s ∷ r)
 node-back d l s r long before count after =
-    let front : take (full d) (l ++ s ∷ r) ≡ l = subst (λ n. take n (l ++ s ∷ r) ≡ l) long (take-append_seam l (s ∷ r)) in
-    let back : drop (full d) (l ++ s ∷ r) ≡ s ∷ r = subst (λ n. drop n (l ++ s ∷ r) ≡ s ∷ r) long (drop-append_seam l (s ∷ r)) in (
+    let front : take (whole_tree_length d) (l ++ s ∷ r) ≡ l = subst (λ n. take n (l ++ s ∷ r) ≡ l) long (take-append_seam l (s ∷ r)) in
+    let back : drop (whole_tree_length d) (l ++ s ∷ r) ≡ s ∷ r = subst (λ n. drop n (l ++ s ∷ r) ≡ s ∷ r) long (drop-append_seam l (s ∷ r)) in (
       subst (AreSlotsCounted d) (sym front) before,
       subst (λ (ts : List Slot × List Slot). IsNode (AreSlotsCounted d) ts.0 ts.1) (λ i. (sym front i, sym back i)) (count, after),
     )
 
 -- ---- where a property is
-pub slot_at-front : (a b : List Slot) (i : ℕ) → suc i ≤ length (there a) → slot_at (a ++ b) i ≡ slot_at a i
+pub slot_at-front : (a b : List Slot) (i : ℕ) → suc i ≤ length (present_properties a) → slot_at (a ++ b) i ≡ slot_at a i
 slot_at-front [] b i le = absurd (omega (arith, le))
 slot_at-front (s ∷ a) b zero le =
-    elim (is_gone s) as (λ g. suc zero ≤ length (cond g (there a) (property_in s ∷ there a)) → cond g (suc (slot_at (a ++ b) zero)) 0 ≡ cond g (suc (slot_at a zero)) 0) [
+    elim (is_gone s) as (λ g. suc zero ≤ length (cond g (present_properties a) (property_in s ∷ present_properties a)) → cond g (suc (slot_at (a ++ b) zero)) 0 ≡ cond g (suc (slot_at a zero)) 0) [
       | true ↦ λ le. ap suc (slot_at-front a b zero le)
       | false ↦ λ le. refl
     ] le
 slot_at-front (s ∷ a) b (suc i) le =
-    elim (is_gone s) as (λ g. suc (suc i) ≤ length (cond g (there a) (property_in s ∷ there a)) → suc (slot_at (a ++ b) (cond g (suc i) i)) ≡ suc (slot_at a (cond g (suc i) i))) [
+    elim (is_gone s) as (λ g. suc (suc i) ≤ length (cond g (present_properties a) (property_in s ∷ present_properties a)) → suc (slot_at (a ++ b) (cond g (suc i) i)) ≡ suc (slot_at a (cond g (suc i) i))) [
       | true ↦ λ le. ap suc (slot_at-front a b (suc i) le)
       | false ↦ λ le. ap suc (slot_at-front a b i (omega (arith, le)))
     ] le
@@ -114,10 +114,10 @@ pub record Parts (size : ℕ) (slots : List Slot) (s : Slot) (after : List Slot)
   pub later : IsTree size after
   pub whole : take size slots ++ s ∷ after ≡ slots
 
-parts_of : (d size : ℕ) (slots : List Slot) (s : Slot) (after : List Slot) → size ≡ full d → suc size ≤ length slots → take size slots ++ s ∷ after ≡ slots → AreSlotsCounted (suc d) slots
+parts_of : (d size : ℕ) (slots : List Slot) (s : Slot) (after : List Slot) → size ≡ whole_tree_length d → suc size ≤ length slots → take size slots ++ s ∷ after ≡ slots → AreSlotsCounted (suc d) slots
     → Parts size slots s after
 parts_of d size slots s after is le whole counted =
-    let long : length (take size slots) ≡ full d = length-take-le size slots (omega (arith, le)) ∙ is in
+    let long : length (take size slots) ≡ whole_tree_length d = length-take-le size slots (omega (arith, le)) ∙ is in
     let at = node d (take size slots) s after long (subst (AreSlotsCounted (suc d)) (sym whole) counted) in
     record {
       before = record { depth = d; whole = is; counted = at.0 };
@@ -129,7 +129,7 @@ parts_of d size slots s after is le whole counted =
 pub parts : (size : ℕ) (slots : List Slot) (s : Slot) (after : List Slot) → (size ≡ 0 → ⊥) → suc (size / 2) ≤ length slots → take (size / 2) slots ++ s ∷ after ≡ slots → IsTree size slots
     → Parts (size / 2) slots s after
 parts size slots s after some le whole tree =
-    elim tree.depth as (λ d. size ≡ full d → AreSlotsCounted d slots → Parts (size / 2) slots s after) [
+    elim tree.depth as (λ d. size ≡ whole_tree_length d → AreSlotsCounted d slots → Parts (size / 2) slots s after) [
       | zero ↦ λ is counted. absurd (some is)
       | suc d ↦ λ is counted. parts_of d (size / 2) slots s after (omega (arith, is)) le whole counted
     ] tree.whole tree.counted
@@ -163,17 +163,17 @@ gone_fits size slots tree =
     omega (arith, long, gone, is)
 
 -- ---- where a property is, past some slots
-slot_at-past : (a b : List Slot) (i j : ℕ) → j ≡ length (there a) + i → slot_at (a ++ b) j ≡ length a + slot_at b i
+slot_at-past : (a b : List Slot) (i j : ℕ) → j ≡ length (present_properties a) + i → slot_at (a ++ b) j ≡ length a + slot_at b i
 slot_at-past [] b i j e =
     let same : j ≡ i = omega (arith, e) in
     ap (slot_at b) same ∙ (let none : slot_at b i ≡ 0 + slot_at b i = omega arith in none)
 slot_at-past (s ∷ a) b i zero e =
-    elim (is_gone s) as (λ g. 0 ≡ length (cond g (there a) (property_in s ∷ there a)) + i → cond g (suc (slot_at (a ++ b) zero)) 0 ≡ suc (length a) + slot_at b i) [
+    elim (is_gone s) as (λ g. 0 ≡ length (cond g (present_properties a) (property_in s ∷ present_properties a)) + i → cond g (suc (slot_at (a ++ b) zero)) 0 ≡ suc (length a) + slot_at b i) [
       | true ↦ λ e. let h = slot_at-past a b i zero e in omega (arith, h)
       | false ↦ λ e. absurd (omega (arith, e))
     ] e
 slot_at-past (s ∷ a) b i (suc j) e =
-    elim (is_gone s) as (λ g. suc j ≡ length (cond g (there a) (property_in s ∷ there a)) + i → suc (slot_at (a ++ b) (cond g (suc j) j)) ≡ suc (length a) + slot_at b i) [
+    elim (is_gone s) as (λ g. suc j ≡ length (cond g (present_properties a) (property_in s ∷ present_properties a)) + i → suc (slot_at (a ++ b) (cond g (suc j) j)) ≡ suc (length a) + slot_at b i) [
       | true ↦ λ e. let h = slot_at-past a b i (suc j) e in omega (arith, h)
       | false ↦ λ e. let h = slot_at-past a b i j (omega (arith, e)) in omega (arith, h)
     ] e
@@ -194,7 +194,7 @@ module _ (size : ℕ) (slots : List Slot) (s : Slot) (after : List Slot) (p : Pa
   pub half_gone : s.gone / 2 ≤ size
   half_gone = let a = gone_fits size (take size slots) p.before in let b = p.count in omega (arith, a, b)
 
-  before_is : length (there (take size slots)) + s.gone / 2 ≡ size
+  before_is : length (present_properties (take size slots)) + s.gone / 2 ≡ size
   before_is = let a = there_and_gone (take size slots) in let b = p.count in let c = front_long in omega (arith, a, b, c)
 
   pub in_front : (i : ℕ) → i < size - s.gone / 2 → slot_at (take size slots) i ≡ slot_at slots i
@@ -257,7 +257,7 @@ raise_is : (k d : ℕ) → raise k d ≡ k + d
 raise_is zero d = omega arith
 raise_is (suc k) d = let e = raise_is k d in omega (arith, e)
 
-full_grows : (k d : ℕ) → full d ≤ full (raise k d)
+full_grows : (k d : ℕ) → whole_tree_length d ≤ whole_tree_length (raise k d)
 full_grows zero d = omega arith
 full_grows (suc k) d = let e = full_grows k d in omega (arith, e)
 
@@ -265,13 +265,13 @@ higher : (k d : ℕ) (slots : List Slot) → AreSlotsCounted d slots → AreSlot
 higher zero d slots counted = counted
 higher (suc k) d slots counted = counted-higher (raise k d) slots (higher k d slots counted)
 
-lower : (k d : ℕ) (slots : List Slot) → length slots ≤ full d → AreSlotsCounted (raise k d) slots → AreSlotsCounted d slots
+lower : (k d : ℕ) (slots : List Slot) → length slots ≤ whole_tree_length d → AreSlotsCounted (raise k d) slots → AreSlotsCounted d slots
 lower zero d slots le counted = counted
 lower (suc k) d slots le counted =
     let more = full_grows k d in
     lower k d slots le (counted-lower (raise k d) slots (omega (arith, le, more)) counted)
 
-pub counted-any : (d e : ℕ) (slots : List Slot) → length slots ≤ full e → AreSlotsCounted d slots → AreSlotsCounted e slots
+pub counted-any : (d e : ℕ) (slots : List Slot) → length slots ≤ whole_tree_length e → AreSlotsCounted d slots → AreSlotsCounted e slots
 counted-any d e slots le counted =
     let one = raise_is e d in
     let two = raise_is d e in
@@ -288,7 +288,7 @@ tree-whole size slots tree = record { depth = tree.depth; whole = tree.whole }
 
 pub whole-half : (size : ℕ) → (size ≡ 0 → ⊥) → IsTreeSize size → IsTreeSize (size / 2)
 whole-half size some whole =
-    elim whole.depth as (λ d. size ≡ full d → IsTreeSize (size / 2)) [
+    elim whole.depth as (λ d. size ≡ whole_tree_length d → IsTreeSize (size / 2)) [
       | zero ↦ λ is. absurd (some is)
       | suc d ↦ λ is. record { depth = d; whole = omega (arith, is) }
     ] whole.whole
@@ -300,10 +300,10 @@ tree-half size slots some le tree = tree-any size (size / 2) slots (whole-half s
 pub tree-join : (size : ℕ) (l : List Slot) (s : Slot) (r : List Slot) → (size ≡ 0 → ⊥) → IsTreeSize size → length l ≡ size / 2 → IsTree (size / 2) l → s.gone / 2 ≡ gone_in l → IsTree (size / 2) r
     → IsTree size (l ++ s ∷ r)
 tree-join size l s r some whole long before count after =
-    elim whole.depth as (λ d. size ≡ full d → IsTree size (l ++ s ∷ r)) [
+    elim whole.depth as (λ d. size ≡ whole_tree_length d → IsTree size (l ++ s ∷ r)) [
       | zero ↦ λ is. absurd (some is)
       | suc d ↦ λ is.
-          let half : size / 2 ≡ full d = omega (arith, is) in
+          let half : size / 2 ≡ whole_tree_length d = omega (arith, is) in
           let short = tree_fits (size / 2) r after in
           record {
             depth = suc d;
@@ -342,7 +342,7 @@ pub after_long : (k : ℕ) (slots : List Slot) → length (take (length slots - 
 after_long k slots = ap length (after_is k slots) ∙ length-drop (suc k) slots
 
 -- ---- how many are gone before a place
-pub gone_under : (slots : List Slot) (k : ℕ) → k ≤ length slots → length (there (take k slots)) + gone_in (take k slots) ≡ k
+pub gone_under : (slots : List Slot) (k : ℕ) → k ≤ length slots → length (present_properties (take k slots)) + gone_in (take k slots) ≡ k
 gone_under slots k le = there_and_gone (take k slots) ∙ length-take-le k slots le
 
 pub place_behind : (size : ℕ) (slots : List Slot) (s : Slot) (after : List Slot) → Parts size slots s after → size < length slots → (k j : ℕ) → k ≡ size + suc j
@@ -385,13 +385,13 @@ counted-front : (d : ℕ) (a b : List Slot) → AreSlotsCounted d (a ++ b) → A
 counted-front zero [] b counted = refl
 counted-front zero (s ∷ a) b counted = absurd (let e = ap length counted in omega (arith, e))
 counted-front (suc d) a b counted =
-    let c = cut (full d) a b in (
-      counted-front d (take (full d) a) c.more (subst (AreSlotsCounted d) c.take_is counted.0),
-      node_front d (take (full d) a) c.more (drop (full d) a) c.rest (counted-front d) c.none
+    let c = cut (whole_tree_length d) a b in (
+      counted-front d (take (whole_tree_length d) a) c.more (subst (AreSlotsCounted d) c.take_is counted.0),
+      node_front d (take (whole_tree_length d) a) c.more (drop (whole_tree_length d) a) c.rest (counted-front d) c.none
           (subst (λ (ts : List Slot × List Slot). IsNode (AreSlotsCounted d) ts.0 ts.1) (λ i. (c.take_is i, c.drop_is i)) counted.1),
     )
 
-full_over : (d : ℕ) → d ≤ full d
+full_over : (d : ℕ) → d ≤ whole_tree_length d
 full_over zero = omega arith
 full_over (suc d) = let e = full_over d in omega (arith, e)
 

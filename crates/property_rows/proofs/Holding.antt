@@ -6,76 +6,76 @@ use Rattle.std.proofs.Common.{◌≡◌, ℕ, zero, suc, ◌<◌, true, false, c
 use Rattle.std.specs.List.{insert, remove}
 use Rattle.property_rows.specs.declared.slot.Slot.{Slot}
 use Rattle.property_rows.specs.declared.property.NumberedProperty.{NumberedProperty}
-use Rattle.property_rows.specs.Slots.{is_gone, property_in, there, slot_at, slot_shown, blank, no_property}
+use Rattle.property_rows.specs.Slots.{is_gone, property_in, present_properties, slot_at, slot_shown, blank, no_property}
 use Rattle.std.proofs.lemmas.List.{length-map}
 use Rattle.property_rows.proofs.Turned.{Shown, there_of, there_shown, shown_at}
 
-pub slot_at-within : (slots : List Slot) (i : ℕ) → i < length (there slots) → slot_at slots i < length slots
+pub slot_at-within : (slots : List Slot) (i : ℕ) → i < length (present_properties slots) → slot_at slots i < length slots
 slot_at-within [] i le = absurd (omega (arith, le))
 slot_at-within (s ∷ ss) zero le =
-    elim (is_gone s) as (λ g. zero < length (cond g (there ss) (property_in s ∷ there ss)) → cond g (suc (slot_at ss zero)) 0 < suc (length ss)) [
+    elim (is_gone s) as (λ g. zero < length (cond g (present_properties ss) (property_in s ∷ present_properties ss)) → cond g (suc (slot_at ss zero)) 0 < suc (length ss)) [
       | true ↦ λ le. let h = slot_at-within ss zero le in omega (arith, h)
       | false ↦ λ le. omega arith
     ] le
 slot_at-within (s ∷ ss) (suc i) le =
-    elim (is_gone s) as (λ g. suc i < length (cond g (there ss) (property_in s ∷ there ss)) → suc (slot_at ss (cond g (suc i) i)) < suc (length ss)) [
+    elim (is_gone s) as (λ g. suc i < length (cond g (present_properties ss) (property_in s ∷ present_properties ss)) → suc (slot_at ss (cond g (suc i) i)) < suc (length ss)) [
       | true ↦ λ le. let h = slot_at-within ss (suc i) le in omega (arith, h)
       | false ↦ λ le. let h = slot_at-within ss i (omega (arith, le)) in omega (arith, h)
     ] le
 
-pub slot_at-shown : (slots : List Slot) (i : ℕ) → i < length (there slots) → slot_shown (get_or slots (slot_at slots i) blank) ≡ (false, get_or (there slots) i no_property)
+pub slot_at-shown : (slots : List Slot) (i : ℕ) → i < length (present_properties slots) → slot_shown (get_or slots (slot_at slots i) blank) ≡ (false, get_or (present_properties slots) i no_property)
 slot_at-shown [] i le = absurd (omega (arith, le))
 slot_at-shown (s ∷ ss) zero le =
-    elim (is_gone s) as (λ g. is_gone s ≡ g → zero < length (cond g (there ss) (property_in s ∷ there ss))
-    → slot_shown (get_or (s ∷ ss) (cond g (suc (slot_at ss zero)) 0) blank) ≡ (false, get_or (cond g (there ss) (property_in s ∷ there ss)) zero no_property)) [
+    elim (is_gone s) as (λ g. is_gone s ≡ g → zero < length (cond g (present_properties ss) (property_in s ∷ present_properties ss))
+    → slot_shown (get_or (s ∷ ss) (cond g (suc (slot_at ss zero)) 0) blank) ≡ (false, get_or (cond g (present_properties ss) (property_in s ∷ present_properties ss)) zero no_property)) [
       | true ↦ λ t le. slot_at-shown ss zero le
       | false ↦ λ t le. ap (λ b. (b, property_in s)) t
     ] refl le
 slot_at-shown (s ∷ ss) (suc i) le =
-    elim (is_gone s) as (λ g. suc i < length (cond g (there ss) (property_in s ∷ there ss))
-    → slot_shown (get_or ss (slot_at ss (cond g (suc i) i)) blank) ≡ (false, get_or (cond g (there ss) (property_in s ∷ there ss)) (suc i) no_property)) [
+    elim (is_gone s) as (λ g. suc i < length (cond g (present_properties ss) (property_in s ∷ present_properties ss))
+    → slot_shown (get_or ss (slot_at ss (cond g (suc i) i)) blank) ≡ (false, get_or (cond g (present_properties ss) (property_in s ∷ present_properties ss)) (suc i) no_property)) [
       | true ↦ λ le. slot_at-shown ss (suc i) le
       | false ↦ λ le. slot_at-shown ss i (omega (arith, le))
     ] le
 
-pub removed : (slots : List Slot) (i : ℕ) (q : NumberedProperty) → i < length (there slots) → there_of (set (map slot_shown slots) (slot_at slots i) (true, q)) ≡ remove (there slots) i
+pub removed : (slots : List Slot) (i : ℕ) (q : NumberedProperty) → i < length (present_properties slots) → there_of (set (map slot_shown slots) (slot_at slots i) (true, q)) ≡ remove (present_properties slots) i
 removed [] i q le = absurd (omega (arith, le))
 removed (s ∷ ss) zero q le =
-    elim (is_gone s) as (λ g. zero < length (cond g (there ss) (property_in s ∷ there ss))
-    → there_of (set ((g, property_in s) ∷ map slot_shown ss) (cond g (suc (slot_at ss zero)) 0) (true, q)) ≡ remove (cond g (there ss) (property_in s ∷ there ss)) zero) [
+    elim (is_gone s) as (λ g. zero < length (cond g (present_properties ss) (property_in s ∷ present_properties ss))
+    → there_of (set ((g, property_in s) ∷ map slot_shown ss) (cond g (suc (slot_at ss zero)) 0) (true, q)) ≡ remove (cond g (present_properties ss) (property_in s ∷ present_properties ss)) zero) [
       | true ↦ λ le. removed ss zero q le
       | false ↦ λ le. sym (there_shown ss)
     ] le
 removed (s ∷ ss) (suc i) q le =
-    elim (is_gone s) as (λ g. suc i < length (cond g (there ss) (property_in s ∷ there ss))
-    → there_of ((g, property_in s) ∷ set (map slot_shown ss) (slot_at ss (cond g (suc i) i)) (true, q)) ≡ remove (cond g (there ss) (property_in s ∷ there ss)) (suc i)) [
+    elim (is_gone s) as (λ g. suc i < length (cond g (present_properties ss) (property_in s ∷ present_properties ss))
+    → there_of ((g, property_in s) ∷ set (map slot_shown ss) (slot_at ss (cond g (suc i) i)) (true, q)) ≡ remove (cond g (present_properties ss) (property_in s ∷ present_properties ss)) (suc i)) [
       | true ↦ λ le. removed ss (suc i) q le
       | false ↦ λ le. ap (λ ps. property_in s ∷ ps) (removed ss i q (omega (arith, le)))
     ] le
 
-pub replaced : (slots : List Slot) (i : ℕ) (q : NumberedProperty) → i < length (there slots) → there_of (set (map slot_shown slots) (slot_at slots i) (false, q)) ≡ set (there slots) i q
+pub replaced : (slots : List Slot) (i : ℕ) (q : NumberedProperty) → i < length (present_properties slots) → there_of (set (map slot_shown slots) (slot_at slots i) (false, q)) ≡ set (present_properties slots) i q
 replaced [] i q le = absurd (omega (arith, le))
 replaced (s ∷ ss) zero q le =
-    elim (is_gone s) as (λ g. zero < length (cond g (there ss) (property_in s ∷ there ss))
-    → there_of (set ((g, property_in s) ∷ map slot_shown ss) (cond g (suc (slot_at ss zero)) 0) (false, q)) ≡ set (cond g (there ss) (property_in s ∷ there ss)) zero q) [
+    elim (is_gone s) as (λ g. zero < length (cond g (present_properties ss) (property_in s ∷ present_properties ss))
+    → there_of (set ((g, property_in s) ∷ map slot_shown ss) (cond g (suc (slot_at ss zero)) 0) (false, q)) ≡ set (cond g (present_properties ss) (property_in s ∷ present_properties ss)) zero q) [
       | true ↦ λ le. replaced ss zero q le
       | false ↦ λ le. ap (λ ps. q ∷ ps) (sym (there_shown ss))
     ] le
 replaced (s ∷ ss) (suc i) q le =
-    elim (is_gone s) as (λ g. suc i < length (cond g (there ss) (property_in s ∷ there ss))
-    → there_of ((g, property_in s) ∷ set (map slot_shown ss) (slot_at ss (cond g (suc i) i)) (false, q)) ≡ set (cond g (there ss) (property_in s ∷ there ss)) (suc i) q) [
+    elim (is_gone s) as (λ g. suc i < length (cond g (present_properties ss) (property_in s ∷ present_properties ss))
+    → there_of ((g, property_in s) ∷ set (map slot_shown ss) (slot_at ss (cond g (suc i) i)) (false, q)) ≡ set (cond g (present_properties ss) (property_in s ∷ present_properties ss)) (suc i) q) [
       | true ↦ λ le. replaced ss (suc i) q le
       | false ↦ λ le. ap (λ ps. property_in s ∷ ps) (replaced ss i q (omega (arith, le)))
     ] le
 
 -- a slot that is gone
 pub inserted : (slots : List Slot) (j : ℕ) (q : NumberedProperty) → j < length slots → is_gone (get_or slots j blank) ≡ true
-    → there_of (set (map slot_shown slots) j (false, q)) ≡ insert (there slots) (length (there (take j slots))) q
+    → there_of (set (map slot_shown slots) j (false, q)) ≡ insert (present_properties slots) (length (present_properties (take j slots))) q
 inserted [] j q le gone = absurd (omega (arith, le))
-inserted (s ∷ ss) zero q le gone = ap (λ ps. q ∷ ps) (sym (ap (λ g. cond g (there ss) (property_in s ∷ there ss)) gone ∙ there_shown ss))
+inserted (s ∷ ss) zero q le gone = ap (λ ps. q ∷ ps) (sym (ap (λ g. cond g (present_properties ss) (property_in s ∷ present_properties ss)) gone ∙ there_shown ss))
 inserted (s ∷ ss) (suc j) q le gone =
     elim (is_gone s) as (λ g. there_of ((g, property_in s) ∷ set (map slot_shown ss) j (false, q))
-    ≡ insert (cond g (there ss) (property_in s ∷ there ss)) (length (cond g (there (take j ss)) (property_in s ∷ there (take j ss)))) q) [
+    ≡ insert (cond g (present_properties ss) (property_in s ∷ present_properties ss)) (length (cond g (present_properties (take j ss)) (property_in s ∷ present_properties (take j ss)))) q) [
       | true ↦ inserted ss j q (omega (arith, le)) gone
       | false ↦ ap (λ ps. property_in s ∷ ps) (inserted ss j q (omega (arith, le)) gone)
     ]

@@ -13,21 +13,21 @@ use Rattle.std.proofs.lemmas.Iterator.Adapters.{position_from-zero}
 use Rattle.std.proofs.lemmas.List.{length-map, length-take, length-drop, length-append}
 use Rattle.property_rows.specs.declared.slot.Slot.{Slot}
 use Rattle.property_rows.specs.declared.property.NumberedProperty.{NumberedProperty}
-use Rattle.property_rows.specs.Slots.{is_gone, property_in, there, gone_in, full, most_slots, IsNode, AreSlotsCounted, IsTree, IsTreeSize, IsSlots, uncounted_slot, slots_there, has, no_property}
+use Rattle.property_rows.specs.Slots.{is_gone, property_in, present_properties, gone_in, whole_tree_length, most_slots, IsNode, AreSlotsCounted, IsTree, IsTreeSize, IsSlots, uncounted_slot, slots_there, has, no_property}
 use Rattle.property_rows.proofs.Counted.{counted-any}
 
-pub packed-there : (slots : List Slot) → there (slots_there slots) ≡ there slots
+pub packed-there : (slots : List Slot) → present_properties (slots_there slots) ≡ present_properties slots
 packed-there [] = refl
 packed-there (s ∷ ss) =
-    elim (is_gone s) as (λ g. there (map uncounted_slot (cond (not g) (s ∷ filter (λ s. not (is_gone s)) ss) (filter (λ s. not (is_gone s)) ss))) ≡ cond g (there ss) (property_in s ∷ there ss)) [
+    elim (is_gone s) as (λ g. present_properties (map uncounted_slot (cond (not g) (s ∷ filter (λ s. not (is_gone s)) ss) (filter (λ s. not (is_gone s)) ss))) ≡ cond g (present_properties ss) (property_in s ∷ present_properties ss)) [
       | true ↦ packed-there ss
       | false ↦ ap (λ ps. property_in s ∷ ps) (packed-there ss)
     ]
 
-pub packed-long : (slots : List Slot) → length (slots_there slots) ≡ length (there slots)
+pub packed-long : (slots : List Slot) → length (slots_there slots) ≡ length (present_properties slots)
 packed-long [] = refl
 packed-long (s ∷ ss) =
-    elim (is_gone s) as (λ g. length (map uncounted_slot (cond (not g) (s ∷ filter (λ s. not (is_gone s)) ss) (filter (λ s. not (is_gone s)) ss))) ≡ length (cond g (there ss) (property_in s ∷ there ss))) [
+    elim (is_gone s) as (λ g. length (map uncounted_slot (cond (not g) (s ∷ filter (λ s. not (is_gone s)) ss) (filter (λ s. not (is_gone s)) ss))) ≡ length (cond g (present_properties ss) (property_in s ∷ present_properties ss))) [
       | true ↦ packed-long ss
       | false ↦ ap suc (packed-long ss)
     ]
@@ -36,7 +36,7 @@ pub uncounted-none : (slots : List Slot) → gone_in (map uncounted_slot slots) 
 uncounted-none [] = refl
 uncounted-none (s ∷ ss) = let e = uncounted-none ss in omega (arith, e)
 
-pub uncounted-there : (slots : List Slot) → there (map uncounted_slot slots) ≡ map property_in slots
+pub uncounted-there : (slots : List Slot) → present_properties (map uncounted_slot slots) ≡ map property_in slots
 uncounted-there [] = refl
 uncounted-there (s ∷ ss) = ap (λ ps. property_in s ∷ ps) (uncounted-there ss)
 
@@ -50,21 +50,21 @@ drop-uncounted zero slots = refl
 drop-uncounted (suc n) [] = refl
 drop-uncounted (suc n) (s ∷ ss) = drop-uncounted n ss
 
-uncounted_node : (d : ℕ) (before rest : List Slot) → ((slots : List Slot) → length slots ≤ full d → AreSlotsCounted d (map uncounted_slot slots)) → gone_in before ≡ 0 → length rest ≤ suc (full d)
+uncounted_node : (d : ℕ) (before rest : List Slot) → ((slots : List Slot) → length slots ≤ whole_tree_length d → AreSlotsCounted d (map uncounted_slot slots)) → gone_in before ≡ 0 → length rest ≤ suc (whole_tree_length d)
     → IsNode (AreSlotsCounted d) before (map uncounted_slot rest)
 uncounted_node d before [] each none le = tt
 uncounted_node d before (s ∷ ss) each none le = (sym none, each ss (omega (arith, le)))
 
-pub uncounted-counted : (d : ℕ) (slots : List Slot) → length slots ≤ full d → AreSlotsCounted d (map uncounted_slot slots)
+pub uncounted-counted : (d : ℕ) (slots : List Slot) → length slots ≤ whole_tree_length d → AreSlotsCounted d (map uncounted_slot slots)
 uncounted-counted zero [] le = refl
 uncounted-counted zero (s ∷ ss) le = absurd (omega (arith, le))
 uncounted-counted (suc d) slots le =
-    let front = length-take (full d) slots in
-    let back = length-drop (full d) slots in
-    let none : gone_in (take (full d) (map uncounted_slot slots)) ≡ 0 = ap gone_in (sym (take-uncounted (full d) slots)) ∙ uncounted-none (take (full d) slots) in (
-      subst (AreSlotsCounted d) (take-uncounted (full d) slots) (uncounted-counted d (take (full d) slots) (grind (arith, front))),
-      subst (IsNode (AreSlotsCounted d) (take (full d) (map uncounted_slot slots))) (drop-uncounted (full d) slots)
-          (uncounted_node d (take (full d) (map uncounted_slot slots)) (drop (full d) slots) (uncounted-counted d) none (omega (arith, back, le))),
+    let front = length-take (whole_tree_length d) slots in
+    let back = length-drop (whole_tree_length d) slots in
+    let none : gone_in (take (whole_tree_length d) (map uncounted_slot slots)) ≡ 0 = ap gone_in (sym (take-uncounted (whole_tree_length d) slots)) ∙ uncounted-none (take (whole_tree_length d) slots) in (
+      subst (AreSlotsCounted d) (take-uncounted (whole_tree_length d) slots) (uncounted-counted d (take (whole_tree_length d) slots) (grind (arith, front))),
+      subst (IsNode (AreSlotsCounted d) (take (whole_tree_length d) (map uncounted_slot slots))) (drop-uncounted (whole_tree_length d) slots)
+          (uncounted_node d (take (whole_tree_length d) (map uncounted_slot slots)) (drop (whole_tree_length d) slots) (uncounted-counted d) none (omega (arith, back, le))),
     )
 
 pub uncounted-slots : (slots : List Slot) → length slots ≤ most_slots → IsSlots (map uncounted_slot slots)
@@ -120,10 +120,10 @@ pub counted-same : (d : ℕ) (a b : List Slot) → counts a ≡ counts b → Are
 counted-same zero a [] e counted = refl
 counted-same zero a (t ∷ ts) e counted = absurd (let l : length (counts []) ≡ length (counts (t ∷ ts)) = ap (λ ss. length (counts ss)) (sym counted) ∙ ap length e in omega (arith, l))
 counted-same (suc d) a b e counted =
-    let front : counts (take (full d) a) ≡ counts (take (full d) b) = counts-take (full d) a ∙ ap (take (full d)) e ∙ sym (counts-take (full d) b) in
-    let back : counts (drop (full d) a) ≡ counts (drop (full d) b) = counts-drop (full d) a ∙ ap (drop (full d)) e ∙ sym (counts-drop (full d) b) in (
-      counted-same d (take (full d) a) (take (full d) b) front counted.0,
-      node-same d (take (full d) a) (take (full d) b) (drop (full d) a) (drop (full d) b) (gone-same (take (full d) a) (take (full d) b) front) back (counted-same d) counted.1,
+    let front : counts (take (whole_tree_length d) a) ≡ counts (take (whole_tree_length d) b) = counts-take (whole_tree_length d) a ∙ ap (take (whole_tree_length d)) e ∙ sym (counts-take (whole_tree_length d) b) in
+    let back : counts (drop (whole_tree_length d) a) ≡ counts (drop (whole_tree_length d) b) = counts-drop (whole_tree_length d) a ∙ ap (drop (whole_tree_length d)) e ∙ sym (counts-drop (whole_tree_length d) b) in (
+      counted-same d (take (whole_tree_length d) a) (take (whole_tree_length d) b) front counted.0,
+      node-same d (take (whole_tree_length d) a) (take (whole_tree_length d) b) (drop (whole_tree_length d) a) (drop (whole_tree_length d) b) (gone-same (take (whole_tree_length d) a) (take (whole_tree_length d) b) front) back (counted-same d) counted.1,
     )
 
 pub slots-same : (a b : List Slot) → counts a ≡ counts b → IsSlots a → IsSlots b
@@ -170,17 +170,17 @@ pub unplaced : (items : List NumberedProperty) (i : ℕ) → ((k : ℕ) → k < 
 unplaced items i none = position_from-zero (has i) items ∙ unplaced_from items i 0 none
 
 -- none is gone
-pub all_there : (slots : List Slot) → gone_in slots ≡ 0 → there slots ≡ map property_in slots
+pub all_there : (slots : List Slot) → gone_in slots ≡ 0 → present_properties slots ≡ map property_in slots
 all_there [] none = refl
 all_there (s ∷ ss) none =
     let is : is_gone s ≡ false = grind (arith, nat_tests, none) in
-    ap (λ g. cond g (there ss) (property_in s ∷ there ss)) is ∙ ap (λ ps. property_in s ∷ ps) (all_there ss (omega (arith, none)))
+    ap (λ g. cond g (present_properties ss) (property_in s ∷ present_properties ss)) is ∙ ap (λ ps. property_in s ∷ ps) (all_there ss (omega (arith, none)))
 
 search_from : (slots : List Slot) (i n : ℕ) → position_from (λ (s : Slot). i == s.indicator) n slots ≡ position_from (has i) n (map property_in slots)
 search_from [] i n = refl
 search_from (s ∷ ss) i n = ap (cond (i == s.indicator) (Some n)) (search_from ss i (n + 1))
 
-pub search_there : (slots : List Slot) (i : ℕ) → gone_in slots ≡ 0 → position (λ (s : Slot). i == s.indicator) slots ≡ position (has i) (there slots)
+pub search_there : (slots : List Slot) (i : ℕ) → gone_in slots ≡ 0 → position (λ (s : Slot). i == s.indicator) slots ≡ position (has i) (present_properties slots)
 search_there slots i none =
     position_from-zero (λ (s : Slot). i == s.indicator) slots ∙ search_from slots i 0 ∙ sym (position_from-zero (has i) (map property_in slots)) ∙ ap (position (has i)) (sym (all_there slots none))
 

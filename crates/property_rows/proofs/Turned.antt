@@ -9,7 +9,7 @@ use Rattle.std.proofs.Math.Seq.{take-append_seam}
 use Rattle.std.proofs.lemmas.List.{length-append, length-map, map-append}
 use Rattle.property_rows.specs.declared.slot.Slot.{Slot}
 use Rattle.property_rows.specs.declared.property.NumberedProperty.{NumberedProperty}
-use Rattle.property_rows.specs.Slots.{is_gone, property_in, there, gone_in, slot_shown, blank, IsTree}
+use Rattle.property_rows.specs.Slots.{is_gone, property_in, present_properties, gone_in, slot_shown, blank, IsTree}
 use Rattle.property_rows.proofs.Counted.{Parts, parts, tree-join, tree-whole, tree_fits, gone_short}
 
 abbrev pub Shown : Type 0
@@ -23,10 +23,10 @@ abbrev pub gones : List Shown → ℕ
 gones [] = 0
 gones (e ∷ es) = cond e.0 1 0 + gones es
 
-pub there_shown : (slots : List Slot) → there slots ≡ there_of (map slot_shown slots)
+pub there_shown : (slots : List Slot) → present_properties slots ≡ there_of (map slot_shown slots)
 there_shown [] = refl
 there_shown (s ∷ ss) =
-    elim (is_gone s) as (λ g. cond g (there ss) (property_in s ∷ there ss) ≡ cond g (there_of (map slot_shown ss)) (property_in s ∷ there_of (map slot_shown ss))) [
+    elim (is_gone s) as (λ g. cond g (present_properties ss) (property_in s ∷ present_properties ss) ≡ cond g (there_of (map slot_shown ss)) (property_in s ∷ there_of (map slot_shown ss))) [
       | true ↦ there_shown ss
       | false ↦ ap (λ ps. property_in s ∷ ps) (there_shown ss)
     ]

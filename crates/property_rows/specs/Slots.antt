@@ -15,9 +15,9 @@ abbrev pub property_in : Slot → NumberedProperty
 property_in s = record { indicator = s.indicator; order = s.order; value = s.value }
 
 -- the properties that are there
-abbrev pub there : List Slot → List NumberedProperty
-there [] = []
-there (s ∷ ss) = cond (is_gone s) (there ss) (property_in s ∷ there ss)
+abbrev pub present_properties : List Slot → List NumberedProperty
+present_properties [] = []
+present_properties (s ∷ ss) = cond (is_gone s) (present_properties ss) (property_in s ∷ present_properties ss)
 
 -- how many slots are gone
 abbrev pub gone_in : List Slot → ℕ
@@ -31,9 +31,9 @@ slot_at (s ∷ ss) zero = cond (is_gone s) (suc (slot_at ss zero)) 0
 slot_at (s ∷ ss) (suc i) = suc (slot_at ss (cond (is_gone s) (suc i) i))
 
 -- the slots of a whole tree of a depth: a slot, and before it and after it a tree of one less
-abbrev pub full : ℕ → ℕ
-full zero = 0
-full (suc d) = full d + suc (full d)
+abbrev pub whole_tree_length : ℕ → ℕ
+whole_tree_length zero = 0
+whole_tree_length (suc d) = whole_tree_length d + suc (whole_tree_length d)
 
 -- the slots before a node and after it are as the tree wants them
 abbrev pub IsNode : (List Slot → Type 0) → List Slot → List Slot → Type 0
@@ -43,18 +43,18 @@ IsNode after before (s ∷ ss) = (s.gone / 2 ≡ gone_in before) × after ss
 -- The slots are those of a tree of this depth, from its front on, and each knows how many are gone in the tree before it.
 abbrev pub AreSlotsCounted : ℕ → List Slot → Type 0
 AreSlotsCounted zero slots = slots ≡ []
-AreSlotsCounted (suc d) slots = AreSlotsCounted d (take (full d) slots) × IsNode (AreSlotsCounted d) (take (full d) slots) (drop (full d) slots)
+AreSlotsCounted (suc d) slots = AreSlotsCounted d (take (whole_tree_length d) slots) × IsNode (AreSlotsCounted d) (take (whole_tree_length d) slots) (drop (whole_tree_length d) slots)
 
 -- they are those of a tree of this size
 pub record IsTree (size : ℕ) (slots : List Slot) : Type 0 where
   pub depth : ℕ
-  pub whole : size ≡ full depth
+  pub whole : size ≡ whole_tree_length depth
   pub counted : AreSlotsCounted depth slots
 
 -- a size that such a tree has
 pub record IsTreeSize (size : ℕ) : Type 0 where
   pub depth : ℕ
-  pub whole : size ≡ full depth
+  pub whole : size ≡ whole_tree_length depth
 
 -- whether nothing is there any more, and the property
 abbrev pub slot_shown : Slot → Bool × NumberedProperty
@@ -74,7 +74,7 @@ most_slots = 2147483647
 
 -- the slots are counted, in each tree that they fit, and not too many
 pub record IsSlots (slots : List Slot) : Type 0 where
-  pub counted : (d : ℕ) → length slots ≤ full d → AreSlotsCounted d slots
+  pub counted : (d : ℕ) → length slots ≤ whole_tree_length d → AreSlotsCounted d slots
   pub few : length slots ≤ most_slots
 
 -- a slot that is there, and counts nothing

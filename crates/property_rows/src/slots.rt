@@ -2,7 +2,7 @@
 ghost use Rattle.std.specs.Prelude.{◌≡◌, ◌+◌, ◌-◌, ◌<◌, ◌≤◌, ◌==◌, true, false, not, [], ◌∷◌, ◌++◌, map, length, take, is_ok, if◌then◌else◌, IfSome, IsOk, slice_index_or, slice_set, vec_capacity};
 ghost use Rattle.std.specs.List.{filter, position, insert, remove};
 ghost use Rattle.property_rows.specs.Vacant.{IsVacantSlot};
-ghost use Rattle.property_rows.specs.Slots.{IsSlots, gone_in, slot_at, is_gone, property_in, there, uncounted_slot, slots_there, blank, no_property, has, with_value, most_slots};
+ghost use Rattle.property_rows.specs.Slots.{IsSlots, gone_in, slot_at, is_gone, property_in, present_properties, uncounted_slot, slots_there, blank, no_property, has, with_value, most_slots};
 
 use crate::NumberedProperty;
 use crate::slot::Slot;
@@ -33,8 +33,8 @@ pub(crate) fn place(slots: &[Slot], index: usize) -> usize
 /// The slot that holds the property at an index.
 pub(crate) fn holder(slots: &[Slot], index: usize) -> &Slot
     requires slots { IsSlots slots.now }
-    requires index { index < length (there slots.now) }
-    ensures { property_in result.now ≡ slice_index_or (there slots.now) index no_property }
+    requires index { index < length (present_properties slots.now) }
+    ensures { property_in result.now ≡ slice_index_or (present_properties slots.now) index no_property }
 {
     &slots[place(slots, index)]
 }
@@ -75,7 +75,7 @@ fn first_of(slots: &[Slot], indicator: u32) -> Option<usize>
 /// The index of an indicator, from the front, where no slot is gone.
 pub(crate) fn search(slots: &[Slot], indicator: u32) -> Option<usize>
     requires { gone_in slots.now ≡ 0 }
-    ensures { result ≡ position (has indicator) (there slots.now) }
+    ensures { result ≡ position (has indicator) (present_properties slots.now) }
 {
     first_of(slots, indicator)
 }
@@ -105,10 +105,10 @@ fn fill(slot: &mut Slot, property: NumberedProperty)
 /// Takes the property at an index out. Its slot stays.
 pub(crate) fn take_out(slots: &mut [Slot], index: usize) -> NumberedProperty
     requires slots { IsSlots slots.old }
-    requires index { index < length (there slots.old) }
+    requires index { index < length (present_properties slots.old) }
     ensures slots { IsSlots slots.new }
-    ensures value { result ≡ slice_index_or (there slots.old) index no_property }
-    ensures items { there slots.new ≡ remove (there slots.old) index }
+    ensures value { result ≡ slice_index_or (present_properties slots.old) index no_property }
+    ensures items { present_properties slots.new ≡ remove (present_properties slots.old) index }
 {
     let at = place(slots, index);
     turn(slots, tree_of(slots.len()), at, true);
@@ -161,7 +161,7 @@ pub(crate) fn bring_back(slots: &mut [Slot], index: usize, at: usize, property: 
     requires slots { IsSlots slots.old }
     requires vacant { IsVacantSlot slots.old at index }
     ensures slots { IsSlots slots.new }
-    ensures items { there slots.new ≡ insert (there slots.old) index property }
+    ensures items { present_properties slots.new ≡ insert (present_properties slots.old) index property }
 {
     turn(slots, tree_of(slots.len()), at, false);
     fill(&mut slots[at], property);
@@ -170,11 +170,11 @@ pub(crate) fn bring_back(slots: &mut [Slot], index: usize, at: usize, property: 
 /// Puts another value at an index, and gives the one that was there.
 pub(crate) fn exchange(slots: &mut [Slot], index: usize, value: Datum) -> Datum
     requires slots { IsSlots slots.old }
-    requires index { index < length (there slots.old) }
+    requires index { index < length (present_properties slots.old) }
     ensures slots { IsSlots slots.new }
-    ensures value { result ≡ (slice_index_or (there slots.old) index no_property).value }
-    ensures items { there slots.new ≡ slice_set (there slots.old) index
-        (with_value (slice_index_or (there slots.old) index no_property) value) }
+    ensures value { result ≡ (slice_index_or (present_properties slots.old) index no_property).value }
+    ensures items { present_properties slots.new ≡ slice_set (present_properties slots.old) index
+        (with_value (slice_index_or (present_properties slots.old) index no_property) value) }
 {
     let at = place(slots, index);
     mem::replace(&mut slots[at].value, value)
@@ -184,8 +184,8 @@ pub(crate) fn exchange(slots: &mut [Slot], index: usize, value: Datum) -> Datum
 pub(crate) fn append(slots: &mut Vec<Slot>, property: NumberedProperty) -> Result<(), AllocError>
     requires { IsSlots slots.old.items }
     ensures slots { IsSlots slots.new.items }
-    ensures items { there slots.new.items
-        ≡ (if is_ok result then there slots.old.items ++ property ∷ [] else there slots.old.items) }
+    ensures items { present_properties slots.new.items
+        ≡ (if is_ok result then present_properties slots.old.items ++ property ∷ [] else present_properties slots.old.items) }
     ensures capacity { vec_capacity slots.old ≤ vec_capacity slots.new }
 {
     let count = slots.len();
@@ -211,8 +211,8 @@ pub(crate) fn drop_last(slots: &mut Vec<Slot>)
     requires some { 0 < length slots.old.items }
     requires last { is_gone (slice_index_or slots.old.items (length slots.old.items - 1) blank) ≡ false }
     ensures slots { IsSlots slots.new.items }
-    ensures items { there slots.new.items
-        ≡ take (length (there slots.old.items) - 1) (there slots.old.items) }
+    ensures items { present_properties slots.new.items
+        ≡ take (length (present_properties slots.old.items) - 1) (present_properties slots.old.items) }
     ensures capacity { vec_capacity slots.new ≡ vec_capacity slots.old }
 {
     let _ = slots.pop();
@@ -225,13 +225,13 @@ pub(crate) fn put_in(
     property: NumberedProperty,
 ) -> Result<(), AllocError>
     requires slots { IsSlots slots.old.items }
-    requires index { index ≤ length (there slots.old.items) }
+    requires index { index ≤ length (present_properties slots.old.items) }
     ensures slots { IsSlots slots.new.items }
-    ensures items { there slots.new.items
-        ≡ (if is_ok result then insert (there slots.old.items) index property else there slots.old.items) }
+    ensures items { present_properties slots.new.items
+        ≡ (if is_ok result then insert (present_properties slots.old.items) index property else present_properties slots.old.items) }
     ensures capacity { vec_capacity slots.old ≤ vec_capacity slots.new }
-    ensures succeeds { length (there slots.old.items) < vec_capacity slots.old
-        → length (there slots.old.items) < most_slots → IsOk result }
+    ensures succeeds { length (present_properties slots.old.items) < vec_capacity slots.old
+        → length (present_properties slots.old.items) < most_slots → IsOk result }
 {
     pack(slots);
     if slots.len() >= MOST {

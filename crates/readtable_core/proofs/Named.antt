@@ -13,7 +13,7 @@ use Rattle.readtable_core.specs.Cases.{case_name, case_names}
 use Rattle.readtable_core.specs.Characters.{syntax_number, upper_case}
 use Rattle.readtable_core.specs.Names.{is_among, is_standard, is_dispatch_name, dispatch_name}
 use Rattle.readtable_core.specs.Tables.{CharacterEntry, Table, standard, entry_at, dispatch_at, no_entry}
-use Rattle.readtable_core.specs.Changes.{with_character_entry, with_function, dispatching_entry}
+use Rattle.readtable_core.specs.Changes.{with_character_entry, with_dispatch_function, dispatching_entry}
 use Rattle.readtable_core.specs.NamedFunctions.{same_function, same_entry, functions_at, functions_of}
 
 -- the type that a number names
@@ -152,7 +152,7 @@ named_after p t c x e f =
     all_functions p (with_character_entry t c x) ∙ each_set (λ y. list_all p (functions_at y)) t.entries c x (sym (all_functions p t) ∙ e) f
 
 pub named_with_function : (p : List ℕ → Bool) (e : CharacterEntry) (sub : ℕ) (name : List ℕ) → list_all p (functions_at e) ≡ true → p name ≡ true
-    → list_all p (functions_at (with_function e sub name)) ≡ true
+    → list_all p (functions_at (with_dispatch_function e sub name)) ≡ true
 named_with_function p e sub name h f =
     let both = and_parts (passes p e.function) (list_all (passes p) e.dispatch) (sym (all_named p (e.function ∷ e.dispatch)) ∙ h) in
     all_named p (e.function ∷ set e.dispatch (upper_case sub) (Some name))

@@ -10,7 +10,7 @@ use Rattle.readtable_core.specs.Characters.{standard_syntax, is_lower_case, is_d
 use Rattle.readtable_core.specs.Names.{is_function_name, is_dispatch_name}
 use Rattle.readtable_core.specs.Tables.{CharacterEntry, Table, standard, standard_entry, standard_function, standard_sub_function, no_entry}
 use Rattle.readtable_core.specs.Sound.{IsCharacterEntry, IsReadtable, is_macro, is_dispatching, dispatches, is_none_or_name}
-use Rattle.readtable_core.specs.Changes.{with_character_entry, macro_entry, macro_syntax, dispatching_entry, with_function}
+use Rattle.readtable_core.specs.Changes.{with_character_entry, macro_entry, macro_syntax, dispatching_entry, with_dispatch_function}
 use Rattle.readtable_core.proofs.Standard.{standard_at, sub_at}
 
 macro_is_macro : (b : Bool) → true ≡ is_macro (macro_syntax b)
@@ -128,7 +128,7 @@ each_place test b places i name below new old k = elim (cases_eq k i) [
 ]
 
 pub function_sound : (e : CharacterEntry) (sub : ℕ) (name : List ℕ) → IsCharacterEntry e → upper_case sub < length e.dispatch → IsFalse (is_digit sub)
-    → IsFalse (is_dispatch_name name) → IsTrue (is_function_name name) → IsCharacterEntry (with_function e sub name)
+    → IsFalse (is_dispatch_name name) → IsTrue (is_function_name name) → IsCharacterEntry (with_dispatch_function e sub name)
 function_sound e sub name s below digit other fits = record {
   function = s.function;
   places = length-set e.dispatch (upper_case sub) (Some name) ∙ s.places;

@@ -13,7 +13,7 @@ use Rattle.readtable_core.specs.Sound.{is_dispatching}
 abbrev pub with_character_entry : Table → ℕ → CharacterEntry → Table
 with_character_entry table c e = record table { entries = set table.entries c e }
 
--- the same, if the call that puts it succeeded
+-- the table with another entry at a character if the call that puts it succeeded, else as it was
 abbrev pub put_if : Bool → Table → ℕ → CharacterEntry → Table
 put_if succeeded table c e = if succeeded then with_character_entry table c e else table
 
@@ -32,8 +32,8 @@ dispatching_entry non_terminating =
     record { syntax = macro_syntax non_terminating; function = Some dispatch_name; dispatch = replicate 128 None }
 
 -- the entry with this function at the sub-character, which is taken in upper case
-abbrev pub with_function : CharacterEntry → ℕ → List ℕ → CharacterEntry
-with_function e sub name = record e { dispatch = set e.dispatch (upper_case sub) (Some name) }
+abbrev pub with_dispatch_function : CharacterEntry → ℕ → List ℕ → CharacterEntry
+with_dispatch_function e sub name = record e { dispatch = set e.dispatch (upper_case sub) (Some name) }
 
 -- why a function cannot be set at the sub-character: the first reason that holds
 abbrev pub dispatch_refusal : Table → ℕ → ℕ → Option DispatchRefusal

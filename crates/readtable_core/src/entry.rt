@@ -5,7 +5,7 @@ ghost use Rattle.readtable_core.specs.Characters.{upper_case, is_digit};
 ghost use Rattle.readtable_core.specs.Names.{is_dispatch_name};
 ghost use Rattle.readtable_core.specs.Tables.{standard_entry, standard_function, standard_sub_function};
 ghost use Rattle.readtable_core.specs.Sound.{IsCharacterEntry, is_dispatching};
-ghost use Rattle.readtable_core.specs.Changes.{with_function, macro_entry, dispatching_entry, macro_syntax};
+ghost use Rattle.readtable_core.specs.Changes.{with_dispatch_function, macro_entry, dispatching_entry, macro_syntax};
 ghost use Rattle.readtable_core.specs.NamedFunctions.{same_entry};
 
 use crate::characters::standard_syntax_of;
@@ -100,7 +100,7 @@ impl CharacterSlot {
         requires digit { IsFalse (is_digit sub) }
         requires name { IsFalse (is_dispatch_name name) }
         requires dispatching { IsTrue (is_dispatching self.old) }
-        ensures { self.new ≡ with_function self.old sub name }
+        ensures { self.new ≡ with_dispatch_function self.old sub name }
     {
         let _ = name.as_bytes();
         self.dispatch[usize::from(sub.to_ascii_uppercase())] = Some(name);

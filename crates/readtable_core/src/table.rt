@@ -6,7 +6,7 @@ ghost use Rattle.readtable_core.specs.Names.{is_among, is_dispatch_name};
 ghost use Rattle.readtable_core.specs.Cases.{case_name, case_names};
 ghost use Rattle.readtable_core.specs.NamedFunctions.{same_entry};
 ghost use Rattle.readtable_core.specs.Sound.{IsReadtable, is_dispatching};
-ghost use Rattle.readtable_core.specs.Changes.{put_if, with_character_entry, macro_entry, dispatching_entry, with_function, dispatch_refusal};
+ghost use Rattle.readtable_core.specs.Changes.{put_if, with_character_entry, macro_entry, dispatching_entry, with_dispatch_function, dispatch_refusal};
 
 use crate::entry::{dispatching_character, macro_character, standard_character};
 use crate::{CharacterSlot, DispatchRefusal, FnName, Syntax};
@@ -284,7 +284,7 @@ impl Readtable {
         ensures accepted { OnOk result (dispatch_refusal self.old c sub ≡ None) }
         ensures refused { IfErr result (λ refusal. dispatch_refusal self.old c sub ≡ Some refusal) }
         ensures after { self.new
-            ≡ put_if (is_ok result) self.old c (with_function (entry_at self.old c) sub name) }
+            ≡ put_if (is_ok result) self.old c (with_dispatch_function (entry_at self.old c) sub name) }
     {
         if !self.is_dispatching(c) {
             return Err(DispatchRefusal::NotDispatching);
@@ -302,7 +302,8 @@ impl Readtable {
         requires digit { IsFalse (is_digit sub) }
         requires name { IsFalse (is_dispatch_name name) }
         requires dispatching { IsTrue (is_dispatching (entry_at self.old c)) }
-        ensures { self.new ≡ with_character_entry self.old c (with_function (entry_at self.old c) sub name) }
+        ensures { self.new
+            ≡ with_character_entry self.old c (with_dispatch_function (entry_at self.old c) sub name) }
     {
         let entry = &mut self.entries[usize::from(c)];
         entry.set_function(sub, name);

@@ -101,7 +101,8 @@ impl<'a, 'm, M: Meaning> Trials<'a, 'm, M> {
         requires other { MayTry world.old.0.packages other }
         ensures tells { IfOk result (λ refused. refused ≡ true
             → is_refused_form M.functions.names world.old.0 self.now.number
-            (with_part part.now.place.items (both (object_of part.now.part.now) (object_of other)) (object_of self.now.form.now)) ≡ true) }
+            (with_part part.now.place.items (both (object_of part.now.part.now) (object_of other))
+            (object_of self.now.form.now)) ≡ true) }
         ensures same { world.new ≡ world.old }
     {
         world.soundness();
@@ -119,7 +120,8 @@ impl<'a, 'm, M: Meaning> Trials<'a, 'm, M> {
         requires form { MayTry world.old.0.packages self.now.form.now }
         requires there { IsPlacedIn self.now.form.now part.now }
         ensures tells { IfOk result (λ evaluated. evaluated ≡ true
-            → is_evaluated M.functions.names world.old.0 (object_of self.now.form.now) part.now.place.items ≡ true) }
+            → is_evaluated M.functions.names world.old.0
+            (object_of self.now.form.now) part.now.place.items ≡ true) }
         ensures same { world.new ≡ world.old }
     {
         if !self.has_number_of_no_form(world, left, part)? {

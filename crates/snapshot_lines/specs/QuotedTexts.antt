@@ -13,7 +13,7 @@ abbrev mutual
   unescaped [] = []
   unescaped (c ∷ cs) = if c == byte "\\" then unescaped_first cs else c ∷ unescaped cs
 
-  -- the same after a backslash
+  -- the text that is written so after a backslash: its first character is taken as it is
   pub unescaped_first : List ℕ → List ℕ
   unescaped_first [] = []
   unescaped_first (c ∷ cs) = c ∷ unescaped cs

@@ -14,7 +14,7 @@ use Rattle.readtable_core.specs.Characters.{is_lower_case, is_digit}
 use Rattle.readtable_core.specs.Names.{is_function_name, is_dispatch_name, dispatch_name}
 use Rattle.readtable_core.specs.Tables.{CharacterEntry, Table, entry_at}
 use Rattle.readtable_core.specs.Sound.{IsCharacterEntry, is_macro, is_dispatching, dispatches, is_none_or_name}
-use Rattle.readtable_core.specs.Changes.{with_character_entry, with_function, macro_entry, macro_syntax, dispatching_entry}
+use Rattle.readtable_core.specs.Changes.{with_character_entry, with_dispatch_function, macro_entry, macro_syntax, dispatching_entry}
 use Rattle.readtable_core.proofs.Named.{all_named, passes}
 use Rattle.package_table.specs.Table.{Name, keyword}
 use Rattle.package_table.specs.Lookup.{is_symbol}
@@ -150,7 +150,7 @@ pub record IsPair (s : WorldState) (n : Name) (t : Table) (c : ℕ) (e : Charact
   pub table : Table
   pub writable : IsWritable now.readtables n table
   pub dispatching : is_dispatching (entry_at table c) ≡ true
-  pub later : (after : WorldState) → after ≡ with_table now n (with_character_entry table c (with_function (entry_at table c) sub function)) → IsFilling s n t c e pairs (k + 1) after
+  pub later : (after : WorldState) → after ≡ with_table now n (with_character_entry table c (with_dispatch_function (entry_at table c) sub function)) → IsFilling s n t c e pairs (k + 1) after
 
 no_key : (a : Bool) (o : Option Name) → is_some o ≡ true → (IsTrue a → o ≡ None) → a ≡ false
 no_key true o some nothing = absurd (let e : o ≡ None = nothing refl in both_ways (is_some o) (ap is_some e) some)
@@ -203,10 +203,10 @@ pair_at s n t c e b pairs k now pair named syntax dispatches_here small w so_far
         proper = so_far.proper;
         objects = so_far.objects;
         places = set so_far.places u.0 u.1;
-        is = made ∙ ap (λ (x : WorldState). with_table x n (with_character_entry here c (with_function (entry_at here c) u.0 f))) so_far.is
-            ∙ table_twice s n here (with_character_entry here c (with_function (entry_at here c) u.0 f))
-            ∙ ap (with_table s n) (entry_twice t c (with_places e so_far.places) (with_function (entry_at here c) u.0 f)
-            ∙ ap (λ x. with_character_entry t c (with_function x u.0 f)) at_c
+        is = made ∙ ap (λ (x : WorldState). with_table x n (with_character_entry here c (with_dispatch_function (entry_at here c) u.0 f))) so_far.is
+            ∙ table_twice s n here (with_character_entry here c (with_dispatch_function (entry_at here c) u.0 f))
+            ∙ ap (with_table s n) (entry_twice t c (with_places e so_far.places) (with_dispatch_function (entry_at here c) u.0 f)
+            ∙ ap (λ x. with_character_entry t c (with_dispatch_function x u.0 f)) at_c
             ∙ ap (λ i. with_character_entry t c (with_places e (set so_far.places i (Some f)))) (upper_same s.packages u.0 f may)
             ∙ ap (λ o. with_character_entry t c (with_places e (set so_far.places u.0 o))) (sym of.1));
         left = put_next so_far.places us k (0, None) among ∙ so_far.left;

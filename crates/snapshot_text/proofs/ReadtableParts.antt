@@ -21,7 +21,7 @@ use Rattle.package_table.specs.Table.{Name, name_cmp, keyword}
 use Rattle.package_table.specs.Lookup.{is_symbol}
 use Rattle.plist_state.specs.declared.error.ReadtableError.TheVariants.{NoReadtable, StandardReadtable, Limit}
 use Rattle.plist_state.specs.State.{Readtables, WorldState, standard_name}
-use Rattle.plist_state.specs.Changes.{with_copy, in_state}
+use Rattle.plist_state.specs.Changes.{with_copy, state_with_readtables}
 use Rattle.plist_state.specs.Sound.{HasKeywordFunctions}
 use Rattle.plist_state.proofs.Orders.{name_total, name_exact, one_name}
 use Rattle.world_text.specs.Snapshot.{entry_object, entry_objects}
@@ -31,17 +31,17 @@ use Rattle.snapshot_text.proofs.ReadParts.{item_at, item_count}
 use Rattle.snapshot_text.proofs.TableParts.{table_twice, made_writable, still_writable}
 
 -- ---- the copy
-pub copied : (s : WorldState) (n : Name) → CanBeMade s.readtables n → in_state s (with_copy s.readtables standard_name n) ≡ Ok (with_table s n standard)
+pub copied : (s : WorldState) (n : Name) → CanBeMade s.readtables n → state_with_readtables s (with_copy s.readtables standard_name n) ≡ Ok (with_table s n standard)
 copied s n can =
     let m = s.readtables in
-    ap (λ o. in_state s (option_map_or (λ (t : Table).
+    ap (λ o. state_with_readtables s (option_map_or (λ (t : Table).
     if bytes_eq n standard_name then Err StandardReadtable
     else (if not (finite.contains_key m n) && nat_le 64 (finite.len m) then Err Limit
     else Ok (finite.insert m n t))) o (Err NoReadtable))) can.standard
-    ∙ ap (λ b. in_state s (if b then Err StandardReadtable
+    ∙ ap (λ b. state_with_readtables s (if b then Err StandardReadtable
     else (if not (finite.contains_key m n) && nat_le 64 (finite.len m) then Err Limit
     else Ok (finite.insert m n standard)))) can.other
-    ∙ ap (λ b. in_state s (if b then Err Limit else Ok (finite.insert m n standard))) can.room
+    ∙ ap (λ b. state_with_readtables s (if b then Err Limit else Ok (finite.insert m n standard))) can.room
 
 pub copy_writable : (s : WorldState) (n : Name) → CanBeMade s.readtables n → IsWritable (with_table s n standard).readtables n standard
 copy_writable s n can = made_writable s n standard can.other can.standard standard_sound.count

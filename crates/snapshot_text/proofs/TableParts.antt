@@ -14,7 +14,7 @@ use Rattle.readtable_core.specs.Characters.{upper_case, is_lower_case, is_digit}
 use Rattle.readtable_core.specs.Tables as readtable
 use Rattle.readtable_core.specs.Tables.{CharacterEntry, Table, entry_at, no_entry}
 use Rattle.readtable_core.specs.Sound.{is_dispatching}
-use Rattle.readtable_core.specs.Changes.{with_character_entry, with_function}
+use Rattle.readtable_core.specs.Changes.{with_character_entry, with_dispatch_function}
 use Rattle.readtable_core.specs.declared.refusal.DispatchRefusal.TheVariants.{NotDispatching as NoDispatch, DigitSubcharacter as Digit}
 use Rattle.package_table.specs.Table as packages
 use Rattle.package_table.specs.Table.{Name, name_cmp}
@@ -23,7 +23,7 @@ use Rattle.package_table.proofs.Frames.{equal_names}
 use Rattle.plist_state.specs.declared.error.ReadtableError.{ReadtableError}
 use Rattle.plist_state.specs.declared.error.ReadtableError.TheVariants.{NoReadtable, StandardReadtable, NotDispatching, DigitSubcharacter, Limit, OutOfMemory}
 use Rattle.plist_state.specs.State.{Readtables, WorldState, standard_name}
-use Rattle.plist_state.specs.Changes.{writable, put_changed, with_changed, changed_readtable, in_state, with_sub_function, readtable_error_of, Refused}
+use Rattle.plist_state.specs.Changes.{writable, put_changed, readtables_with_change, changed_readtable, state_with_readtables, with_sub_function, readtable_error_of, Refused}
 use Rattle.plist_state.specs.Sound.{IsSymbol}
 use Rattle.plist_state.proofs.Orders.{name_total, name_exact, name_tied}
 use Rattle.snapshot_text.specs.BuiltWorlds.{with_table, IsWritable, IsSubFunction}
@@ -39,9 +39,9 @@ writable_is m n t w =
 
 -- a change of a readtable that may be written
 pub changed_to : (s : WorldState) (n : Name) (t u : Table) (change : Table → Result Table ReadtableError) → IsWritable s.readtables n t → change t ≡ Ok u
-    → in_state s (changed_readtable s.readtables n change) ≡ Ok (with_table s n u)
+    → state_with_readtables s (changed_readtable s.readtables n change) ≡ Ok (with_table s n u)
 changed_to s n t u change w is =
-    ap (λ r. in_state s (with_changed s.readtables n change r)) (writable_is s.readtables n t w) ∙ ap (λ r. in_state s (put_changed s.readtables n r)) is
+    ap (λ r. state_with_readtables s (readtables_with_change s.readtables n change r)) (writable_is s.readtables n t w) ∙ ap (λ r. state_with_readtables s (put_changed s.readtables n r)) is
 
 neither : (a b : Bool) → (a || b) ≡ false → (a ≡ false) × (b ≡ false)
 neither true b e = absurd cc
@@ -49,10 +49,10 @@ neither false b e = (refl, e)
 
 -- a function at a sub-character
 pub dispatched_is : (p : packages.Table) (t : Table) (c sub : ℕ) (f : Name) → IsSubFunction p sub f → is_dispatching (entry_at t c) ≡ true
-    → with_sub_function t c sub f ≡ Ok (with_character_entry t c (with_function (entry_at t c) sub f))
+    → with_sub_function t c sub f ≡ Ok (with_character_entry t c (with_dispatch_function (entry_at t c) sub f))
 dispatched_is p t c sub f may dispatching =
     let digit : is_digit sub ≡ false = (neither (is_lower_case sub) (is_digit sub) may.upper).1 in
-    ap (λ o. option_map_or (λ r. Err (readtable_error_of r)) o (Ok (with_character_entry t c (with_function (entry_at t c) sub f))))
+    ap (λ o. option_map_or (λ r. Err (readtable_error_of r)) o (Ok (with_character_entry t c (with_dispatch_function (entry_at t c) sub f))))
     (ap (λ b. if not b then Some NoDispatch else (if is_digit sub then Some Digit else None)) dispatching ∙ ap (λ b. if b then Some Digit else None) digit)
 
 pub upper_same : (p : packages.Table) (sub : ℕ) (f : Name) → IsSubFunction p sub f → upper_case sub ≡ sub

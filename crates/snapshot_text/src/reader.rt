@@ -146,7 +146,7 @@ fn approve<R: MacroFunctions>(
     Ok(())
 }
 
-/// The world of which these bytes are the text in a half of this version, 1 or 2, with nothing marked, where the functions that
+/// The world of which these bytes are the text in a half of this version, 1 to 3, with nothing marked, where the functions that
 /// its readtables name are standard or among `macros`. Only the text that `write_in` gives is read. A text of version 1 has no
 /// base for numbers: its world reads in base 10.
 ///

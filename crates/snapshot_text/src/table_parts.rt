@@ -9,7 +9,7 @@ ghost use Rattle.readtable_core.specs.Names.{is_function_name, is_dispatch_name}
 ghost use Rattle.readtable_core.specs.Tables as readtable;
 ghost use Rattle.readtable_core.specs.Tables.{CharacterEntry, entry_at};
 ghost use Rattle.readtable_core.specs.Sound.{is_dispatching};
-ghost use Rattle.readtable_core.specs.Changes.{macro_syntax, with_character_entry, with_function};
+ghost use Rattle.readtable_core.specs.Changes.{macro_syntax, with_character_entry, with_dispatch_function};
 ghost use Rattle.package_table.specs.Table.{Name, keyword};
 ghost use Rattle.plist_state.specs.State.{WorldState, first_base};
 ghost use Rattle.plist_state.specs.Changes.{with_base};
@@ -51,7 +51,7 @@ fn put_sub_character(world: &mut World, table: &[u8], c: u8, pair: &Datum) -> Re
         → IsSubFunction world.old.0.packages sub f → IsWritable world.old.0.readtables table.now t
         → is_dispatching (entry_at t c) ≡ true
         → OrNoMemory (world.new.0 ≡ with_table world.old.0 table.now
-        (with_character_entry t c (with_function (entry_at t c) sub f))) result }
+        (with_character_entry t c (with_dispatch_function (entry_at t c) sub f))) result }
 {
     let [sub, function] = items_in(pair)? else {
         return Err(BuildError::Damaged);
@@ -254,7 +254,7 @@ fn put_tables_1(world: &mut World, tables: &Datum) -> Result<(), BuildError>
     Ok(())
 }
 
-// The same of version 2, which has the base too.
+// The same of versions 2 and 3, which have the base too.
 fn put_tables_2(world: &mut World, tables: &Datum) -> Result<(), BuildError>
     ensures { (s : WorldState) → IsSoundState s → is_proper tables.now ≡ true
         → object_of tables.now ≡ tables_object s → world.old.0 ≡ with_properties_of s

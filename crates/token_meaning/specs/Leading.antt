@@ -40,7 +40,7 @@ abbrev pub IsFirstDigit : ℕ → List ℕ → ℕ → List ℕ → Type 0
 IsFirstDigit base [] digit rest = ⊥
 IsFirstDigit base (c ∷ cs) digit rest = (digit_value c < base) × (digit ≡ digit_value c) × (cs ≡ rest)
 
--- the same of all the digits at the front
+-- all the digits at the front, and what comes after them
 pub record IsLeading (base : ℕ) (text : List ℕ) (some : Bool) (size : Option ℕ) (rest : List ℕ) : Type 0 where
   pub leads : Leads base text some size rest
   pub ends : begins_with_digit base rest ≡ false

@@ -42,7 +42,7 @@ pub data Spells : Bool → List TypedByte → List Mark → Type 0 where
       → kind x ≡ MultipleEscape
       → Spells (not bars) xs marks → Spells bars (x ∷ xs) (Bar ∷ marks)
 
--- The same where the first byte is a character taken as an escaped one, whatever its syntax type.
+-- Bytes spell these marks where the first byte is a character taken as an escaped one, whatever its syntax type.
 pub data SpellsEscaped : List TypedByte → List Mark → Type 0 where
   first : (x : TypedByte) (xs : List TypedByte) (marks : List Mark)
       → IsTrue (is_character x) → Spells false xs marks → SpellsEscaped (x ∷ xs) (Quoted x.byte ∷ marks)

@@ -131,6 +131,6 @@ in_bytes (Err e) = Err e
 abbrev pub token_in : Table → ℕ → ℕ → List ℕ → ScannedBytes
 token_in table limit at text = in_bytes (token limit at (typed_text table text))
 
--- the same after an escape that began it
+-- the token at the front of a text that an escape began, in this readtable
 abbrev pub escaped_token_in : Table → ℕ → ℕ → List ℕ → ScannedBytes
 escaped_token_in table limit at text = in_bytes (escaped_token limit at (typed_text table text))

@@ -40,7 +40,7 @@ of_strings SameText a b = Ok (truth_value (bytes_eq a b))
 of_strings TextLess a b = place_or_nil (less_at 0 a b)
 of_strings SymbolName a b = Err ARGUMENT_KIND
 
--- the same of two arguments, which are texts or symbols
+-- what a function of two texts gives of two arguments, which are texts or symbols
 abbrev pub with_text : OnTexts → Object → Object → FunctionValue
 with_text function x y = if_of_kind (a_string x) (λ a. if_of_kind (a_string y) (of_strings function a))
 

@@ -37,12 +37,12 @@ unfoldable pub symbol_text : Name → Name → List ℕ
 symbol_text home name = prefix_text home ++ name_text name
 
 -- how many characters of that token come before the name
-abbrev pub prefix_length : Name → ℕ
-prefix_length home = if bytes_eq home keyword then 1 else (if bytes_eq home common_lisp_user then 0 else length home + 2)
+abbrev pub token_prefix_length : Name → ℕ
+token_prefix_length home = if bytes_eq home keyword then 1 else (if bytes_eq home common_lisp_user then 0 else length home + 2)
 
 -- whether the token of a symbol has more characters than a token in a form may have
 unfoldable pub is_too_long : Name → Name → Bool
-is_too_long home name = nat_lt 4096 (prefix_length home + length name)
+is_too_long home name = nat_lt 4096 (token_prefix_length home + length name)
 
 -- ---- calls
 

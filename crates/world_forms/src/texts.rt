@@ -4,7 +4,7 @@ ghost use Rattle.std.specs.List.{list_all, flat_map};
 ghost use Rattle.canon_printer.specs.Names.{with_backslashes, is_escaped_in_bars, is_invalid};
 ghost use Rattle.canon_printer.specs.Written.{AddsText, printed_text};
 ghost use Rattle.package_table.specs.Readers.{names_of};
-ghost use Rattle.world_forms.specs.NameTokens.{is_portable_name, is_plain_after, name_text, prefix_text, symbol_text, prefix_length, is_too_long};
+ghost use Rattle.world_forms.specs.NameTokens.{is_portable_name, is_plain_after, name_text, prefix_text, symbol_text, token_prefix_length, is_too_long};
 ghost use Rattle.world_forms.specs.NameTokens.{text_argument, call_text, value_text, quoted_text, character_argument, keyword_argument};
 ghost use Rattle.world_forms.specs.NameTokens.{hex_digit, told_character, told_text};
 
@@ -124,7 +124,7 @@ pub(crate) fn push_symbol(text: &mut Vec<u8>, home: &[u8], name: &[u8]) -> Resul
 
 /// How many characters of a symbol's token come before its name.
 fn prefix_len(home: &[u8]) -> usize
-    ensures { result ≡ prefix_length home.now }
+    ensures { result ≡ token_prefix_length home.now }
 {
     if home == KEYWORD {
         1

@@ -27,8 +27,8 @@ use Rattle.canon_printer.specs.Names.{with_backslashes, is_escaped_in_bars, prin
 use Rattle.canon_printer.specs.Written.{printed_ratio}
 use Rattle.canon_printer.specs.Printed.{is_accessible, printed}
 use Rattle.canon_printer.proofs.Resolved.{accessible_resolved, home_there, external_resolved, internal_resolved}
-use Rattle.lisp_reading.specs.declared.told.ResolvedToken.{ResolvedToken}
-use Rattle.lisp_reading.specs.declared.told.ResolvedToken.TheVariants.{Object as told_object}
+use Rattle.lisp_reading.specs.declared.token_resolution.ResolvedToken.{ResolvedToken}
+use Rattle.lisp_reading.specs.declared.token_resolution.ResolvedToken.TheVariants.{Object as told_object}
 use Rattle.lisp_reading.specs.Naming.{symbol_at, symbol_in, told_meaning}
 use Rattle.world_text.proofs.Marked.{plain_marks, name_marks, quoted_marks, printed_marks}
 use Rattle.world_text.proofs.Characters.{in_number, is_kept, digit_kept, in_number_below}

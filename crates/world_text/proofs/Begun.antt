@@ -19,9 +19,9 @@ use Rattle.package_table.specs.Table.{Name, Table as Packages}
 use Rattle.std_macros.specs.declared.kind.Standard.{Standard}
 use Rattle.std_macros.specs.declared.kind.Standard.TheVariants.{List as AList, String, Char, Vector, Uninterned, Quote}
 use Rattle.lisp_reading.specs.declared.limits.Limits.{Limits}
-use Rattle.lisp_reading.specs.declared.found.Found.{Found}
-use Rattle.lisp_reading.specs.declared.found.Found.TheVariants.{Nothing as nothing, One as one, LoneDot as lone_dot}
-use Rattle.lisp_reading.specs.declared.told.ResolvedToken.TheVariants.{Object as told_object}
+use Rattle.lisp_reading.specs.declared.attempt.Found.{Found}
+use Rattle.lisp_reading.specs.declared.attempt.Found.TheVariants.{Nothing as nothing, One as one, LoneDot as lone_dot}
+use Rattle.lisp_reading.specs.declared.token_resolution.ResolvedToken.TheVariants.{Object as told_object}
 use Rattle.lisp_reading.specs.declared.way.Function.TheVariants.{Standard as AStandard}
 use Rattle.lisp_reading.specs.Plans.{Plan, scans, Read, limited_token, token_at_front, run}
 use Rattle.lisp_reading.specs.InvokedCalls.{InvokedCall}

@@ -8,8 +8,8 @@ use Rattle.readtable_core.specs.Tables.{standard}
 use Rattle.package_table.specs.Table.{Name, Table as Packages}
 use Rattle.std_macros.specs.Values.{Material, list_value, vector_value}
 use Rattle.lisp_reading.specs.declared.limits.Limits.{Limits}
-use Rattle.lisp_reading.specs.declared.found.Found.{Found}
-use Rattle.lisp_reading.specs.declared.found.Found.TheVariants.{Nothing as nothing, One as one, LoneDot as lone_dot}
+use Rattle.lisp_reading.specs.declared.attempt.Found.{Found}
+use Rattle.lisp_reading.specs.declared.attempt.Found.TheVariants.{Nothing as nothing, One as one, LoneDot as lone_dot}
 use Rattle.lisp_reading.specs.Plans.{Plan, gives, then_plan, Read, run}
 use Rattle.lisp_reading.specs.Setting.{Setting}
 use Rattle.lisp_reading.specs.Reading.{Piece, item, dot, closed, without_space, is_whitespace, piece_of, or_closed, next_item_turn, next_item, Items, items_step, items_turn, items_after, undotted_plan, after_tail, after_dot, list_end, finished_plan, attempt}

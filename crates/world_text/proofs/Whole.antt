@@ -28,8 +28,8 @@ use Rattle.canon_printer.specs.Written.{is_escaped_in_text, character_name, prin
 use Rattle.canon_printer.specs.Printed.{printed, printed_prefix}
 use Rattle.canon_printer.specs.Symbols.{HasAllSymbols}
 use Rattle.lisp_reading.specs.declared.limits.Limits.{Limits}
-use Rattle.lisp_reading.specs.declared.found.Found.{Found}
-use Rattle.lisp_reading.specs.declared.found.Found.TheVariants.{One as one}
+use Rattle.lisp_reading.specs.declared.attempt.Found.{Found}
+use Rattle.lisp_reading.specs.declared.attempt.Found.TheVariants.{One as one}
 use Rattle.lisp_reading.specs.Plans.{Plan, Read, run}
 use Rattle.lisp_reading.specs.Setting.{Setting}
 use Rattle.lisp_reading.specs.Reading.{finished_plan, inner, completed_call, text_to, items_after, list_end, undotted_plan, attempt, without_space, form, space_at, outcome, reads, reads_at}

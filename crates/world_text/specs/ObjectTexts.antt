@@ -8,11 +8,11 @@ use Rattle.plist_state.specs.State.{WorldState}
 use Rattle.plist_state.specs.Changes.{plist}
 use Rattle.world_text.specs.Snapshot.{plist_object}
 
--- it is printed in COMMON-LISP-USER
+-- the text of an object: it is printed in COMMON-LISP-USER
 abbrev pub object_text : Table → Object → List ℕ
 object_text packages x = printed packages common_lisp_user x
 
--- the same after a space
+-- the text of an object that is not the first of its line, after a space
 abbrev pub later_text : Table → Object → List ℕ
 later_text packages x = codes " " ++ object_text packages x
 

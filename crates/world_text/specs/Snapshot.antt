@@ -2,7 +2,7 @@
 -- printed in COMMON-LISP-USER and followed by a newline. What structure there is, is of texts and numbers; NIL is the empty
 -- list. Names are sorted by their bytes, as the maps of a state are. The text of version 2 is the one that is written; version
 -- 1, which has no base for numbers, is still read.
-use Rattle.std.specs.Prelude.{ℕ, pos, ◌==◌, ◌&&◌, not, if◌then◌else◌, List, [], ◌∷◌, ◌++◌, map, filter, get_or, Option, Some, None, unwrap_or}
+use Rattle.std.specs.Prelude.{ℕ, pos, ◌==◌, ◌&&◌, ◌||◌, not, if◌then◌else◌, List, [], ◌∷◌, ◌++◌, map, filter, get_or, Option, Some, None, unwrap_or}
 use Rattle.std.specs.List.{flat_map, range_with_len}
 use Rattle.std.specs.Option.{option_map}
 use Rattle.std.specs.Str.{bytes_eq}
@@ -49,14 +49,17 @@ package_with t p own =
 abbrev pub packages_with : Table → (Name → List Name) → Object
 packages_with t own = list_of (map (λ p. package_with t p (own p)) (filter (λ p. not (bytes_eq p common_lisp)) (package_names t)))
 
+-- a package, with the names of the symbols that are its own
 abbrev pub package_object : Table → Name → Object
 package_object t p = package_with t p (made_names t p)
 
+-- the first object of a snapshot: all packages but COMMON-LISP
 abbrev pub packages_object : Table → Object
 packages_object t = packages_with t (made_names t)
 
 -- ---- property lists
 
+-- a symbol as an object
 abbrev pub symbol_object : Symbol → Object
 symbol_object x = symbol x.0 x.1
 
@@ -64,11 +67,13 @@ symbol_object x = symbol x.0 x.1
 abbrev pub plist_object : Symbol → Plist → Object
 plist_object x ps = pair (symbol_object x) (list_of (flat_map (λ p. symbol_object p.0 ∷ p.1 ∷ []) ps))
 
+-- the second object of a snapshot: each symbol that has properties, with them
 abbrev pub properties_object : WorldState → Object
 properties_object s = list_of (map (λ x. plist_object x (plist s x)) (symbols_with_properties s))
 
 -- ---- readtables: all but STANDARD, which never changes
 
+-- a natural number as an object
 abbrev pub number : ℕ → Object
 number n = integer (pos n)
 
@@ -91,6 +96,7 @@ unfoldable pub entry_objects : readtable.Table → List Object
 entry_objects table =
     map (λ c. entry_object c (entry_at table c)) (filter (λ c. not (same_entry (entry_at table c) (entry_at standard c))) (range_with_len 0 128))
 
+-- a readtable: its name, its case, and its entries that are not as in the standard readtable
 abbrev pub readtable_object : Name → readtable.Table → Object
 readtable_object name table = list_of (text name ∷ text (case_name table.letters) ∷ list_of (entry_objects table) ∷ [])
 
@@ -98,6 +104,7 @@ readtable_object name table = list_of (text name ∷ text (case_name table.lette
 abbrev pub table_named : WorldState → Name → readtable.Table
 table_named s n = unwrap_or (finite.get s.readtables n) standard
 
+-- all readtables but STANDARD
 abbrev pub readtables_object : WorldState → Object
 readtables_object s =
     list_of (map (λ n. readtable_object n (table_named s n)) (filter (λ n. not (bytes_eq n standard_name)) (readtable_names s)))
@@ -113,14 +120,15 @@ tables_object s =
 abbrev pub tables_object_1 : WorldState → Object
 tables_object_1 s = list_of (text s.current_package ∷ text s.current_readtable ∷ readtables_object s ∷ [])
 
--- In a half of this version. Version 1 has no base: it has the states that read in base 10, and no other.
+-- In a half of this version. Versions 2 and 3 have the same text. Version 1 has no base: it has the states that read in base 10, and no other.
 abbrev pub tables_object_in : ℕ → WorldState → Option Object
 tables_object_in version s =
-    if version == 2 then Some (tables_object s)
+    if version == 2 || version == 3 then Some (tables_object s)
     else (if version == 1 && s.read_base == 10 then Some (tables_object_1 s) else None)
 
 -- ---- the text
 
+-- a line: the text of an object as it is printed in COMMON-LISP-USER, and the end of the line
 abbrev pub snapshot_line : Table → Object → List ℕ
 snapshot_line packages x = printed packages common_lisp_user x ++ 10 ∷ []
 
@@ -132,7 +140,7 @@ lines_with s first third = snapshot_line s.packages first ++ snapshot_line s.pac
 abbrev pub snapshot_with : WorldState → Object → List ℕ
 snapshot_with s third = lines_with s (packages_object s.packages) third
 
--- the text of a state, as it is written: version 2
+-- the text of a state, as it is written: that of versions 2 and 3
 abbrev pub snapshot : WorldState → List ℕ
 snapshot s = snapshot_with s (tables_object s)
 

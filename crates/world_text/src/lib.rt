@@ -1,7 +1,7 @@
 //! The text of a world: what it is, how it is written, and that it is read back.
 //!
 //! The text is three printed objects: the packages, the property lists and the readtables (`snapshot` of
-//! specs/Snapshot.antt), and `write` gives exactly this text. That is version 2. The text of version 1, in which halves were
+//! specs/Snapshot.antt), and `write` gives exactly this text. That is versions 2 and 3. The text of version 1, in which halves were
 //! written before, has no base for numbers, and so it is that of the worlds that read in base 10; `write_in` gives the text of
 //! either. The law `one_text_one_state` says that a text of a version is that of one sound state, and
 //! `snapshot_lines_are_read` that each of its lines is read. `printed_objects_read_back` is the law of any object: its

@@ -96,7 +96,7 @@ pub fn write_kept<T: NameTest>(
 }
 
 /// The text of a snapshot of the world as it is now: its packages, its property lists and its readtables, each an object
-/// printed in COMMON-LISP-USER (standard 22.1.3) and followed by a newline. Marked states are not in it. It is version 2.
+/// printed in COMMON-LISP-USER (standard 22.1.3) and followed by a newline. Marked states are not in it. It is that of versions 2 and 3.
 ///
 /// # Errors
 /// Out of memory.
@@ -121,7 +121,7 @@ fn write_1(alloc: Global, world: &World) -> Result<Vec<u8>, AllocError>
     Ok(text)
 }
 
-/// The text of the world in a half of this version, 1 or 2, if it has one: version 1 has no base for numbers, and is the text
+/// The text of the world in a half of this version, 1 to 3, if it has one: version 1 has no base for numbers, and is the text
 /// of worlds that read in base 10 alone.
 ///
 /// # Errors
@@ -130,7 +130,7 @@ pub fn write_in(alloc: Global, version: u16, world: &World) -> Result<Option<Vec
     ensures { IfOk result (λ text.
         option_map (λ t. t.items) text ≡ snapshot_in version world.now.0) }
 {
-    if version == 2 {
+    if version == 2 || version == 3 {
         return Ok(Some(write(alloc, world)?));
     }
     if version == 1 && world.read_base() == 10 {

@@ -73,7 +73,8 @@ impl FormReader {
 
         // Between forms whitespace leaves the reader there.
         ensures between { IsBetweenForms self.old → list_all (is_whitespace readtable.now) bytes.now ≡ true
-            → 0 < (limits_of self.old).text → (result ≡ Ok (length bytes.now, AdvanceMore)) × IsBetweenForms self.new }
+            → 0 < (limits_of self.old).text
+            → (result ≡ Ok (length bytes.now, AdvanceMore)) × IsBetweenForms self.new }
         ensures between_forms { IfOk result (λ got. LeavesBetween self.new got.1) }
         ensures nothing_open { IfOk result (λ got. got.1 ≡ AdvanceMore
             → begun self.new ≡ fed self.new → IsBetweenForms self.new) }

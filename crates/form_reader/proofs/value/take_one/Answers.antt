@@ -1,6 +1,6 @@
 use Rattle.std.proofs.Common.{◌≡◌, List, length, ap, ◌∙◌, sym, arith}
 use Rattle.form_reader.specs.declared.stack.Frame.{Frame}
-use Rattle.lisp_reading.specs.declared.found.Found.TheVariants.{One as one}
+use Rattle.lisp_reading.specs.declared.attempt.Found.TheVariants.{One as one}
 use Rattle.form_reader.specs.Stack.{calls_with}
 use Rattle.form_reader.specs.Context.{setting}
 use Rattle.form_reader.proofs.Values.{next_comes, object_goes_on, object_stops, stays_open}

@@ -1,6 +1,6 @@
 use Rattle.std.proofs.Common.{◌≡◌, Some, map, sym, ap, subst, ◌∙◌}
 use Rattle.lisp_object.specs.Datum.{object_of}
-use Rattle.plist_state.specs.Changes.{with_dispatching, in_state}
+use Rattle.plist_state.specs.Changes.{with_dispatching, state_with_readtables}
 use Rattle.lisp_operators.specs.ArgumentKinds.{a_keyword, given_or}
 use Rattle.lisp_operators.specs.Properties.{t}
 use Rattle.lisp_operators.specs.Readtables.{value_after, after_first, make_dispatch}
@@ -25,5 +25,5 @@ returns-clause-gives c =
     let name_is : c.as_slice.result.now ≡ n = c.as_slice.ensures.value ∙ c.in_ok-name-2.ensures.items in
     subst (λ vs. Answers done c.changed.result new (make_dispatch (map object_of vs) s)) (sym c.in_ok-character.ensures.value)
     (make_opens (Answers done c.changed.result new) s (object_of c.in_ok-character.character.now) rest c.in_ok-c.c n c.in_ok-c.ensures given
-    (subst (λ said. Answers done c.changed.result new (value_after s t said)) (λ i. in_state s (with_dispatching s.readtables (name_is i) c.in_ok-c.c (c.is_given.ensures i)))
-    (c.changed.ensures.gives s new (in_state s (with_dispatching s.readtables c.as_slice.result.now c.in_ok-c.c c.is_given.result)) c.make_dispatch-made.ensures.gives)))
+    (subst (λ said. Answers done c.changed.result new (value_after s t said)) (λ i. state_with_readtables s (with_dispatching s.readtables (name_is i) c.in_ok-c.c (c.is_given.ensures i)))
+    (c.changed.ensures.gives s new (state_with_readtables s (with_dispatching s.readtables c.as_slice.result.now c.in_ok-c.c c.is_given.result)) c.make_dispatch-made.ensures.gives)))

@@ -2,7 +2,7 @@ use Rattle.std.proofs.Common.{◌≡◌, Some, map, sym, subst, ◌∙◌}
 use Rattle.lisp_object.specs.Datum.{object_of}
 use Rattle.package_table.specs.Table.{keyword}
 use Rattle.plist_state.specs.Sound.{IsSymbol}
-use Rattle.plist_state.specs.Changes.{with_dispatch, in_state}
+use Rattle.plist_state.specs.Changes.{with_dispatch, state_with_readtables}
 use Rattle.lisp_operators.specs.ArgumentKinds.{a_keyword, given_or}
 use Rattle.lisp_operators.specs.Properties.{t}
 use Rattle.lisp_operators.specs.Readtables.{value_after, set_dispatch}
@@ -38,5 +38,5 @@ returns-clause-gives c =
     subst (λ vs. Answers done c.changed.result new (set_dispatch c.args.names.now (map object_of vs) s)) (sym c.in_ok-character.ensures.value)
     (dispatch_opens (Answers done c.changed.result new) s c.args.names.now (object_of c.in_ok-character.character.now) (object_of c.in_ok-character.sub.now) (object_of c.in_ok-character.function.now) rest c.in_ok-c.c c.in_ok-d.d c.in_ok-function.function.now n c.in_ok-table.table.now
     c.in_ok-c.ensures c.in_ok-d.ensures c.in_ok-function.ensures given c.in_ok-table.ensures c.in_ok-function-2.ensures.1
-    (subst (λ said. Answers done c.changed.result new (value_after s t said)) (λ i. in_state s (with_dispatch s.readtables (name_is i) c.in_ok-c.c c.in_ok-d.d (c.in_ok-function-2.ensures.0 i)))
-    (c.changed.ensures.gives s new (in_state s (with_dispatch s.readtables c.as_slice.result.now c.in_ok-c.c c.in_ok-d.d c.in_ok-function-2.function)) c.set_dispatch-made.ensures.gives)))
+    (subst (λ said. Answers done c.changed.result new (value_after s t said)) (λ i. state_with_readtables s (with_dispatch s.readtables (name_is i) c.in_ok-c.c c.in_ok-d.d (c.in_ok-function-2.ensures.0 i)))
+    (c.changed.ensures.gives s new (state_with_readtables s (with_dispatch s.readtables c.as_slice.result.now c.in_ok-c.c c.in_ok-d.d c.in_ok-function-2.function)) c.set_dispatch-made.ensures.gives)))

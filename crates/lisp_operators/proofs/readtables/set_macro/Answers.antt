@@ -2,7 +2,7 @@ use Rattle.std.proofs.Common.{◌≡◌, Some, map, sym, ap, subst, ◌∙◌}
 use Rattle.lisp_object.specs.Datum.{object_of}
 use Rattle.package_table.specs.Table.{keyword}
 use Rattle.plist_state.specs.Sound.{IsSymbol}
-use Rattle.plist_state.specs.Changes.{with_macro, in_state}
+use Rattle.plist_state.specs.Changes.{with_macro, state_with_readtables}
 use Rattle.lisp_operators.specs.ArgumentKinds.{a_keyword, given_or}
 use Rattle.lisp_operators.specs.Properties.{t}
 use Rattle.lisp_operators.specs.Readtables.{value_after, after_first, set_macro}
@@ -34,5 +34,5 @@ returns-clause-gives c =
     subst (λ vs. Answers done c.changed.result new (set_macro c.args.names.now (map object_of vs) s)) (sym c.in_ok-character.ensures.value)
     (macro_opens (Answers done c.changed.result new) s c.args.names.now (object_of c.in_ok-character.character.now) (object_of c.in_ok-character.function.now) rest c.in_ok-c.c c.in_ok-function.function.now n c.in_ok-writable.field-0.now
     c.in_ok-c.ensures c.in_ok-function.ensures given c.in_ok-writable.ensures c.in_ok-function-2.ensures.1
-    (subst (λ said. Answers done c.changed.result new (value_after s t said)) (λ i. in_state s (with_macro s.readtables (name_is i) c.in_ok-c.c (c.in_ok-function-2.ensures.0 i) (c.is_given.ensures i)))
-    (c.changed.ensures.gives s new (in_state s (with_macro s.readtables c.as_slice.result.now c.in_ok-c.c c.in_ok-function-2.function c.is_given.result)) c.set_macro-made.ensures.gives)))
+    (subst (λ said. Answers done c.changed.result new (value_after s t said)) (λ i. state_with_readtables s (with_macro s.readtables (name_is i) c.in_ok-c.c (c.in_ok-function-2.ensures.0 i) (c.is_given.ensures i)))
+    (c.changed.ensures.gives s new (state_with_readtables s (with_macro s.readtables c.as_slice.result.now c.in_ok-c.c c.in_ok-function-2.function c.is_given.result)) c.set_macro-made.ensures.gives)))

@@ -1,6 +1,6 @@
 use Rattle.std.proofs.Common.{false, [], ◌∷◌, List, refl, sym, subst, ◌∙◌, ◌-◌, arith, IfOk, IfSome, length, ◌<◌}
 use Rattle.lisp_object.specs.Object.{Object}
-use Rattle.lisp_reading.specs.declared.found.Found.TheVariants.{One as one}
+use Rattle.lisp_reading.specs.declared.attempt.Found.TheVariants.{One as one}
 use Rattle.lisp_reading.specs.Plans.{gives}
 use Rattle.lisp_reading.specs.Reading.{attempt}
 use Rattle.plain_reader.specs.Coming.{ReadsOnAs}

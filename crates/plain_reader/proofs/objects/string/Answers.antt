@@ -2,7 +2,7 @@ use Rattle.std.proofs.Common.{◌≡◌, true, false, ◌∷◌, ◌+◌, ◌-�
 use Rattle.std.specs.List.{list_all}
 use Rattle.lisp_object.specs.Ascii.{is_ascii}
 use Rattle.lisp_object.specs.Object.{text}
-use Rattle.lisp_reading.specs.declared.found.Found.TheVariants.{One as one}
+use Rattle.lisp_reading.specs.declared.attempt.Found.TheVariants.{One as one}
 use Rattle.lisp_reading.specs.Plans.{gives}
 use Rattle.lisp_reading.specs.Reading.{attempt}
 use Rattle.plain_reader.specs.Coming.{ReadsOnAs}

@@ -1,5 +1,5 @@
 use Rattle.std.proofs.Common.{true, take, sym, subst, arith, IfSome}
-use Rattle.lisp_reading.specs.declared.found.Found.TheVariants.{One as one}
+use Rattle.lisp_reading.specs.declared.attempt.Found.TheVariants.{One as one}
 use Rattle.lisp_reading.specs.Plans.{gives}
 use Rattle.lisp_reading.specs.Reading.{attempt}
 use Rattle.plain_reader.specs.Coming.{ReadsOnAs}

@@ -1,6 +1,6 @@
 use Rattle.std.proofs.Common.{◌≡◌, ◌<◌, ◌≤◌, length, sym, subst, ◌∙◌, arith}
 use Rattle.std.proofs.lemmas.List.{length-map}
-use Rattle.plist_state.specs.RowIndexes.{order_of, orders, nth, IsRowIndex}
+use Rattle.plist_state.specs.RowIndexes.{order_of, orders, indexed_order, IsRowIndex}
 use Rattle.plist_state.proofs.Placing.{inserted}
 use Rattle.plist_state.proofs.Indexing.{nth_read, IsIndexed-next, below_next, passed}
 use Rattle.plist_state.proofs.row_index.index_of.Goals as goal
@@ -12,7 +12,7 @@ loop-place-preserved c =
     let i = c.indicator-indicator.result in
     let o = c.order-order.result in
     let less : n < length items = omega (arith, c.loop-place-test.true, c.len-count.ensures) in
-    let here : nth (orders items) n ≡ (i, o) = nth_read items n i o c.indicator-indicator.ensures c.order-order.ensures in
+    let here : indexed_order (orders items) n ≡ (i, o) = nth_read items n i o c.indicator-indicator.ensures c.order-order.ensures in
     let high : c.loop-place.next ≤ o = omega (arith, c.if-order-next.false) in
     let put = inserted c.loop-place.index.entries c.insert.new.self.entries i o c.in_ok-insert.ensures.entries in
     let new = sym c.contains_key.ensures ∙ c.if-contains_key.false in

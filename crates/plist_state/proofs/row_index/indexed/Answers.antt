@@ -1,5 +1,5 @@
 use Rattle.std.proofs.Common.{◌≡◌, ℕ, refl, sym, ap, ◌∙◌}
-use Rattle.plist_state.specs.RowIndexes.{orders, nth}
+use Rattle.plist_state.specs.RowIndexes.{orders, indexed_order}
 use Rattle.plist_state.proofs.Indexing.{nth_is, unknown, unmatched, mismatched, matched}
 use Rattle.plist_state.proofs.row_index.indexed.Goals as goal
 
@@ -14,12 +14,12 @@ pub returns-then-indicator : goal.returns-then-indicator
 returns-then-indicator c =
     let items = c.args.row.now.items in
     let found = c.in-Some-by_order.ensures.found in
-    let here : (nth (orders items) c.in-Some-by_order.place).0 ≡ c.indicator.result = ap (λ (e : ℕ × ℕ). e.0) (nth_is items c.in-Some-by_order.place) ∙ sym c.indicator.ensures in
+    let here : (indexed_order (orders items) c.in-Some-by_order.place).0 ≡ c.indicator.result = ap (λ (e : ℕ × ℕ). e.0) (nth_is items c.in-Some-by_order.place) ∙ sym c.indicator.ensures in
     sym (matched c.args.index.now.entries items c.requires c.args.indicator c.in-Some.order.now (sym c.in-Some.ensures.value) c.in-Some-by_order.place found.0 found.1 (here ∙ c.if-indicator.true))
 
 pub returns-else-indicator : goal.returns-else-indicator
 returns-else-indicator c =
     let items = c.args.row.now.items in
     let found = c.in-Some-by_order.ensures.found in
-    let here : (nth (orders items) c.in-Some-by_order.place).0 ≡ c.indicator.result = ap (λ (e : ℕ × ℕ). e.0) (nth_is items c.in-Some-by_order.place) ∙ sym c.indicator.ensures in
+    let here : (indexed_order (orders items) c.in-Some-by_order.place).0 ≡ c.indicator.result = ap (λ (e : ℕ × ℕ). e.0) (nth_is items c.in-Some-by_order.place) ∙ sym c.indicator.ensures in
     sym (mismatched c.args.index.now.entries items c.requires c.args.indicator c.in-Some.order.now (sym c.in-Some.ensures.value) c.in-Some-by_order.place found.0 found.1 (λ same. c.if-indicator.false (sym here ∙ same)))

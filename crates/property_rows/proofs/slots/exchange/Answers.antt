@@ -1,7 +1,7 @@
 use Rattle.std.proofs.Common.{get_or, set, refl, ap, ◌∙◌, arith}
 use Rattle.property_rows.specs.declared.slot.Slot.{Slot}
 use Rattle.property_rows.specs.declared.property.NumberedProperty.{NumberedProperty}
-use Rattle.property_rows.specs.Slots.{there, no_property, with_value}
+use Rattle.property_rows.specs.Slots.{present_properties, no_property, with_value}
 use Rattle.property_rows.proofs.Written.{within, read_holds, exchanged, written_slots}
 use Rattle.property_rows.proofs.slots.exchange.Goals as goal
 
@@ -29,5 +29,5 @@ returns-clause-items c =
     let s : Slot = get_or c.args.slots.now c.place-at.result c.index-slots-at.result in
     let read = ap (get_or c.args.slots.now c.place-at.result) c.index-slots-at.is in
     exchanged c.args.slots.now c.args.index c.place-at.result c.requires.index c.place-at.ensures s (record { indicator = s.indicator; gone = s.gone; order = s.order; value = c.replace.new.dest }) read refl
-    ∙ ap (λ (p : NumberedProperty). set (there c.args.slots.now) c.args.index (with_value p c.replace.new.dest)) (read_holds c.args.slots.now c.args.index c.place-at.result c.requires.index c.place-at.ensures s read)
-    ∙ ap (λ v. set (there c.args.slots.now) c.args.index (with_value (get_or (there c.args.slots.now) c.args.index no_property) v)) c.replace.ensures.after
+    ∙ ap (λ (p : NumberedProperty). set (present_properties c.args.slots.now) c.args.index (with_value p c.replace.new.dest)) (read_holds c.args.slots.now c.args.index c.place-at.result c.requires.index c.place-at.ensures s read)
+    ∙ ap (λ v. set (present_properties c.args.slots.now) c.args.index (with_value (get_or (present_properties c.args.slots.now) c.args.index no_property) v)) c.replace.ensures.after

@@ -4,9 +4,9 @@ use Rattle.std.specs.Prelude.{IsFalse, Ok}
 use Rattle.lisp_object.specs.Object.{text}
 use Rattle.readtable_core.specs.Names.{is_dispatch_name}
 use Rattle.readtable_core.specs.Tables.{entry_at}
-use Rattle.readtable_core.specs.Changes.{with_character_entry, with_function}
+use Rattle.readtable_core.specs.Changes.{with_character_entry, with_dispatch_function}
 use Rattle.package_table.specs.Table.{keyword}
-use Rattle.plist_state.specs.Changes.{in_state, with_dispatch, with_sub_function}
+use Rattle.plist_state.specs.Changes.{state_with_readtables, with_dispatch, with_sub_function}
 use Rattle.plist_state.specs.Sound.{IsSymbol}
 use Rattle.world_text.specs.Snapshot.{number}
 use Rattle.snapshot_text.proofs.ReadParts.{item_count, two_items}
@@ -44,8 +44,8 @@ returns c = λ proper t sub f e may w dispatching.
     let named : c.in_ok-function.function ≡ f = c.in_ok-function.ensures two.second_proper f two.second may.name in
     let coded : c.in_ok-sub.sub ≡ sub = c.in_ok-sub.ensures.read two.first_proper sub two.first may.character in
     let s = c.args.world.now.0 in
-    let said = changed_to s c.args.table.now t (with_character_entry t c.args.c (with_function (entry_at t c.args.c) sub f)) (λ t. with_sub_function t c.args.c sub f) w
+    let said = changed_to s c.args.table.now t (with_character_entry t c.args.c (with_dispatch_function (entry_at t c.args.c) sub f)) (λ t. with_sub_function t c.args.c sub f) w
     (dispatched_is s.packages t c.args.c sub f may dispatching) in
-    let gives : in_state s (with_dispatch s.readtables c.args.table.now c.args.c sub f) ≡ Ok c.set_dispatch.new.self.0 =
-    (λ i. in_state s (with_dispatch s.readtables c.args.table.now c.args.c (sym coded i) (sym named i))) ∙ c.in_ok-set_dispatch.ensures.gives in
+    let gives : state_with_readtables s (with_dispatch s.readtables c.args.table.now c.args.c sub f) ≡ Ok c.set_dispatch.new.self.0 =
+    (λ i. state_with_readtables s (with_dispatch s.readtables c.args.table.now c.args.c (sym coded i) (sym named i))) ∙ c.in_ok-set_dispatch.ensures.gives in
     same_ok c.set_dispatch.new.self.0 _ _ gives said

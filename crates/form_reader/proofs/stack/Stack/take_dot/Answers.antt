@@ -1,5 +1,5 @@
 use Rattle.std.proofs.Common.{sym, rules}
-use Rattle.lisp_reading.specs.declared.found.Found.TheVariants.{LoneDot as lone_dot}
+use Rattle.lisp_reading.specs.declared.attempt.Found.TheVariants.{LoneDot as lone_dot}
 use Rattle.form_reader.proofs.Stacks.{last_takes}
 use Rattle.form_reader.proofs.stack.Stack.take_dot.Goals as goal
 

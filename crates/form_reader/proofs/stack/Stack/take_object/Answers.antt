@@ -1,5 +1,5 @@
 use Rattle.std.proofs.Common.{sym, rules}
-use Rattle.lisp_reading.specs.declared.found.Found.TheVariants.{One as one}
+use Rattle.lisp_reading.specs.declared.attempt.Found.TheVariants.{One as one}
 use Rattle.form_reader.proofs.Stacks.{last_takes, taken_so}
 use Rattle.form_reader.proofs.stack.Stack.take_object.Goals as goal
 

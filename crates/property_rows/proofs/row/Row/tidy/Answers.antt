@@ -1,5 +1,5 @@
 use Rattle.std.proofs.Common.{min, sym, ap, subst, ◌∙◌, arith}
-use Rattle.property_rows.specs.Slots.{IsSlots, there, most_slots}
+use Rattle.property_rows.specs.Slots.{IsSlots, present_properties, most_slots}
 use Rattle.property_rows.specs.Rows.{PropertyRow, room}
 use Rattle.property_rows.proofs.Packed.{packed-there}
 use Rattle.property_rows.proofs.Written.{packed_slots}
@@ -11,7 +11,7 @@ invariant_of-self c = subst IsSlots (sym c.pack.ensures.items) (packed_slots c.s
 
 pub returns-then-gone-len-clause-items : goal.returns-then-gone-len-clause-items
 returns-then-gone-len-clause-items c =
-    ap there c.pack.ensures.items ∙ packed-there c.self.inside.slots.items ∙ ap (λ (row : PropertyRow). row.items) c.self.view_is
+    ap present_properties c.pack.ensures.items ∙ packed-there c.self.inside.slots.items ∙ ap (λ (row : PropertyRow). row.items) c.self.view_is
 
 pub returns-then-gone-len-clause-room : goal.returns-then-gone-len-clause-room
 returns-then-gone-len-clause-room c =

@@ -1,7 +1,7 @@
 use Rattle.std.proofs.Common.{◌≡◌, Ok, subst}
 use Rattle.package_table.specs.Resolving.{found_at, resolution, resolution_of}
 use Rattle.package_table.specs.Table.{Name, Table}
-use Rattle.plain_reader.proofs.written.finds_lisp.Goals as goal
+use Rattle.plain_reader.proofs.property_forms.finds_lisp.Goals as goal
 
 pub returns-in-Ok-Found : goal.returns-in-Ok-Found
 returns-in-Ok-Found c = λ same.

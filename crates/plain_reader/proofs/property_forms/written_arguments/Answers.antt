@@ -2,7 +2,7 @@ use Rattle.lisp_object.specs.Object.{symbol}
 use Rattle.plain_reader.specs.Written.{quote_of}
 use Rattle.plain_reader.proofs.WrittenItems.{two_end}
 use Rattle.plain_reader.proofs.Fronts.{front}
-use Rattle.plain_reader.proofs.written.written_arguments.Goals as goal
+use Rattle.plain_reader.proofs.property_forms.written_arguments.Goals as goal
 
 pub returns-in-len1-up-clause-takes : goal.returns-in-len1-up-clause-takes
 returns-in-len1-up-clause-takes c = λ room h i some one two.

@@ -1,7 +1,7 @@
 use Rattle.std.proofs.Common.{refl, sym, subst}
 use Rattle.lisp_object.specs.Object.{IsSound, nil}
 use Rattle.lisp_object.proofs.Sound.{sound_pairs, sound_nil}
-use Rattle.lisp_reading.proofs.held.HeldObjects.into_list.Goals as goal
+use Rattle.lisp_reading.proofs.held_objects.HeldObjects.into_list.Goals as goal
 
 pub invariant_of-result : goal.invariant_of-result
 invariant_of-result c = (

@@ -1,5 +1,5 @@
 use Rattle.lisp_reading.proofs.Homes.{in_ascii, inside_ascii, at_ascii}
-use Rattle.lisp_reading.proofs.told.named.Goals as goal
+use Rattle.lisp_reading.proofs.token_resolution.named.Goals as goal
 
 pub symbol_in-requires-clause-home : goal.symbol_in-requires-clause-home
 symbol_in-requires-clause-home c =

@@ -1,6 +1,6 @@
 use Rattle.std.proofs.Common.{◌-◌, arith}
 use Rattle.plain_reader.proofs.Writing.{both_operators, setf_written}
-use Rattle.plain_reader.proofs.written.written_setf.Goals as goal
+use Rattle.plain_reader.proofs.property_forms.written_setf.Goals as goal
 
 pub returns-clause-takes : goal.returns-clause-takes
 returns-clause-takes c = λ h i.

@@ -8,10 +8,10 @@ ghost use Rattle.token_scan.specs.Marks.{are_ascii};
 ghost use Rattle.token_meaning.specs.Folding.{folded_marks};
 ghost use Rattle.token_meaning.specs.Meanings.{meaning_of};
 ghost use Rattle.token_meaning.specs.Results.{is_ascii_name, view_meaning, IsProperNumber, HasAsciiName};
-ghost use Rattle.lisp_reading.specs.declared.told.ResolutionError.TheVariants.{OutOfMemory};
+ghost use Rattle.lisp_reading.specs.declared.token_resolution.ResolutionError.TheVariants.{OutOfMemory};
 ghost use Rattle.lisp_reading.specs.Naming.{named, symbol_at, symbol_in, told_meaning, TellsMeaning, view_resolved, view_home};
 
-use crate::held::HeldObject;
+use crate::held_objects::HeldObject;
 use lisp_object::Bytes;
 use package_table::standardized::KEYWORD;
 use package_table::{PackageError, Packages, Resolved};
@@ -37,7 +37,7 @@ pub enum ResolutionError {
 }
 
 impl From<AllocError> for ResolutionError {
-    ghost use Rattle.lisp_reading.specs.declared.told.ResolutionError.TheVariants.{OutOfMemory};
+    ghost use Rattle.lisp_reading.specs.declared.token_resolution.ResolutionError.TheVariants.{OutOfMemory};
 
     ghost from_gives = { λ _ e. e ≡ OutOfMemory };
 

@@ -1,5 +1,5 @@
-//! SETF of the property of two quoted symbols to a literal, by the names that stand in the text: no name is made, and none is
-//! sought but those of the operators.
+//! GET of the property of two quoted symbols, and SETF of it to a literal, by the names that stand in the text: no name is made,
+//! and none is sought but those of the operators.
 //! None says that the text is to be read as any other, and nothing of what it means.
 ghost use Rattle.std.specs.Prelude.{◌≡◌, ◌∷◌, ◌<◌, [], ℕ, codes, length, true, false, IfOk, IfSome, IsTrue};
 ghost use Rattle.std.specs.List.{list_all, list_any};
@@ -58,11 +58,13 @@ pub(crate) fn written_setf<'a>(
     requires { IsTrue with.now.quotes }
     ensures takes { (h i : Name) → IfOk result (λ found. IfSome found
         (λ t. FindsSymbol with.now h t.symbol.now → FindsSymbol with.now i t.indicator.now
-        → TakesObject with.now room (40 ∷ text.now) false (setf_at h t.symbol.now i t.indicator.now t.literal) t.rest.now)) }
+        → TakesObject with.now room (40 ∷ text.now) false
+        (setf_at h t.symbol.now i t.indicator.now t.literal) t.rest.now)) }
     ensures known { IfOk result (λ found. IfStill known.old known.new
         (IfSome found (λ t. AreSymbolsThere with.now (literal_of t.literal)))) }
     ensures operators { IfOk result (λ found. IfSome found
-        (λ _. AreSymbolsThere with.now (lisp (codes "SETF")) × AreSymbolsThere with.now (lisp (codes "GET")))) }
+        (λ _. AreSymbolsThere with.now (lisp (codes "SETF"))
+        × AreSymbolsThere with.now (lisp (codes "GET")))) }
     ensures names { IfOk result (λ found. IfSome found
         (λ t. (list_all is_ascii t.symbol.now ≡ true) × (list_all is_ascii t.indicator.now ≡ true))) }
     ensures shorter { IfOk result (λ found. IfSome found
@@ -90,7 +92,8 @@ fn written_assignment<'a>(
     requires room { 1 < room }
     ensures takes { (h i : Name) → IfOk result (λ found. IfSome found
         (λ t. FindsSymbol with.now h t.symbol.now → FindsSymbol with.now i t.indicator.now
-        → EndsList with.now room text.now (get_form_at h t.symbol.now i t.indicator.now ∷ literal_of t.literal ∷ []) t.rest.now)) }
+        → EndsList with.now room text.now
+        (get_form_at h t.symbol.now i t.indicator.now ∷ literal_of t.literal ∷ []) t.rest.now)) }
     ensures known { IfOk result (λ found. IfStill known.old known.new
         (IfSome found (λ t. AreSymbolsThere with.now (literal_of t.literal)))) }
     ensures operator { IfOk result (λ found. IfSome found
@@ -154,7 +157,8 @@ pub(crate) fn written_place<'a>(
     requires room { 1 < room }
     ensures takes { (h i : Name) → IfSome result
         (λ p. FindsSymbol with.now h p.symbol.now → FindsSymbol with.now i p.indicator.now
-        → TakesObject with.now room (40 ∷ text.now) false (get_form_at h p.symbol.now i p.indicator.now) p.rest.now) }
+        → TakesObject with.now room (40 ∷ text.now) false
+        (get_form_at h p.symbol.now i p.indicator.now) p.rest.now) }
     ensures operator { IfSome result (λ _. AreSymbolsThere with.now (lisp (codes "GET"))) }
     ensures names { IfSome result
         (λ p. (list_all is_ascii p.symbol.now ≡ true) × (list_all is_ascii p.indicator.now ≡ true)) }

@@ -1,7 +1,7 @@
 use Rattle.std.proofs.Common.{refl, sym, ◌∙◌, ◌-◌, take, drop, length, get_or}
 use Rattle.plain_reader.proofs.WrittenItems.{fronts}
 use Rattle.plain_reader.proofs.Writing.{place_spaced}
-use Rattle.plain_reader.proofs.written.spaced_written.Goals as goal
+use Rattle.plain_reader.proofs.property_forms.spaced_written.Goals as goal
 
 pub returns-in-len2-up-clause-takes : goal.returns-in-len2-up-clause-takes
 returns-in-len2-up-clause-takes c = λ h i.

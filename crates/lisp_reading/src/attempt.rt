@@ -1,5 +1,5 @@
 //! What an attempt at an object comes to.
-use crate::held::HeldObject;
+use crate::held_objects::HeldObject;
 
 /// What an attempt at an object comes to. The tests say whether its last part is a token: then one whitespace character that
 /// ended it is discarded with it.

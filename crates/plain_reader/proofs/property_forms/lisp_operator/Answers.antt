@@ -1,5 +1,5 @@
 use Rattle.plain_reader.proofs.Writing.{operator_taken, word_shortens}
-use Rattle.plain_reader.proofs.written.lisp_operator.Goals as goal
+use Rattle.plain_reader.proofs.property_forms.lisp_operator.Goals as goal
 
 pub returns-then-is_lisp-clause-takes : goal.returns-then-is_lisp-clause-takes
 returns-then-is_lisp-clause-takes c = λ room.

@@ -1,7 +1,7 @@
 use Rattle.std.proofs.Common.{take, sym, ◌∙◌}
 use Rattle.plain_reader.proofs.Runs.{parts_ascii}
 use Rattle.plain_reader.proofs.Writing.{name_taken, word_shortens}
-use Rattle.plain_reader.proofs.written.written_name.Goals as goal
+use Rattle.plain_reader.proofs.property_forms.written_name.Goals as goal
 
 pub returns-else-has_lower-clause-takes : goal.returns-else-has_lower-clause-takes
 returns-else-has_lower-clause-takes c = λ room home found.

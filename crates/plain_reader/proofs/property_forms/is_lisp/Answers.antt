@@ -7,7 +7,7 @@ use Rattle.plain_reader.specs.Tokens.{IsToken}
 use Rattle.plain_reader.specs.Words.{is_word}
 use Rattle.plain_reader.proofs.There.{found_there}
 use Rattle.plain_reader.proofs.Writing.{capital_token}
-use Rattle.plain_reader.proofs.written.is_lisp.Goals as goal
+use Rattle.plain_reader.proofs.property_forms.is_lisp.Goals as goal
 
 pub returns-then-is_name-clause-token : goal.returns-then-is_name-clause-token
 returns-then-is_name-clause-token c = λ finds.

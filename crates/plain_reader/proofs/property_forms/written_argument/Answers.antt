@@ -1,7 +1,7 @@
 use Rattle.std.proofs.Common.{refl, sym, ◌∙◌, ◌-◌, take, drop, length, get_or}
 use Rattle.plain_reader.proofs.WrittenItems.{fronts}
 use Rattle.plain_reader.proofs.Writing.{quoted_name}
-use Rattle.plain_reader.proofs.written.written_argument.Goals as goal
+use Rattle.plain_reader.proofs.property_forms.written_argument.Goals as goal
 
 pub returns-in-len2-up-clause-takes : goal.returns-in-len2-up-clause-takes
 returns-in-len2-up-clause-takes c = λ room home some.

@@ -3,7 +3,7 @@ use Rattle.plain_reader.specs.Written.{literal_of, TakesItems, get_form_at}
 use Rattle.plain_reader.specs.Plain.{AreSymbolsThere, IfStill}
 use Rattle.plain_reader.proofs.WrittenItems.{two_end}
 use Rattle.plain_reader.proofs.Fronts.{front}
-use Rattle.plain_reader.proofs.written.written_assignment.Goals as goal
+use Rattle.plain_reader.proofs.property_forms.written_assignment.Goals as goal
 
 pub returns-in-len1-up-clause-takes : goal.returns-in-len1-up-clause-takes
 returns-in-len1-up-clause-takes c = λ h i one two.
