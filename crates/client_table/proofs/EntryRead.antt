@@ -14,7 +14,7 @@ use Rattle.user_macros.specs.Functions.{Functions}
 use Rattle.canon_printer.specs.Names as names
 use Rattle.canon_printer.specs.Written.{printed_text}
 use Rattle.lisp_reading.specs.declared.limits.Limits.{Limits}
-use Rattle.lisp_reading.specs.declared.found.Found.TheVariants.{One as one}
+use Rattle.lisp_reading.specs.declared.attempt.Found.TheVariants.{One as one}
 use Rattle.lisp_reading.specs.Setting.{Setting, setting_of}
 use Rattle.lisp_reading.specs.Reading.{form, outcome, reads, reads_at}
 use Rattle.lisp_reading.proofs.Forms.{reads_is}

@@ -15,5 +15,4 @@ pub mod Settling
 mod Shapes
 mod Spaces
 mod StayingForms
-mod StayingOperators
 mod StayingSymbols

@@ -7,28 +7,23 @@ use Rattle.std.specs.FinMap as finite
 use Rattle.std.proofs.lemmas.Bool.{false≢true}
 use Rattle.std.proofs.lemmas.List.Elements.{All-head, All-tail}
 use Rattle.client_table.specs.Entries.{HasEntrySymbols, entry_property, message_symbol, table_package}
-use Rattle.client_table.proofs.StayingSymbols.{Stay, StayAfter, StayInterned, StayMany, each_stays, intern_stays, stay_same}
-use Rattle.client_table.proofs.StayingOperators.{Kept, Keeps, IsKeeping, list_keeps, get_keeps, set_keeps, remove_keeps, symbol_plist_keeps, increment_keeps, push_keeps, make_keeps, enter_keeps, intern_keeps, export_keeps, import_keeps, use_keeps, case_keeps, set_case_keeps, copy_keeps, enter_readtable_keeps, set_syntax_keeps, set_macro_keeps, get_macro_keeps, make_dispatch_keeps, set_dispatch_keeps, get_dispatch_keeps, set_base_keeps}
-use Rattle.evaluator.specs.Value.{value}
-use Rattle.evaluator.proofs.FunctionLaws.{computed_keeps}
-use Rattle.evaluator.proofs.Induction.{Operators, Steps, every_value}
+use Rattle.client_table.proofs.StayingSymbols.{Stay, StayAfter, StayInterned, each_stays, export_stays, import_stays, intern_stays, make_stays, stay_same, use_stays}
 use Rattle.forgotten_names.specs.WorldsWithoutNames.{without_unneeded_symbols}
 use Rattle.forgotten_names.specs.NeededSymbols.{plist_symbols, stands_among}
 use Rattle.forgotten_names.proofs.ForgottenSound.{symbol_stays}
 use Rattle.forgotten_names.proofs.Members.{among_itself, among_later, among_left, among_right}
 use Rattle.forgotten_names.proofs.NeededSymbols.{in_list}
-use Rattle.form_eval.specs.Acceptance.{accept, accepted_by as accepted_with, after_symbol_interned, is_new_symbol, packages_of_interning, with_symbols_interned}
+use Rattle.form_eval.specs.Acceptance.{accept, after_symbol_interned, is_new_symbol, packages_of_interning}
 use Rattle.lisp_object.specs.Object.{Object}
 use Rattle.lisp_operators.specs.Evaluation.{Evaluation}
-use Rattle.lisp_operators.proofs.Keeping.{keeps_also, keeps_then}
-use Rattle.lisp_operators.proofs.LookUpLaws.{look_up_keeps}
-use Rattle.lisp_operators.proofs.PlaceLaws.{change_keeps}
+use Rattle.lisp_operators.proofs.Keeping.{Keeps}
+use Rattle.message_laws.proofs.KeptForms.{accepted_keeps}
+use Rattle.message_laws.proofs.KeptOperators.{HoldsOfChanges}
 use Rattle.lisp_reading.specs.Reading.{ReadingResult as Reading, form, empty, refused}
 use Rattle.package_table.specs.declared.error.PackageError.{PackageError}
-use Rattle.package_table.specs.Changes.{after_intern}
+use Rattle.package_table.specs.Changes.{after_export, after_import, after_intern, after_use, export_changes, import_changes, use_changes}
 use Rattle.package_table.specs.Symbols.{symbols}
 use Rattle.package_table.specs.Table.{Name, Table}
-use Rattle.plist_state.specs.Changes.{with_packages}
 use Rattle.plist_state.specs.Properties.{Plist, Symbol, list_at, same_symbol, value_at}
 use Rattle.plist_state.specs.Sound.{IsSoundWorldState, IsSymbol}
 use Rattle.plist_state.specs.State.{WorldState}
@@ -39,84 +34,27 @@ use Rattle.prevalence_store.specs.meaning.Forgetting.{forgetting, held_symbols, 
 use Rattle.session_words.specs.declared.mode.Mode.{Mode}
 use Rattle.user_macros.specs.Functions.{Functions}
 
-both : (s t u : WorldState) → Kept s t → Kept t u → Kept s u
-both s t u first second = λ m there. second m (first m there)
-
-same : (s : WorldState) → Kept s s
-same s = λ m there. there
+-- these symbols stay
+abbrev Kept : WorldState → WorldState → Type 0
+Kept s t = Stay s.packages t.packages
 
 table_stays : (t : Table) (r : Result (Name × Table) PackageError) → StayInterned t r → StayAfter t (packages_of_interning r)
 table_stays t (Ok p) stays = stays
 table_stays t (Err e) stays = tt
 
-symbols_stay : (t : Table) (ys : List Symbol) → StayMany t (with_symbols_interned t ys)
-symbols_stay t ys = each_stays after_symbol_interned is_new_symbol (λ u y. table_stays u (after_intern u y.0 y.1) (intern_stays u y.0 y.1)) t false ys
-
-module _ (names : List Name) where
-  abbrev Asks : WorldState → Object → Type 0
-  Asks s x = Unit {0}
-
-  operators : Operators true names Asks Keeps Keeps IsKeeping
-  operators = record {
-    lists = list_keeps;
-    gets = get_keeps;
-    sets = set_keeps;
-    removes = remove_keeps;
-    plists = symbol_plist_keeps;
-    increments = increment_keeps;
-    pushes = push_keeps;
-    makes = make_keeps;
-    exports = export_keeps;
-    imports = import_keeps;
-    uses = use_keeps;
-    interns = intern_keeps;
-    cases = case_keeps;
-    sets_case = set_case_keeps;
-    copies = copy_keeps;
-    enters = enter_readtable_keeps;
-    sets_syntax = set_syntax_keeps;
-    sets_macro = set_macro_keeps names;
-    gets_macro = get_macro_keeps;
-    makes_dispatch = make_dispatch_keeps;
-    sets_dispatch = set_dispatch_keeps names;
-    gets_dispatch = get_dispatch_keeps;
-    sets_base = λ _. set_base_keeps;
-    computes = λ function xs s. computed_keeps Kept function xs s (same s);
-    looks_up = look_up_keeps Kept same;
-    changes_place = change_keeps Kept (λ s x i v. same s);
-  }
-
-  steps : Steps true names Asks Keeps Keeps IsKeeping
-  steps = record {
-    operators = operators;
-    last_one = λ xs later. record { kept = same later };
-    first_one = λ xs later. record { kept = same later };
-    in_package = λ s x asked _. enter_keeps x s;
-    refused = λ s code _. record { kept = tt };
-    all_refused = λ s code _. record { kept = tt };
-    itself = λ s x _. record { kept = same s };
-    nothing = λ s asked _. record { kept = same s };
-    truth = λ s asked _. record { kept = same s };
-    current_package = λ s asked _. record { kept = same s };
-    current_readtable = λ s asked _. record { kept = same s };
-    read_base = λ s asked _. record { kept = same s };
-    none = λ s asked _. record { kept = same s };
-    parts = λ s a b _. (tt, tt);
-    one_more = λ s o others is each. keeps_then Kept both s o _ is (λ y t. keeps_then Kept both t (others t) _ (each t (λ _ _. tt)) (λ ys end'. record { kept = same end' }));
-    more = λ s o others is each. keeps_then Kept both s o _ is (λ xs t. keeps_then Kept both t (others t) _ (each t (λ _ _. tt)) (λ ys end'. record { kept = same end' }));
-    then_one = λ s o next is each. keeps_then Kept both s o next is (λ y t. each y t (λ _ _. tt) (record { kept = same t }));
-    of_values = λ s o function is keeps. keeps_then Kept both s o function is keeps;
-  }
-
-  value_stays : (s : WorldState) (x : Object) → Keeps s (value names s x)
-  value_stays s x = every_value true names Asks Keeps Keeps IsKeeping steps s x tt
-
-  after_symbols : (s : WorldState) (r : Result (Table × Bool) PackageError) (x : Object) → StayMany s.packages r → Keeps s (accepted_with true names s r x)
-  after_symbols s (Ok p) x stays = keeps_also Kept both s p.1 (with_packages s p.0) (value names (with_packages s p.0) x) stays (value_stays (with_packages s p.0) x)
-  after_symbols s (Err e) x stays = record { kept = tt }
-
-  accepted_stays : (s : WorldState) (x : Object) → Keeps s (accept names s x)
-  accepted_stays s x = after_symbols s (with_symbols_interned s.packages (symbols x)) x (symbols_stay s.packages (symbols x))
+staying_changes : HoldsOfChanges Kept
+staying_changes = record {
+  both = λ s t u first second m there. second m (first m there);
+  still = λ s t properties packages. subst (Stay s.packages) (sym packages) (stay_same s.packages);
+  put = λ s x i v. stay_same s.packages;
+  removed = λ s x i. stay_same s.packages;
+  make = λ s n. make_stays s.packages n;
+  intern = λ s p n. intern_stays s.packages p n;
+  interns = λ s xs. each_stays after_symbol_interned is_new_symbol (λ u y. table_stays u (after_intern u y.0 y.1) (intern_stays u y.0 y.1)) s.packages false xs;
+  exports = λ s p xs. each_stays (λ v y. after_export v p y.0 y.1) (λ v y. export_changes v p y.1) (λ v y. export_stays v p y.0 y.1) s.packages false xs;
+  imports = λ s p xs. each_stays (λ v y. after_import v p y.0 y.1) (λ v y. import_changes v p y.1) (λ v y. import_stays v p y.0 y.1) s.packages false xs;
+  uses = λ s p qs. each_stays (λ v q. after_use v p q) (λ v q. use_changes v p q) (λ v q. use_stays v p q) s.packages false qs;
+}
 
 -- ---- an entry has its symbols
 
@@ -177,7 +115,7 @@ module _ (s : WorldState) (name : List ℕ) where
     HasAfter (Ok d) = HasEntrySymbols d.state name
     HasAfter (Err number) = Unit {0}
 
-    of_kept : (o : Evaluation Object) → Keeps s o → HasAfter o
+    of_kept : (o : Evaluation Object) → Keeps Kept s o → HasAfter o
     of_kept (Ok d) keeps = kept_has d.state keeps.kept has
     of_kept (Err number) keeps = tt
 
@@ -186,7 +124,7 @@ module _ (s : WorldState) (name : List ℕ) where
       where
         by_test : (forgets : Bool) → HasAfter (if forgets then forgetting s else accept names s x)
         by_test true = forgotten_has has some
-        by_test false = of_kept (accept names s x) (accepted_stays names s x)
+        by_test false = of_kept (accept names s x) (accepted_keeps names Kept staying_changes s x)
 
     of_evaluation : (own : List ℕ) (o : Evaluation Object) → HasAfter o → HasEntrySymbols (world_left_after s (acceptance_of own o)) name
     of_evaluation own (Ok d) after = after

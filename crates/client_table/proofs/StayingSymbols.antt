@@ -1,7 +1,7 @@
 -- The symbols of the table's package stay there, whatever is done with packages.
 --     make_stays, intern_stays, import_stays, export_stays, use_stays      in one change
 --     each_stays      in changes one after the other
-use Rattle.std.proofs.Common.{◌≡◌, ◌≢◌, ◌⊎◌, ℕ, ◌||◌, Bool, true, false, not, if◌then◌else◌, List, [], ◌∷◌, length, bytes_eq, Option, Some, None, is_some, Result, Ok, Err, refl, sym, ap, subst, ◌∙◌, inl, inr}
+use Rattle.std.proofs.Common.{◌≡◌, ◌≢◌, ◌⊎◌, ℕ, ◌||◌, Bool, true, false, not, if◌then◌else◌, List, [], ◌∷◌, length, bytes_eq, Option, Some, None, is_some, Result, Ok, Err, IfOk, refl, sym, ap, subst, ◌∙◌, inl, inr}
 use Rattle.std.specs.Prelude.{◌==◌, nat_lt, option_and_then, option_map}
 use Rattle.std.specs.Option.{option_map_or}
 use Rattle.std.specs.FinMap as finite
@@ -53,16 +53,14 @@ entry_stays t p n e alike m there = elim (place_cases table_package m p n) [
 -- ---- one change
 
 abbrev pub StayAfter : Table → Result Table PackageError → Type 0
-StayAfter t (Ok u) = Stay t u
-StayAfter t (Err e) = Unit {0}
+StayAfter t r = IfOk r (λ later. Stay t later)
 
 -- where no symbol is found, none was present
 none_present : (t : Table) (p n : Name) → home_by_name t p n ≡ None → (e : Present) → (h : Name) → IsPresent t p n h → h ≡ e.home
 none_present t p n none e h there = absurd (let some : None ≡ Some h = sym none ∙ present_found t n p h there in cc)
 
 abbrev pub StayInterned : Table → Result (Name × Table) PackageError → Type 0
-StayInterned t (Ok p) = Stay t p.1
-StayInterned t (Err e) = Unit {0}
+StayInterned t r = IfOk r (λ made. Stay t made.1)
 
 new_stays : (t : Table) (p n : Name) → home_by_name t p n ≡ None → (locked full : Bool)
     → StayInterned t (if locked then Err PackageIsLocked else (if full then Err Limit else Ok (p, with_new_symbol t p n)))
@@ -147,8 +145,7 @@ use_stays t p q = by (not (finite.contains_key t p) || not (finite.contains_key 
 -- ---- changes one after the other
 
 abbrev pub StayMany : Table → Result (Table × Bool) PackageError → Type 0
-StayMany t (Ok p) = Stay t p.0
-StayMany t (Err e) = Unit {0}
+StayMany t r = IfOk r (λ made. Stay t made.0)
 
 since : (t u : Table) (r : Result (Table × Bool) PackageError) → Stay t u → StayMany u r → StayMany t r
 since t u (Ok p) first later = λ m there. later m (first m there)

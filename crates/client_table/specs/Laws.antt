@@ -10,7 +10,7 @@ use Rattle.message_laws.specs.NearRounds.{Near}
 use Rattle.messages.specs.MessageAnswers.{Round, without_its_position}
 use Rattle.user_macros.specs.Functions.{Functions}
 
--- the same answer more in both, and then their worlds are the same but for the position, and their last numbers
+-- Two rounds got one answer more, the same in both. After it their last numbers are equal, and their worlds but for the position.
 pub record AreAnsweredAlike (a b later other : Round) : Type 0 where
   pub answer : List ℕ × Bool
   pub here : later.told ≡ a.told ++ answer ∷ []

@@ -241,7 +241,8 @@ pub(crate) fn client_standing(
     name: &[u8],
 ) -> Standing
     ensures { result
-        ≡ client_standing number (option_map (λ form. form.now) form.entry) (entry_property world.now.0 name.now) }
+        ≡ client_standing number (option_map (λ form. form.now) form.entry)
+        (entry_property world.now.0 name.now) }
 {
     let Some(value) = entry_property(world, name) else {
         return Standing::New;

@@ -22,12 +22,15 @@ pub fn messages_have_one_answer()
     ensures again { (functions : Functions) (most number : ℕ)
         → (text form : List ℕ) (round : Round) (kept : KeptMessage)
         → is_client_name (client_name_in text) ≡ true → form_in text ≡ Some form
-        → entry (without_its_position round).left (client_name_in text) ≡ Some (number, kept) → is_of kept form ≡ true
-        → by_name functions most number text round ≡ with_answer (told_again kept) false (without_its_position round) }
+        → entry (without_its_position round).left (client_name_in text)
+        ≡ Some (number, kept) → is_of kept form ≡ true
+        → by_name functions most number text round
+        ≡ with_answer (told_again kept) false (without_its_position round) }
     ensures other { (functions : Functions) (most number : ℕ)
         → (text form : List ℕ) (round : Round) (kept : KeptMessage)
         → is_client_name (client_name_in text) ≡ true → form_in text ≡ Some form
-        → entry (without_its_position round).left (client_name_in text) ≡ Some (number, kept) → is_of kept form ≡ false
+        → entry (without_its_position round).left (client_name_in text)
+        ≡ Some (number, kept) → is_of kept form ≡ false
         → by_name functions most number text round
         ≡ with_answer (refusal_text IS_OTHER (codes "OTHER-TEXT")) false (without_its_position round) }
     ensures once { (functions : Functions) (most number last : ℕ)
@@ -38,8 +41,11 @@ pub fn messages_have_one_answer()
     ensures each_once { (functions : Functions) (most number last : ℕ)
         → (text form name : List ℕ) (round : Round) (kept : KeptMessage) (all : List AnyRequest)
         → client_name_in text ≡ name → is_client_name name ≡ true → form_in text ≡ Some form
-        → entry round.left name ≡ Some (last, kept) → LeaveEntryAlone functions most name round all → number ≤ last
-        → IsNotCarriedOut (each_asked functions most round all) (by_name functions most number text (each_asked functions most round all)) }
+        → entry round.left name ≡ Some (last, kept)
+        → LeaveEntryAlone functions most name round all → number ≤ last
+        → IsNotCarriedOut (each_asked functions most round all)
+        (by_name functions most number text (each_asked functions most round all)) }
     ensures one_order { (functions : Functions) (most number : ℕ) (text : List ℕ) (a b : Round)
-        → Near a b → AreAnsweredAlike a b (by_name functions most number text a) (by_name functions most number text b) }
+        → Near a b → AreAnsweredAlike a b (by_name functions most number text a)
+        (by_name functions most number text b) }
 {}

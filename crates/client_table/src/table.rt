@@ -44,7 +44,8 @@ pub(crate) fn answer_named<R: MacroFunctions>(
     named: &Named<'_>,
 ) -> Result<(), Unadded>
     ensures answered { OnOk result (round_in round.new world.new.0
-        ≡ by_name R.Meaning.functions most named.now.number named.now.text.now (round_in round.old world.old.0)) }
+        ≡ by_name R.Meaning.functions most named.now.number named.now.text.now
+        (round_in round.old world.old.0)) }
     ensures kept { OnOk result (KeepsAnswer (round_in round.old world.old.0) named.now
         (round_in round.new world.new.0)) }
     ensures made { OnOk result (StaysMade R.Meaning.functions
@@ -80,13 +81,15 @@ fn answer_by_table<R: MacroFunctions>(
 ) -> Result<(), Unadded>
     requires named { is_a_name message.name.now ≡ true }
     ensures answered { OnOk result ((round_in round.new world.new.0)
-        ≡ by_table R.Meaning.functions most message.entry.number message.entry.name.now (form_told message.entry) (round_in round.old world.old.0)) }
+        ≡ by_table R.Meaning.functions most message.entry.number message.entry.name.now
+        (form_told message.entry) (round_in round.old world.old.0)) }
     ensures kept { OnOk result (KeepsAnswerAt message.entry.number message.entry.name.now
         (form_told message.entry) (round_in round.old world.old.0) (round_in round.new world.new.0)) }
     ensures made { OnOk result (StaysMade R.Meaning.functions
         (round_in round.old world.old.0) (round_in round.new world.new.0)) }
     ensures refused { IfErr result (λ cause. IfRefused cause
-        (RefusesMessageAt R.Meaning.functions message.entry.name.now (form_told message.entry) (round_in round.old world.old.0))) }
+        (RefusesMessageAt R.Meaning.functions message.entry.name.now (form_told message.entry)
+        (round_in round.old world.old.0))) }
     ensures marks { (worlds : Worlds) → IsWorldMarked worlds world.old.1
         → IsWorldMarked worlds world.new.1 }
 {
@@ -162,13 +165,15 @@ fn answer_new<R: MacroFunctions>(
     requires named { is_a_name message.name.now ≡ true }
     requires none { entry_property world.old.0 message.name.now ≡ None }
     ensures answered { OnOk result ((round_in round.new world.new.0)
-        ≡ by_no_entry R.Meaning.functions most message.entry.number message.entry.name.now (form_told message.entry) (round_in round.old world.old.0)) }
+        ≡ by_no_entry R.Meaning.functions most message.entry.number message.entry.name.now
+        (form_told message.entry) (round_in round.old world.old.0)) }
     ensures kept { OnOk result (KeepsAnswerAt message.entry.number message.entry.name.now
         (form_told message.entry) (round_in round.old world.old.0) (round_in round.new world.new.0)) }
     ensures made { OnOk result (StaysMade R.Meaning.functions
         (round_in round.old world.old.0) (round_in round.new world.new.0)) }
     ensures refused { IfErr result (λ cause. IfRefused cause
-        (RefusesMessageAt R.Meaning.functions message.entry.name.now (form_told message.entry) (round_in round.old world.old.0))) }
+        (RefusesMessageAt R.Meaning.functions message.entry.name.now (form_told message.entry)
+        (round_in round.old world.old.0))) }
     ensures marks { (worlds : Worlds) → IsWorldMarked worlds world.old.1
         → IsWorldMarked worlds world.new.1 }
 {
@@ -209,7 +214,9 @@ fn admit<R: MacroFunctions>(
     ensures made { OnOk result (StaysMade R.Meaning.functions
         (round_in round.old world.old.0) (round_in round.new world.new.0)) }
     ensures refused { IfErr result (λ cause. IfRefused cause
-        (λ number. (form : List ℕ) → RefusesMessageAt R.Meaning.functions name.now (Some form) (round_in round.old world.old.0) number)) }
+        (λ number. (form : List ℕ)
+        → RefusesMessageAt R.Meaning.functions name.now (Some form)
+        (round_in round.old world.old.0) number)) }
     ensures marks { (worlds : Worlds) → IsWorldMarked worlds world.old.1
         → IsWorldMarked worlds world.new.1 }
 {
@@ -251,13 +258,15 @@ fn answer_later<R: MacroFunctions>(
     requires named { is_a_name message.name.now ≡ true }
     requires there { IsSome (entry_property world.old.0 message.name.now) }
     ensures answered { OnOk result ((round_in round.new world.new.0)
-        ≡ by_later R.Meaning.functions message.entry.number message.entry.name.now (form_told message.entry) (round_in round.old world.old.0)) }
+        ≡ by_later R.Meaning.functions message.entry.number message.entry.name.now (form_told message.entry)
+        (round_in round.old world.old.0)) }
     ensures kept { OnOk result (KeepsAnswerAt message.entry.number message.entry.name.now
         (form_told message.entry) (round_in round.old world.old.0) (round_in round.new world.new.0)) }
     ensures made { OnOk result (StaysMade R.Meaning.functions
         (round_in round.old world.old.0) (round_in round.new world.new.0)) }
     ensures refused { IfErr result (λ cause. IfRefused cause
-        (RefusesMessageAt R.Meaning.functions message.entry.name.now (form_told message.entry) (round_in round.old world.old.0))) }
+        (RefusesMessageAt R.Meaning.functions message.entry.name.now (form_told message.entry)
+        (round_in round.old world.old.0))) }
     ensures marks { (worlds : Worlds) → IsWorldMarked worlds world.old.1
         → IsWorldMarked worlds world.new.1 }
 {

@@ -70,15 +70,18 @@ impl FirstAsked<'_, '_> {
         requires none { (round_in round.old world.old.0).told ≡ [] }
         ensures answered { OnOk result (round_in round.new world.new.0
             ≡ all_answered R.Meaning.functions self.now.most (round_in round.old world.old.0)
-            (first_asked R.Meaning.functions self.now.most (Some ANSWER_BYTES) (round_in round.old world.old.0) self.now.asked.now)) }
+            (first_asked R.Meaning.functions self.now.most (Some ANSWER_BYTES)
+            (round_in round.old world.old.0) self.now.asked.now)) }
         ensures kept { OnOk result (KeepsAnswers R.Meaning.functions self.now.most
             (round_in round.old world.old.0)
-            (first_asked R.Meaning.functions self.now.most (Some ANSWER_BYTES) (round_in round.old world.old.0) self.now.asked.now)) }
+            (first_asked R.Meaning.functions self.now.most (Some ANSWER_BYTES)
+            (round_in round.old world.old.0) self.now.asked.now)) }
         ensures made { OnOk result (StaysMade R.Meaning.functions
             (round_in round.old world.old.0) (round_in round.new world.new.0)) }
         ensures refused { IfErr result (λ cause. IfRefused cause
             (RefusesAnyOwn R.Meaning.functions self.now.most (round_in round.old world.old.0)
-            (first_asked R.Meaning.functions self.now.most (Some ANSWER_BYTES) (round_in round.old world.old.0) self.now.asked.now))) }
+            (first_asked R.Meaning.functions self.now.most (Some ANSWER_BYTES)
+            (round_in round.old world.old.0) self.now.asked.now))) }
         ensures marks { (worlds : Worlds) → IsWorldMarked worlds world.old.1
             → IsWorldMarked worlds world.new.1 }
     {
@@ -98,15 +101,18 @@ impl FirstAsked<'_, '_> {
         requires none { (round_in round.old world.old.0).told ≡ [] }
         ensures answered { OnOk result (round_in round.new world.new.0
             ≡ each_asked R.Meaning.functions self.now.most (round_in round.old world.old.0)
-            (first_asked R.Meaning.functions self.now.most (Some ANSWER_BYTES) (round_in round.old world.old.0) self.now.asked.now)) }
+            (first_asked R.Meaning.functions self.now.most (Some ANSWER_BYTES)
+            (round_in round.old world.old.0) self.now.asked.now)) }
         ensures kept { OnOk result (KeepsAnswers R.Meaning.functions self.now.most
             (round_in round.old world.old.0)
-            (first_asked R.Meaning.functions self.now.most (Some ANSWER_BYTES) (round_in round.old world.old.0) self.now.asked.now)) }
+            (first_asked R.Meaning.functions self.now.most (Some ANSWER_BYTES)
+            (round_in round.old world.old.0) self.now.asked.now)) }
         ensures made { OnOk result (StaysMade R.Meaning.functions
             (round_in round.old world.old.0) (round_in round.new world.new.0)) }
         ensures refused { IfErr result (λ cause. IfRefused cause
             (RefusesAnyOwn R.Meaning.functions self.now.most (round_in round.old world.old.0)
-            (first_asked R.Meaning.functions self.now.most (Some ANSWER_BYTES) (round_in round.old world.old.0) self.now.asked.now))) }
+            (first_asked R.Meaning.functions self.now.most (Some ANSWER_BYTES)
+            (round_in round.old world.old.0) self.now.asked.now))) }
         ensures marks { (worlds : Worlds) → IsWorldMarked worlds world.old.1
             → IsWorldMarked worlds world.new.1 }
     {

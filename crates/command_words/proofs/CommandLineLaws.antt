@@ -18,9 +18,9 @@ use Rattle.command_words.specs.declared.words.Task.{Task}
 use Rattle.command_words.specs.declared.words.Report.TheVariants.{Dump, Verify}
 use Rattle.command_words.specs.declared.words.Task.TheVariants.{Export, Run, Snapshot, Tell, Upgrade}
 use Rattle.clap.specs.Walk.{Rule}
-use Rattle.command_words.specs.CommandLine.{task_of, AsksFor, AreCommandWords, IsNumberIn, IsTakenByLine, asked_in, asked_of, command_line, data_for, existing_for, faults_of, flag_for, given_number, group_for, missing_command, strict_for}
+use Rattle.command_words.specs.CommandLine.{task_of, AsksFor, AreCommandWords, IsNumberIn, IsTakenByLine, asked_in, asked_of, command_line, data_for, existing_for, faults_of, flag_for, given_number, group_for, missing_command, one_sync_for, strict_for}
 use Rattle.command_words.proofs.WordSteps.{command_is, command_of, faults_are, given, none_fails, rows_read, with_flag, Adds, HasCommand, WantsFolder}
-use Rattle.command_words.proofs.CommandSteps.{adds_bare, adds_content, adds_flags, adds_rescue_counting, asks_bare, asks_counting, asks_export, asks_run, bare_rules, bare_wants, counting, least, usual, export_rows, export_rules, export_wants, has_dump, has_export, has_run, has_snapshot, has_upgrade, has_verify, most, option_id, option_word, rescue_rows, run_rows, run_rules, run_wants, wanted_is, wanting, with_defaults}
+use Rattle.command_words.proofs.CommandSteps.{adds_bare, adds_content, adds_flags, adds_rescue_counting, adds_snapshot, asks_bare, asks_counting, asks_export, asks_run, asks_snapshot, bare_rules, bare_wants, counting, least, usual, export_rows, export_rules, export_wants, has_dump, has_export, has_run, has_snapshot, has_upgrade, has_verify, most, option_id, option_word, rescue_rows, run_rows, run_rules, run_wants, snapshot_rows, snapshot_rules, snapshot_wants, wanted_is, wanting, with_defaults}
 
 pub simple_line : is_simple command_line ≡ true
 unfolding clap_on_literals
@@ -53,17 +53,24 @@ module _ (program : Text) (x : ℕ) (xs : Text) (e : (x == 45) ≡ false) where
       right_words name bare_rules (existing_for existing) (with_flag (codes "existing") existing []) existing task has bare_wants (adds_bare (x ∷ xs) name existing)
       (asks_bare name (x ∷ xs) task is existing)
 
+  right_snapshot : (name : Text) (task : Task) → HasCommand command_line name (command_of name snapshot_rules) → ((rows : List Row) → task_of (name, rows) ≡ Some task) → (existing one : Bool)
+      → IsRight (program ∷ name ∷ (x ∷ xs) ∷ (existing_for existing ++ one_sync_for one)) (x ∷ xs) existing task
+  right_snapshot name task has is existing one =
+      right_words name snapshot_rules (existing_for existing ++ one_sync_for one) (snapshot_rows existing one) existing task has snapshot_wants (adds_snapshot (x ∷ xs) name existing one)
+      (asks_snapshot name (x ∷ xs) task is existing one)
+
   right_export : (content : Content) (existing : Bool)
       → IsRight (program ∷ codes "export" ∷ (x ∷ xs) ∷ (data_for content ++ existing_for existing)) (x ∷ xs) existing (Export content)
   right_export content existing =
       right_words (codes "export") export_rules (data_for content ++ existing_for existing) (export_rows content existing) existing (Export content) has_export export_wants
       (adds_content (x ∷ xs) content existing) (asks_export (x ∷ xs) content existing)
 
-  right_run : (mode : Mode) (strict group existing : Bool)
-      → IsRight (program ∷ codes "run" ∷ (x ∷ xs) ∷ (flag_for mode ++ (strict_for strict ++ (group_for group ++ existing_for existing)))) (x ∷ xs) existing (Run (wanting mode 0 10 strict group))
-  right_run mode strict group existing =
-      right_words (codes "run") run_rules (flag_for mode ++ (strict_for strict ++ (group_for group ++ existing_for existing))) (run_rows mode strict group existing) existing
-      (Run (wanting mode 0 10 strict group)) has_run run_wants (adds_flags (x ∷ xs) mode strict group existing) (asks_run (x ∷ xs) mode strict group existing)
+  right_run : (mode : Mode) (strict group existing one : Bool)
+      → IsRight (program ∷ codes "run" ∷ (x ∷ xs) ∷ (flag_for mode ++ (strict_for strict ++ (group_for group ++ (existing_for existing ++ one_sync_for one))))) (x ∷ xs) existing
+      (Run (wanting mode 0 10 strict group))
+  right_run mode strict group existing one =
+      right_words (codes "run") run_rules (flag_for mode ++ (strict_for strict ++ (group_for group ++ (existing_for existing ++ one_sync_for one)))) (run_rows mode strict group existing one) existing
+      (Run (wanting mode 0 10 strict group)) has_run run_wants (adds_flags (x ∷ xs) mode strict group existing one) (asks_run (x ∷ xs) mode strict group existing one)
 
   right_counting : (ratio : Bool) (y : ℕ) (ys : Text) → (y == 45) ≡ false → is_unsigned_in (least ratio) (most ratio) (y ∷ ys) ≡ true → (mode : Mode)
       → IsRight (program ∷ codes "run" ∷ (x ∷ xs) ∷ (flag_for mode ++ option_word ratio ∷ (y ∷ ys) ∷ [])) (x ∷ xs) false
@@ -109,23 +116,23 @@ module _ (program : Text) (x : ℕ) (xs : Text) (e : (x == 45) ≡ false) where
       (right_counting program x xs e ratio y ys (differs y 45 (no_hyphen y ys numeral)) (in_range y ys numeral (least ratio) (most ratio) n is above below (fits ratio n below)) mode)
 
   right_plain : (line : List Text) (existing : Bool) (task : Task) → AreCommandWords line (x ∷ xs) existing task → IsRight (program ∷ line) (x ∷ xs) existing task
-  right_plain line existing Snapshot is = rw is (right_bare program x xs e (codes "snapshot") Snapshot has_snapshot (λ rows. refl) existing)
-  right_plain line existing Upgrade is = rw is (right_bare program x xs e (codes "upgrade") Upgrade has_upgrade (λ rows. refl) existing)
+  right_plain line existing Snapshot (one, is) = rw is (right_snapshot program x xs e (codes "snapshot") Snapshot has_snapshot (λ rows. refl) existing one)
+  right_plain line existing Upgrade (one, is) = rw is (right_snapshot program x xs e (codes "upgrade") Upgrade has_upgrade (λ rows. refl) existing one)
   right_plain line existing (Export content) is = rw is (right_export program x xs e content existing)
   right_plain line existing (Tell Dump) is = rw is (right_bare program x xs e (codes "dump") (Tell Dump) has_dump (λ rows. refl) existing)
   right_plain line existing (Tell Verify) is = rw is (right_bare program x xs e (codes "verify") (Tell Verify) has_verify (λ rows. refl) existing)
-  right_plain line false (Run wanted) (inl ((none, no_ratio), line_is)) =
-      rw line_is (subst (λ (w : SessionOptions). IsRight (program ∷ codes "run" ∷ (x ∷ xs) ∷ (flag_for wanted.mode ++ (strict_for wanted.strict ++ (group_for wanted.group ++ [])))) (x ∷ xs) false (Run w))
-      (sym (wanted_is wanted 0 10 wanted.strict wanted.group none no_ratio refl refl)) (right_run program x xs e wanted.mode wanted.strict wanted.group false))
+  right_plain line false (Run wanted) (inl ((none, no_ratio), (one, line_is))) =
+      rw line_is (subst (λ (w : SessionOptions). IsRight (program ∷ codes "run" ∷ (x ∷ xs) ∷ (flag_for wanted.mode ++ (strict_for wanted.strict ++ (group_for wanted.group ++ one_sync_for one)))) (x ∷ xs) false (Run w))
+      (sym (wanted_is wanted 0 10 wanted.strict wanted.group none no_ratio refl refl)) (right_run program x xs e wanted.mode wanted.strict wanted.group false one))
   right_plain line false (Run wanted) (inr (lax, alone, (number, inl (is, no_ratio, line_is)))) =
       rw line_is (subst (λ (w : SessionOptions). IsRight (program ∷ codes "run" ∷ (x ∷ xs) ∷ (flag_for wanted.mode ++ option_word false ∷ number ∷ [])) (x ∷ xs) false (Run w))
       (sym (wanted_is wanted wanted.snapshot_every 10 false false refl no_ratio lax alone)) (right_number false wanted.mode number wanted.snapshot_every is))
   right_plain line false (Run wanted) (inr (lax, alone, (number, inr (is, none, line_is)))) =
       rw line_is (subst (λ (w : SessionOptions). IsRight (program ∷ codes "run" ∷ (x ∷ xs) ∷ (flag_for wanted.mode ++ option_word true ∷ number ∷ [])) (x ∷ xs) false (Run w))
       (sym (wanted_is wanted 0 wanted.snapshot_ratio false false none refl lax alone)) (right_number true wanted.mode number wanted.snapshot_ratio is))
-  right_plain line true (Run wanted) ((none, no_ratio), line_is) =
-      rw line_is (subst (λ (w : SessionOptions). IsRight (program ∷ codes "run" ∷ (x ∷ xs) ∷ (flag_for wanted.mode ++ (strict_for wanted.strict ++ (group_for wanted.group ++ existing_for true)))) (x ∷ xs) true (Run w))
-      (sym (wanted_is wanted 0 10 wanted.strict wanted.group none no_ratio refl refl)) (right_run program x xs e wanted.mode wanted.strict wanted.group true))
+  right_plain line true (Run wanted) ((none, no_ratio), (one, line_is)) =
+      rw line_is (subst (λ (w : SessionOptions). IsRight (program ∷ codes "run" ∷ (x ∷ xs) ∷ (flag_for wanted.mode ++ (strict_for wanted.strict ++ (group_for wanted.group ++ (existing_for true ++ one_sync_for one))))) (x ∷ xs) true (Run w))
+      (sym (wanted_is wanted 0 10 wanted.strict wanted.group none no_ratio refl refl)) (right_run program x xs e wanted.mode wanted.strict wanted.group true one))
 
 pub right_line : (words : List Text) (folder : Text) (existing : Bool) (task : Task) → AsksFor words folder existing task → IsRight words folder existing task
 right_line words [] existing task asks = absurd asks.4

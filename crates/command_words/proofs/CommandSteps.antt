@@ -13,7 +13,7 @@ use Rattle.command_words.specs.declared.words.Task.{Task}
 use Rattle.command_words.specs.declared.words.Task.TheVariants.{Export, Run}
 use Rattle.std.specs.List.{fold}
 use Rattle.clap.specs.Walk.{arg_by_long, has_row, with_default, Rule}
-use Rattle.command_words.specs.CommandLine.{export_line, run_line, task_of, asked_of, command_line, data_for, existing_for, flag_for, given_number, group_for, strict_for}
+use Rattle.command_words.specs.CommandLine.{export_line, run_line, one_sync_line, task_of, asked_of, command_line, data_for, existing_for, flag_for, given_number, group_for, one_sync_for, strict_for}
 use Rattle.command_words.specs.Rules.{folder_line, is_set}
 use Rattle.command_words.proofs.WordSteps.{adds_both, adds_flag_if, adds_number, built_flag, built_rules, command_of, flag_absent, folder_row, given, with_flag, Adds, HasCommand, IsOptionName, WantsFolder}
 
@@ -59,6 +59,10 @@ run_rules = built_rules run_line
 pub export_rules : List Rule
 export_rules = built_rules export_line
 
+-- of a command that takes a snapshot
+pub snapshot_rules : List Rule
+snapshot_rules = built_rules (one_sync_line [])
+
 -- of a command that has nothing but its folder
 pub bare_rules : List Rule
 bare_rules = built_rules (folder_line [])
@@ -70,6 +74,10 @@ run_wants = record { first = refl; named = refl; defaults = refl; wanted = λ fo
 pub export_wants : WantsFolder export_rules
 unfolding export_rules
 export_wants = record { first = refl; named = refl; defaults = refl; wanted = λ folder rows. refl }
+
+pub snapshot_wants : WantsFolder snapshot_rules
+unfolding snapshot_rules
+snapshot_wants = record { first = refl; named = refl; defaults = refl; wanted = λ folder rows. refl }
 
 pub bare_wants : WantsFolder bare_rules
 unfolding bare_rules
@@ -83,12 +91,12 @@ pub has_export : HasCommand command_line (codes "export") (command_of (codes "ex
 unfolding export_rules clap_on_literals
 has_export = record { begins = refl; met = refl; found = refl; is_no_help = refl; faultless = refl }
 
-pub has_snapshot : HasCommand command_line (codes "snapshot") (command_of (codes "snapshot") bare_rules)
-unfolding bare_rules clap_on_literals
+pub has_snapshot : HasCommand command_line (codes "snapshot") (command_of (codes "snapshot") snapshot_rules)
+unfolding snapshot_rules clap_on_literals
 has_snapshot = record { begins = refl; met = refl; found = refl; is_no_help = refl; faultless = refl }
 
-pub has_upgrade : HasCommand command_line (codes "upgrade") (command_of (codes "upgrade") bare_rules)
-unfolding bare_rules clap_on_literals
+pub has_upgrade : HasCommand command_line (codes "upgrade") (command_of (codes "upgrade") snapshot_rules)
+unfolding snapshot_rules clap_on_literals
 has_upgrade = record { begins = refl; met = refl; found = refl; is_no_help = refl; faultless = refl }
 
 pub has_dump : HasCommand command_line (codes "dump") (command_of (codes "dump") bare_rules)
@@ -103,6 +111,9 @@ has_verify = record { begins = refl; met = refl; found = refl; is_no_help = refl
 
 pub is_existing : IsOptionName (codes "existing")
 is_existing = record { other = refl; word = refl; goes_on = refl; same = refl }
+
+pub is_one_sync : IsOptionName (codes "one-sync")
+is_one_sync = record { other = refl; word = refl; goes_on = refl; same = refl }
 
 is_data : IsOptionName (codes "data")
 is_data = record { other = refl; word = refl; goes_on = refl; same = refl }
@@ -133,9 +144,12 @@ wants_data Data = true
 abbrev pub rescue_rows : Mode → List Row
 rescue_rows mode = with_flag (codes "rescue") (wants_rescue mode) []
 
-abbrev pub run_rows : Mode → Bool → Bool → Bool → List Row
-run_rows mode strict group existing =
-    with_flag (codes "existing") existing (with_flag (codes "group") group (with_flag (codes "strict") strict (rescue_rows mode)))
+abbrev pub run_rows : Mode → Bool → Bool → Bool → Bool → List Row
+run_rows mode strict group existing one =
+    with_flag (codes "one-sync") one (with_flag (codes "existing") existing (with_flag (codes "group") group (with_flag (codes "strict") strict (rescue_rows mode))))
+
+abbrev pub snapshot_rows : Bool → Bool → List Row
+snapshot_rows existing one = with_flag (codes "one-sync") one (with_flag (codes "existing") existing [])
 
 abbrev pub export_rows : Content → Bool → List Row
 export_rows content existing = with_flag (codes "existing") existing (with_flag (codes "data") (wants_data content) [])
@@ -146,10 +160,23 @@ module _ (name : Text) (rules : List Rule) (folder : Text) (rows : List Row) whe
   adds_existing found new false = adds_flag_if name rules folder (codes "existing") is_existing rows new found false
   adds_existing found new true = adds_flag_if name rules folder (codes "existing") is_existing rows new found true
 
+  pub adds_one_sync : arg_by_long rules (codes "one-sync") ≡ Some (built_flag (codes "one-sync")) → has_row (codes "one-sync") rows ≡ false → (one : Bool)
+      → Adds name rules folder rows (one_sync_for one) (with_flag (codes "one-sync") one rows)
+  adds_one_sync found new false = adds_flag_if name rules folder (codes "one-sync") is_one_sync rows new found false
+  adds_one_sync found new true = adds_flag_if name rules folder (codes "one-sync") is_one_sync rows new found true
+
 module _ (folder : Text) where
   pub adds_bare : (name : Text) (existing : Bool) → Adds name bare_rules folder [] (existing_for existing) (with_flag (codes "existing") existing [])
   unfolding bare_rules
   adds_bare name existing = adds_existing name bare_rules folder [] refl refl existing
+
+  pub adds_snapshot : (name : Text) (existing one : Bool)
+      → Adds name snapshot_rules folder [] (existing_for existing ++ one_sync_for one) (snapshot_rows existing one)
+  unfolding snapshot_rules
+  adds_snapshot name existing one =
+      let rows = with_flag (codes "existing") existing [] in
+      adds_both name snapshot_rules folder [] rows (snapshot_rows existing one) (existing_for existing) (one_sync_for one) (adds_existing name snapshot_rules folder [] refl refl existing)
+      (adds_one_sync name snapshot_rules folder rows refl (flag_absent (codes "one-sync") (codes "existing") existing [] refl refl) one)
 
   adds_data : (content : Content) → Adds (codes "export") export_rules folder [] (data_for content) (with_flag (codes "data") (wants_data content) [])
   unfolding export_rules
@@ -183,27 +210,37 @@ module _ (folder : Text) where
     unfolding run_rules
     adds_existing_run new existing = adds_existing (codes "run") run_rules folder rows refl new existing
 
+    adds_one_sync_run : has_row (codes "one-sync") rows ≡ false → (one : Bool) → Adds (codes "run") run_rules folder rows (one_sync_for one) (with_flag (codes "one-sync") one rows)
+    unfolding run_rules
+    adds_one_sync_run new one = adds_one_sync (codes "run") run_rules folder rows refl new one
+
     adds_counting : (ratio : Bool) → has_row (option_id ratio) rows ≡ false → (y : ℕ) (ys : Text) → (y == 45) ≡ false → is_unsigned_in (least ratio) (most ratio) (y ∷ ys) ≡ true
         → Adds (codes "run") run_rules folder rows (option_word ratio ∷ (y ∷ ys) ∷ []) (rows ++ given (option_id ratio) (y ∷ ys) CommandLine ∷ [])
     unfolding run_rules
     adds_counting false new y ys d passes = adds_number (codes "run") run_rules folder (option_id false) (is_number false) rows new (least false) (most false) refl refl y ys d passes
     adds_counting true new y ys d passes = adds_number (codes "run") run_rules folder (option_id true) (is_number true) rows new (least true) (most true) refl refl y ys d passes
 
-  pub adds_flags : (mode : Mode) (strict group existing : Bool)
-      → Adds (codes "run") run_rules folder [] (flag_for mode ++ (strict_for strict ++ (group_for group ++ existing_for existing))) (run_rows mode strict group existing)
-  adds_flags mode strict group existing =
+  pub adds_flags : (mode : Mode) (strict group existing one : Bool)
+      → Adds (codes "run") run_rules folder [] (flag_for mode ++ (strict_for strict ++ (group_for group ++ (existing_for existing ++ one_sync_for one))))
+      (run_rows mode strict group existing one)
+  adds_flags mode strict group existing one =
       let rescue = rescue_rows mode in
       let with_strict = with_flag (codes "strict") strict rescue in
       let with_group = with_flag (codes "group") group with_strict in
-      let last = with_flag (codes "existing") existing with_group in
+      let with_existing = with_flag (codes "existing") existing with_group in
+      let last = with_flag (codes "one-sync") one with_existing in
+      let more = existing_for existing ++ one_sync_for one in
       let no_strict = flag_absent (codes "strict") (codes "rescue") (wants_rescue mode) [] refl refl in
       let no_group = flag_absent (codes "group") (codes "strict") strict rescue refl (flag_absent (codes "group") (codes "rescue") (wants_rescue mode) [] refl refl) in
       let no_existing = flag_absent (codes "existing") (codes "group") group with_strict refl
       (flag_absent (codes "existing") (codes "strict") strict rescue refl (flag_absent (codes "existing") (codes "rescue") (wants_rescue mode) [] refl refl)) in
-      adds_both (codes "run") run_rules folder [] rescue last (flag_for mode) (strict_for strict ++ (group_for group ++ existing_for existing)) (adds_rescue mode)
-      (adds_both (codes "run") run_rules folder rescue with_strict last (strict_for strict) (group_for group ++ existing_for existing) (adds_strict rescue no_strict strict)
-      (adds_both (codes "run") run_rules folder with_strict with_group last (group_for group) (existing_for existing) (adds_group with_strict no_group group)
-      (adds_existing_run with_group no_existing existing)))
+      let no_one = flag_absent (codes "one-sync") (codes "existing") existing with_group refl (flag_absent (codes "one-sync") (codes "group") group with_strict refl
+      (flag_absent (codes "one-sync") (codes "strict") strict rescue refl (flag_absent (codes "one-sync") (codes "rescue") (wants_rescue mode) [] refl refl))) in
+      adds_both (codes "run") run_rules folder [] rescue last (flag_for mode) (strict_for strict ++ (group_for group ++ more)) (adds_rescue mode)
+      (adds_both (codes "run") run_rules folder rescue with_strict last (strict_for strict) (group_for group ++ more) (adds_strict rescue no_strict strict)
+      (adds_both (codes "run") run_rules folder with_strict with_group last (group_for group) more (adds_group with_strict no_group group)
+      (adds_both (codes "run") run_rules folder with_group with_existing last (existing_for existing) (one_sync_for one) (adds_existing_run with_group no_existing existing)
+      (adds_one_sync_run with_existing no_one one))))
 
   number_absent : (ratio : Bool) (mode : Mode) → has_row (option_id ratio) (rescue_rows mode) ≡ false
   number_absent false mode = flag_absent (option_id false) (codes "rescue") (wants_rescue mode) [] refl refl
@@ -220,25 +257,41 @@ module _ (folder : Text) where
 abbrev pub with_defaults : Text → List Row → List Rule → List Row
 with_defaults folder rows rules = fold with_default (folder_row folder ∷ rows) rules
 
-pub asks_run : (folder : Text) (mode : Mode) (strict group existing : Bool)
-    → asked_of (codes "run", with_defaults folder (run_rows mode strict group existing) run_rules) ≡ Some (folder, existing, Run (wanting mode 0 10 strict group))
+pub asks_run : (folder : Text) (mode : Mode) (strict group existing one : Bool)
+    → asked_of (codes "run", with_defaults folder (run_rows mode strict group existing one) run_rules) ≡ Some (folder, existing, Run (wanting mode 0 10 strict group))
 unfolding run_rules
-asks_run folder Current false false false = refl
-asks_run folder Current false false true = refl
-asks_run folder Current false true false = refl
-asks_run folder Current false true true = refl
-asks_run folder Current true false false = refl
-asks_run folder Current true false true = refl
-asks_run folder Current true true false = refl
-asks_run folder Current true true true = refl
-asks_run folder Rescue false false false = refl
-asks_run folder Rescue false false true = refl
-asks_run folder Rescue false true false = refl
-asks_run folder Rescue false true true = refl
-asks_run folder Rescue true false false = refl
-asks_run folder Rescue true false true = refl
-asks_run folder Rescue true true false = refl
-asks_run folder Rescue true true true = refl
+asks_run folder Current false false false false = refl
+asks_run folder Current false false false true = refl
+asks_run folder Current false false true false = refl
+asks_run folder Current false false true true = refl
+asks_run folder Current false true false false = refl
+asks_run folder Current false true false true = refl
+asks_run folder Current false true true false = refl
+asks_run folder Current false true true true = refl
+asks_run folder Current true false false false = refl
+asks_run folder Current true false false true = refl
+asks_run folder Current true false true false = refl
+asks_run folder Current true false true true = refl
+asks_run folder Current true true false false = refl
+asks_run folder Current true true false true = refl
+asks_run folder Current true true true false = refl
+asks_run folder Current true true true true = refl
+asks_run folder Rescue false false false false = refl
+asks_run folder Rescue false false false true = refl
+asks_run folder Rescue false false true false = refl
+asks_run folder Rescue false false true true = refl
+asks_run folder Rescue false true false false = refl
+asks_run folder Rescue false true false true = refl
+asks_run folder Rescue false true true false = refl
+asks_run folder Rescue false true true true = refl
+asks_run folder Rescue true false false false = refl
+asks_run folder Rescue true false false true = refl
+asks_run folder Rescue true false true false = refl
+asks_run folder Rescue true false true true = refl
+asks_run folder Rescue true true false false = refl
+asks_run folder Rescue true true false true = refl
+asks_run folder Rescue true true true false = refl
+asks_run folder Rescue true true true true = refl
 
 pub asks_counting : (ratio : Bool) (folder number : Text) (mode : Mode)
     → asked_of (codes "run", with_defaults folder (rescue_rows mode ++ given (option_id ratio) number CommandLine ∷ []) run_rules)
@@ -268,10 +321,36 @@ unfolding bare_rules
 is_folder_found folder false = refl
 is_folder_found folder true = refl
 
+asks_task : (name folder : Text) (rows : List Row) (task : Task) → ((found : List Row) → task_of (name, found) ≡ Some task) → (existing : Bool) → first_of (codes "DIR") rows ≡ Some folder
+    → is_set (first_of (codes "existing") rows) ≡ existing → asked_of (name, rows) ≡ Some (folder, existing, task)
+asks_task name folder rows task is existing folder_found existing_found =
+    ap (option_and_then (λ at. option_map (λ (what : Task). (at, is_set (first_of (codes "existing") rows), what)) (task_of (name, rows)))) folder_found
+    ∙ ap (option_map (λ (what : Task). (folder, is_set (first_of (codes "existing") rows), what))) (is rows)
+    ∙ ap (λ flag. Some (folder, flag, task)) existing_found
+
 pub asks_bare : (name folder : Text) (task : Task) → ((rows : List Row) → task_of (name, rows) ≡ Some task) → (existing : Bool)
     → asked_of (name, with_defaults folder (with_flag (codes "existing") existing []) bare_rules) ≡ Some (folder, existing, task)
 asks_bare name folder task is existing =
-    let rows = with_defaults folder (with_flag (codes "existing") existing []) bare_rules in
-    ap (option_and_then (λ at. option_map (λ (what : Task). (at, is_set (first_of (codes "existing") rows), what)) (task_of (name, rows)))) (is_folder_found folder existing)
-    ∙ ap (option_map (λ (what : Task). (folder, is_set (first_of (codes "existing") rows), what))) (is rows)
-    ∙ ap (λ flag. Some (folder, flag, task)) (is_existing_found folder existing)
+    asks_task name folder (with_defaults folder (with_flag (codes "existing") existing []) bare_rules) task is existing (is_folder_found folder existing) (is_existing_found folder existing)
+
+-- and of one that takes a snapshot
+is_existing_found_beside : (folder : Text) (existing one : Bool)
+    → is_set (first_of (codes "existing") (with_defaults folder (snapshot_rows existing one) snapshot_rules)) ≡ existing
+unfolding snapshot_rules
+is_existing_found_beside folder false false = refl
+is_existing_found_beside folder false true = refl
+is_existing_found_beside folder true false = refl
+is_existing_found_beside folder true true = refl
+
+is_folder_found_beside : (folder : Text) (existing one : Bool) → first_of (codes "DIR") (with_defaults folder (snapshot_rows existing one) snapshot_rules) ≡ Some folder
+unfolding snapshot_rules
+is_folder_found_beside folder false false = refl
+is_folder_found_beside folder false true = refl
+is_folder_found_beside folder true false = refl
+is_folder_found_beside folder true true = refl
+
+pub asks_snapshot : (name folder : Text) (task : Task) → ((rows : List Row) → task_of (name, rows) ≡ Some task) → (existing one : Bool)
+    → asked_of (name, with_defaults folder (snapshot_rows existing one) snapshot_rules) ≡ Some (folder, existing, task)
+asks_snapshot name folder task is existing one =
+    let rows = with_defaults folder (snapshot_rows existing one) snapshot_rules in
+    asks_task name folder rows task is existing (is_folder_found_beside folder existing one) (is_existing_found_beside folder existing one)

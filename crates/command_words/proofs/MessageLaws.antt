@@ -1,5 +1,5 @@
 -- What clap makes of the words of a session of messages.
-use Rattle.std.proofs.Common.{◌≡◌, ◌==◌, ◌∙◌, ◌⊎◌, ◌<◌, ◌^◌, ℕ, Bool, List, [], ◌∷◌, Option, None, Some, option_and_then, option_map, codes, true, false, refl, ap, sym, subst, inl, inr, arith}
+use Rattle.std.proofs.Common.{◌≡◌, ◌==◌, ◌∙◌, ◌⊎◌, ◌<◌, ◌^◌, ℕ, Bool, List, [], ◌∷◌, ◌++◌, Option, None, Some, option_and_then, option_map, codes, true, false, refl, ap, sym, subst, inl, inr, arith}
 use Rattle.clap.specs.Kinds.{Kinds, or_else}
 use Rattle.clap.specs.ValueTests.{is_unsigned_in}
 use Rattle.clap.specs.Words.{IsAmong, Row, Text, fault_of, first_value, is_simple, is_simple_and_free, rows_of}
@@ -9,12 +9,12 @@ use Rattle.clap.specs.declared.parser.matches.Found.{Found}
 use Rattle.clap.specs.declared.parser.matches.ValueSource.TheVariants.{CommandLine}
 use Rattle.clap.proofs.OnLiterals.{clap_on_literals}
 use Rattle.clap.proofs.WalkLemmas.{first_value-rows}
-use Rattle.command_words.specs.CommandLine.{IsNumberIn, existing_for, given_number, number_among_rows}
+use Rattle.command_words.specs.CommandLine.{IsNumberIn, existing_for, given_number, number_among_rows, one_sync_for}
 use Rattle.command_words.specs.MessageLine.{AsksForMessages, IsMessageLine, Messages, message_faults, message_line, messages_in, messages_line, messages_of, missing_folder}
 use Rattle.command_words.specs.Rules.{is_set}
 use Rattle.command_words.proofs.CommandLineLaws.{among_first, differs, in_range, no_hyphen, number_is}
-use Rattle.command_words.proofs.CommandSteps.{adds_existing, is_number, with_defaults}
-use Rattle.command_words.proofs.WordSteps.{adds_both, adds_flag_if, adds_number, built_rules, command_is, command_of, faults_are, given, none_fails, rows_read, with_flag, Adds, HasCommand, IsOptionName, WantsFolder}
+use Rattle.command_words.proofs.CommandSteps.{adds_existing, adds_one_sync, is_number, with_defaults}
+use Rattle.command_words.proofs.WordSteps.{adds_both, adds_flag_if, adds_number, built_rules, command_is, command_of, faults_are, flag_absent, given, none_fails, rows_read, with_flag, Adds, HasCommand, IsOptionName, WantsFolder}
 use Rattle.clap.specs.Walk.{Rule}
 
 pub simple_messages_line : is_simple messages_line ≡ true
@@ -49,6 +49,10 @@ is_messages = record { other = refl; word = refl; goes_on = refl; same = refl }
 abbrev message_rows : List Row → List Row
 message_rows more = given (codes "messages") (codes "true") CommandLine ∷ more
 
+-- and with those of its flags
+abbrev flag_rows : Bool → Bool → List Row
+flag_rows existing one = with_flag (codes "one-sync") one (with_flag (codes "existing") existing (message_rows []))
+
 module _ (folder : Text) where
   adds_messages : Adds (codes "run") message_rules folder [] (codes "--messages" ∷ []) (message_rows [])
   unfolding message_rules
@@ -58,11 +62,15 @@ module _ (folder : Text) where
       → Adds (codes "run") message_rules folder [] (codes "--messages" ∷ words) rows
   adds_more words rows more = adds_both (codes "run") message_rules folder [] (message_rows []) rows (codes "--messages" ∷ []) words adds_messages more
 
-  adds_existing_more : (existing : Bool) → Adds (codes "run") message_rules folder [] (codes "--messages" ∷ existing_for existing) (with_flag (codes "existing") existing (message_rows []))
+  adds_flags_more : (existing one : Bool)
+      → Adds (codes "run") message_rules folder [] (codes "--messages" ∷ (existing_for existing ++ one_sync_for one)) (flag_rows existing one)
   unfolding message_rules
-  adds_existing_more existing =
-      adds_more (existing_for existing) (with_flag (codes "existing") existing (message_rows []))
+  adds_flags_more existing one =
+      let rows = with_flag (codes "existing") existing (message_rows []) in
+      adds_more (existing_for existing ++ one_sync_for one) (flag_rows existing one)
+      (adds_both (codes "run") message_rules folder (message_rows []) rows (flag_rows existing one) (existing_for existing) (one_sync_for one)
       (adds_existing (codes "run") message_rules folder (message_rows []) refl refl existing)
+      (adds_one_sync (codes "run") message_rules folder rows refl (flag_absent (codes "one-sync") (codes "existing") existing (message_rows []) refl refl) one))
 
   adds_counting : (y : ℕ) (ys : Text) → (y == 45) ≡ false → is_unsigned_in 1 1000000 (y ∷ ys) ≡ true
       → Adds (codes "run") message_rules folder [] (codes "--messages" ∷ codes "--snapshot-every" ∷ (y ∷ ys) ∷ []) (message_rows (given (codes "snapshot-every") (y ∷ ys) CommandLine ∷ []))
@@ -76,11 +84,13 @@ asks_number : (folder number : Text)
 unfolding message_rules
 asks_number folder number = refl
 
-asks_existing : (folder : Text) (existing : Bool)
-    → messages_of (codes "run", with_defaults folder (with_flag (codes "existing") existing (message_rows [])) message_rules) ≡ Some (folder, existing, 0)
+asks_flags : (folder : Text) (existing one : Bool)
+    → messages_of (codes "run", with_defaults folder (flag_rows existing one) message_rules) ≡ Some (folder, existing, 0)
 unfolding message_rules
-asks_existing folder false = refl
-asks_existing folder true = refl
+asks_flags folder false false = refl
+asks_flags folder false true = refl
+asks_flags folder true false = refl
+asks_flags folder true true = refl
 
 -- words that are written out but for the program's name, the folder and the number
 module _ (program : Text) (x : ℕ) (xs : Text) (e : (x == 45) ≡ false) where
@@ -94,10 +104,10 @@ module _ (program : Text) (x : ℕ) (xs : Text) (e : (x == 45) ≡ false) where
         ∙ ap (λ read. Some read) (rows_read (codes "run") message_rules message_wants x xs e words rows adds)) ∙ asks;
   }
 
-  right_plain : (existing : Bool) → IsRight (program ∷ codes "run" ∷ (x ∷ xs) ∷ codes "--messages" ∷ existing_for existing) (x ∷ xs) existing 0
-  right_plain existing =
-      right_with (codes "--messages" ∷ existing_for existing) (with_flag (codes "existing") existing (message_rows [])) existing 0 (adds_existing_more (x ∷ xs) existing)
-      (asks_existing (x ∷ xs) existing)
+  right_plain : (existing one : Bool) → IsRight (program ∷ codes "run" ∷ (x ∷ xs) ∷ codes "--messages" ∷ (existing_for existing ++ one_sync_for one)) (x ∷ xs) existing 0
+  right_plain existing one =
+      right_with (codes "--messages" ∷ (existing_for existing ++ one_sync_for one)) (flag_rows existing one) existing 0 (adds_flags_more (x ∷ xs) existing one)
+      (asks_flags (x ∷ xs) existing one)
 
   right_counting : (y : ℕ) (ys : Text) → (y == 45) ≡ false → is_unsigned_in 1 1000000 (y ∷ ys) ≡ true
       → IsRight (program ∷ codes "run" ∷ (x ∷ xs) ∷ codes "--messages" ∷ codes "--snapshot-every" ∷ (y ∷ ys) ∷ []) (x ∷ xs) false (given_number 0 (Some (y ∷ ys)))
@@ -115,7 +125,7 @@ module _ (program : Text) (x : ℕ) (xs : Text) (e : (x == 45) ≡ false) where
       (right_counting y ys (differs y 45 (no_hyphen y ys numeral)) (in_range y ys numeral 1 1000000 every is above below fits))
 
   right_words : (line : List Text) (existing : Bool) (every : ℕ) → IsMessageLine line (x ∷ xs) existing every → IsRight (program ∷ line) (x ∷ xs) existing every
-  right_words line existing every (inl (none, is)) = rw (is, none) (right_plain existing)
+  right_words line existing every (inl (none, (one, is))) = rw (is, none) (right_plain existing one)
   right_words line existing every (inr (lax, (number, counts, is))) = rw (is, lax) (right_number number every counts)
 
 pub right_messages : (words : List Text) (folder : Text) (existing : Bool) (every : ℕ) → AsksForMessages words folder existing every → IsRight words folder existing every

@@ -1,5 +1,6 @@
 -- The command line of the program, as clap reads it: `run DIR [--rescue] [--strict] [--group] [--snapshot-every N] [--snapshot-ratio R]
--- [--quiet]`, `snapshot DIR`, `upgrade DIR`, `export DIR [--data]`, `dump DIR` and `verify DIR`, each with `--existing`.
+-- [--quiet] [--one-sync]`, `snapshot DIR [--one-sync]`, `upgrade DIR [--one-sync]`, `export DIR [--data]`, `dump DIR` and `verify DIR`, each with
+-- `--existing`.
 use Rattle.std.specs.Prelude.{◌≡◌, ◌≢◌, ◌≤◌, ◌^◌, ◌-◌, ◌⊎◌, ℕ, Bool, true, false, if◌then◌else◌, List, [], ◌∷◌, ◌++◌, Option, Some, None, codes, option_map, option_and_then}
 use Rattle.std.specs.Str.{bytes_eq}
 use Rattle.std.specs.Str.Parse.{IsNumeral, digits_value, without_leading_plus}
@@ -36,9 +37,13 @@ flags_line =
 abbrev pub session_line : App
 session_line = with_rule (with_rule flags_line every_rule) ratio_rule
 
--- `run` with its last flag, of which a session knows nothing
+-- `run` with its last flags, of which a session knows nothing
 abbrev pub run_line : App
-run_line = with_rule session_line (flag_rule (codes "quiet"))
+run_line = with_rule (with_rule session_line (flag_rule (codes "quiet"))) (flag_rule (codes "one-sync"))
+
+-- a command of this name that takes a snapshot, with its folder, `--existing` and `--one-sync`
+abbrev pub one_sync_line : Text → App
+one_sync_line name = with_rule (folder_line name) (flag_rule (codes "one-sync"))
 
 -- `export`, with its folder and its option
 abbrev pub export_line : App
@@ -52,9 +57,9 @@ program_line = on_top (λ s. record s { has_version = true }) (new_app (codes "p
 abbrev pub writing_line : App
 writing_line =
     with_subcommand (with_subcommand (with_subcommand program_line
-    run_line.top) (folder_line (codes "snapshot")).top) (folder_line (codes "upgrade")).top
+    run_line.top) (one_sync_line (codes "snapshot")).top) (one_sync_line (codes "upgrade")).top
 
--- the same with `export`, `dump` and `verify` too
+-- the command line of all commands that open a store: with `export`, `dump` and `verify` too
 abbrev pub command_line : App
 command_line =
     with_subcommand (with_subcommand (with_subcommand writing_line
@@ -73,7 +78,7 @@ abbrev pub given_number : ℕ → Option Text → ℕ
 given_number other None = other
 given_number other (Some text) = if is_unsigned_in 0 (2 ^ 64 - 1) text then digits_value 10 (without_leading_plus text) else other
 
--- the same of the rows that were found
+-- the number of this option on snapshots among the rows that were found, or another one where it is not given
 abbrev pub number_among_rows : ℕ → Text → List Row → ℕ
 number_among_rows other option rows = given_number other (one_of option rows)
 
@@ -157,6 +162,11 @@ abbrev pub existing_for : Bool → List Text
 existing_for false = []
 existing_for true = codes "--existing" ∷ []
 
+-- the flag of halves that are to be kept with one sync, of which a session knows nothing
+abbrev pub one_sync_for : Bool → List Text
+one_sync_for false = []
+one_sync_for true = codes "--one-sync" ∷ []
+
 -- a decimal number from one up to another
 abbrev pub IsNumberIn : ℕ → ℕ → ℕ → Text → Type 0
 IsNumberIn least most n number = IsNumeral 10 number × (digits_value 10 number ≡ n) × (least ≤ n) × (n ≤ most)
@@ -175,15 +185,17 @@ HasNumber words folder wanted =
     × (words ≡ codes "run" ∷ folder ∷ (flag_for wanted.mode ++ codes "--snapshot-ratio" ∷ number ∷ []))))
 
 -- The words of a command on this folder that asks for this. A number of snapshots beside another one, or beside `--existing`, `--strict` or
--- `--group`, is not among them, nor is `--quiet`.
+-- `--group`, is not among them, nor is `--quiet`. `--one-sync` comes last, and not beside a number.
 abbrev pub AreCommandWords : List Text → Text → Bool → Task → Type 0
 AreCommandWords words folder false (Run wanted) =
-    (AsksForNone wanted × (words ≡ codes "run" ∷ folder ∷ (flag_for wanted.mode ++ (strict_for wanted.strict ++ (group_for wanted.group ++ [])))))
+    (AsksForNone wanted × ((one : Bool)
+    × (words ≡ codes "run" ∷ folder ∷ (flag_for wanted.mode ++ (strict_for wanted.strict ++ (group_for wanted.group ++ one_sync_for one))))))
     ⊎ ((wanted.strict ≡ false) × (wanted.group ≡ false) × HasNumber words folder wanted)
 AreCommandWords words folder true (Run wanted) =
-    AsksForNone wanted × (words ≡ codes "run" ∷ folder ∷ (flag_for wanted.mode ++ (strict_for wanted.strict ++ (group_for wanted.group ++ existing_for true))))
-AreCommandWords words folder existing Snapshot = words ≡ codes "snapshot" ∷ folder ∷ existing_for existing
-AreCommandWords words folder existing Upgrade = words ≡ codes "upgrade" ∷ folder ∷ existing_for existing
+    AsksForNone wanted × ((one : Bool)
+    × (words ≡ codes "run" ∷ folder ∷ (flag_for wanted.mode ++ (strict_for wanted.strict ++ (group_for wanted.group ++ (existing_for true ++ one_sync_for one))))))
+AreCommandWords words folder existing Snapshot = (one : Bool) × (words ≡ codes "snapshot" ∷ folder ∷ (existing_for existing ++ one_sync_for one))
+AreCommandWords words folder existing Upgrade = (one : Bool) × (words ≡ codes "upgrade" ∷ folder ∷ (existing_for existing ++ one_sync_for one))
 AreCommandWords words folder existing (Export content) = words ≡ codes "export" ∷ folder ∷ (data_for content ++ existing_for existing)
 AreCommandWords words folder existing (Tell Dump) = words ≡ codes "dump" ∷ folder ∷ existing_for existing
 AreCommandWords words folder existing (Tell Verify) = words ≡ codes "verify" ∷ folder ∷ existing_for existing

@@ -27,11 +27,11 @@ rows_line = with_rule (with_rule (folder_line (codes "show")) (option_rule (code
 abbrev pub symbol_rule : Rule
 symbol_rule = record (new_rule (codes "SYMBOL")) { action = Some Set }
 
--- the same with `--like` and SYMBOL: all that names what is shown
+-- the line of `show` with all that names what is shown: with `--like` and SYMBOL too
 abbrev pub names_line : App
 names_line = with_rule (with_rule rows_line (option_rule (codes "like"))) symbol_rule
 
--- the same with `--forms` and `--json`: how that is written
+-- the line of `show` with how that is written: with `--forms` and `--json` too
 abbrev pub layouts_line : App
 layouts_line = with_rule (with_rule names_line (flag_rule (codes "forms"))) (flag_rule (codes "json"))
 
@@ -64,7 +64,7 @@ line_of_reports =
 abbrev pub verify_line : App
 verify_line = with_rule (folder_line (codes "verify")) (flag_rule (codes "json"))
 
--- the same with `backup` and `dump`
+-- the command line of the reports, with `backup` and `dump` too
 abbrev pub worlds_line : App
 worlds_line = with_subcommand (with_subcommand line_of_reports backup_line.top) dump_line.top
 
@@ -78,7 +78,7 @@ looking_line = with_subcommand worlds_line verify_line.top
 abbrev pub written_number : Text → Option ℕ
 written_number text = if is_unsigned_in 0 (2 ^ 64 - 1) text then Some (digits_value 10 (without_leading_plus text)) else None
 
--- the same of digits alone
+-- the number of 64 bits that a text of digits alone writes
 abbrev pub plain_number_of : Text → Option ℕ
 plain_number_of text = if list_all is_ascii_digit text then written_number text else None
 

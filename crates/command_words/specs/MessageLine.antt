@@ -1,14 +1,14 @@
--- The command line of a session of messages, as clap reads it: `run DIR --messages [--existing] [--snapshot-every N]`.
-use Rattle.std.specs.Prelude.{◌≡◌, ◌⊎◌, ℕ, Bool, false, List, [], ◌∷◌, Option, Some, None, codes, option_map, option_and_then}
+-- The command line of a session of messages, as clap reads it: `run DIR --messages [--existing] [--snapshot-every N] [--one-sync]`.
+use Rattle.std.specs.Prelude.{◌≡◌, ◌⊎◌, ℕ, Bool, false, List, [], ◌∷◌, ◌++◌, Option, Some, None, codes, option_map, option_and_then}
 use Rattle.clap.specs.Kinds.{Kinds, or_else}
 use Rattle.clap.specs.Words.{App, Row, Text, fault_of, first_of, subcommand_of, with_rule, with_subcommand}
 use Rattle.clap.specs.declared.error.kind.ErrorKind.TheVariants.{MissingRequiredArgument}
-use Rattle.command_words.specs.CommandLine.{IsNoOption, IsNumberIn, every_rule, existing_for, number_among_rows}
+use Rattle.command_words.specs.CommandLine.{IsNoOption, IsNumberIn, every_rule, existing_for, number_among_rows, one_sync_for}
 use Rattle.command_words.specs.Rules.{bare_line, flag_rule, folder_line, is_set}
 
 -- `run --messages`, with the options that it takes
 abbrev pub message_line : App
-message_line = with_rule (with_rule (folder_line (codes "run")) (flag_rule (codes "messages"))) every_rule
+message_line = with_rule (with_rule (with_rule (folder_line (codes "run")) (flag_rule (codes "messages"))) every_rule) (flag_rule (codes "one-sync"))
 
 -- the program with this command alone
 abbrev pub messages_line : App
@@ -37,10 +37,10 @@ missing_folder (Some messages) = []
 abbrev pub message_faults : List Text → Kinds
 message_faults words = or_else (fault_of messages_line words) (missing_folder (messages_in words))
 
--- The words of the command on this folder. A number of snapshots beside `--existing` is not among them.
+-- The words of the command on this folder. A number of snapshots beside `--existing` or `--one-sync` is not among them.
 abbrev pub IsMessageLine : List Text → Text → Bool → ℕ → Type 0
 IsMessageLine words folder existing every =
-    ((every ≡ 0) × (words ≡ codes "run" ∷ folder ∷ codes "--messages" ∷ existing_for existing))
+    ((every ≡ 0) × ((one : Bool) × (words ≡ codes "run" ∷ folder ∷ codes "--messages" ∷ (existing_for existing ++ one_sync_for one))))
     ⊎ ((existing ≡ false) × ((number : Text) × IsNumberIn 1 1000000 every number
     × (words ≡ codes "run" ∷ folder ∷ codes "--messages" ∷ codes "--snapshot-every" ∷ number ∷ [])))
 

@@ -4,6 +4,8 @@ use Rattle.std.specs.List.{before_first}
 use Rattle.clap.specs.Words.{Text}
 use Rattle.command_words.specs.declared.way.CommandWay.{CommandWay}
 use Rattle.command_words.specs.declared.way.CommandWay.TheVariants.{Serve, Messages, See, Look, Check}
+use Rattle.command_words.specs.declared.way.Syncs.{Syncs}
+use Rattle.command_words.specs.declared.way.Syncs.TheVariants.{One, Two}
 
 -- a word is an option, alone or before an equals sign and its value
 abbrev pub is_option : Text → Text → Bool
@@ -56,3 +58,13 @@ asks_for_quiet [] = false
 asks_for_quiet (program ∷ []) = false
 asks_for_quiet (program ∷ command ∷ options) =
     bytes_eq command (codes "run") && (has_option (codes "--quiet") options && not (asks_for_help options))
+
+-- the commands that may begin a half, and so decide how many syncs it is kept with
+abbrev pub begins_halves : Text → Bool
+begins_halves command = bytes_eq command (codes "run") || (bytes_eq command (codes "snapshot") || bytes_eq command (codes "upgrade"))
+
+-- with how many syncs the halves that are begun are to be kept
+abbrev pub syncs_asked : List Text → Syncs
+syncs_asked [] = Two
+syncs_asked (program ∷ []) = Two
+syncs_asked (program ∷ command ∷ options) = if begins_halves command && has_option (codes "--one-sync") options then One else Two

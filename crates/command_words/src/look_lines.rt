@@ -14,7 +14,8 @@ use crate::looks::{
     PLACES, SHOW, SYMBOL,
 };
 use crate::rules::{Help, PROGRAM, folder_command, place, with_arg, with_flag, with_option};
-use crate::words::{DUMP, VERIFY, dump_help, verify_help};
+use crate::task_lines::{dump_help, verify_help};
+use crate::words::{DUMP, VERIFY};
 use clap::{Arg, ArgAction, Command};
 use std::alloc::{AllocError, Global};
 

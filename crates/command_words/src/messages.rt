@@ -8,8 +8,9 @@ ghost use Rattle.command_words.specs.MessageLine.{message_faults, message_line, 
 use crate::help::{MESSAGES_HELP, MESSAGES_USAGE};
 use crate::look_lines::bare_command;
 use crate::rules::{DIRECTORY, EXISTING, Help, flag_is_set, with_arg, with_flag};
+use crate::task_lines::{every_option, store_command, with_one_sync};
 use crate::tips::with_tip;
-use crate::words::{EVERY, RUN, every_option, nothing_asked, number_in, store_command};
+use crate::words::{EVERY, RUN, nothing_asked, number_in};
 use clap::{ArgMatches, Command, Error};
 use std::alloc::{AllocError, Global};
 use std::convert::AsStr;
@@ -97,7 +98,8 @@ fn message_command<'a>(alloc: Global) -> Result<Command<'a>, AllocError>
     let command = store_command(alloc, RUN, help)?;
     let help = "Serve frames in place of forms";
     let command = with_flag(command, alloc, MESSAGES, help)?;
-    with_arg(command, every_option(alloc))
+    let command = with_arg(command, every_option(alloc))?;
+    with_one_sync(command, alloc)
 }
 
 // The program with this command alone.

@@ -1,10 +1,10 @@
 // How what the words ask for is carried out, which their command and its options say.
 ghost use Rattle.std.specs.Prelude.{◌≡◌, map};
-ghost use Rattle.command_words.specs.Ways.{asks_for_help, asks_for_quiet, has_option, is_look, is_option, is_report, way_of, way_of_command, way_of_help};
+ghost use Rattle.command_words.specs.Ways.{asks_for_help, asks_for_quiet, begins_halves, has_option, is_look, is_option, is_report, syncs_asked, way_of, way_of_command, way_of_help};
 
 use crate::check::CHECK;
 use crate::looks::{BACKUP, INFO, LOG, SHOW};
-use crate::words::{DUMP, EXPORT, RUN, VERIFY};
+use crate::words::{DUMP, EXPORT, RUN, SNAPSHOT, UPGRADE, VERIFY};
 use std::convert::AsStr;
 
 /// How what the words ask for is carried out.
@@ -20,6 +20,15 @@ pub enum CommandWay {
     Look,
     /// Without a folder, or by a look into one: `checked_in` has the words.
     Check,
+}
+
+/// With how many syncs a form that writes is to be kept, in the halves that are begun.
+#[derive(Clone, Copy, Debug, PartialEq, Eq)]
+pub enum Syncs {
+    /// With one, where whoever gives the words says that the writes of the disk mix.
+    One,
+    /// With two, on any honest disk.
+    Two,
 }
 
 /// How what the words ask for is carried out: the name of the command comes first, or `help` and that name. Words that no command has
@@ -102,6 +111,26 @@ pub fn asks_for_quiet<S: AsStr>(words: &[S]) -> bool
         }
         _ => false,
     }
+}
+
+/// With how many syncs the halves are to be kept that the command begins. A half that is there already stays as it is kept.
+pub fn syncs_asked<S: AsStr>(words: &[S]) -> Syncs
+    ensures { result ≡ syncs_asked (map S.text words.now) }
+{
+    match words {
+        [_, command, options @ ..]
+            if begins_halves(command.as_str()) && has_option(options, "--one-sync") => {
+            Syncs::One
+        }
+        _ => Syncs::Two,
+    }
+}
+
+// Whether a command may begin a half.
+fn begins_halves(command: &str) -> bool
+    ensures { result ≡ begins_halves command.now }
+{
+    command == RUN || command == SNAPSHOT || command == UPGRADE
 }
 
 fn asks_for_help<S: AsStr>(options: &[S]) -> bool

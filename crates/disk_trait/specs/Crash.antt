@@ -23,7 +23,7 @@ torn_after Lost at bytes left = left
 torn_after (Filled byte) at bytes left = written at (replicate (length bytes) byte) left
 torn_after (Scattered share) at bytes left = written at (scattered_bytes share 0 bytes (drop at left)) left
 
--- The same where writes mix: no byte may be any.
+-- What a crash leaves of a write where writes mix, of a file that it left as this before: no byte may be any.
 abbrev pub mixed_after : Crash → ℕ → List ℕ → List ℕ → List ℕ
 mixed_after Kept at bytes left = written at bytes left
 mixed_after Lost at bytes left = left

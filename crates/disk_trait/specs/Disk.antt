@@ -124,21 +124,25 @@ abbrev pub Rises : Bool → ℕ → ℕ → Type 0
 Rises true old new = new ≡ old + 1
 Rises false old new = new ≡ old
 
--- Of every disk, between two of its states: its honesty stays, and the count of failures rises exactly with a fault of the device.
+-- Of every disk, between two of its states: its honesty stays, and what it says of its writes, and the count of failures rises exactly with
+-- a fault of the device.
 pub record Told (is_fault : Bool) (old new : State) : Type 0 where
   pub honest : new.honest ≡ old.honest
+  pub mixes : new.mixes ≡ old.mixes
   pub failures : Rises is_fault old.failures new.failures
 
--- The same of a call that answers beside its disk, with some errors that are a fault of the device and some that are none.
+-- Of a call that answers beside its disk, with some errors that are a fault of the device and some that are none: the honesty stays, and what
+-- the disk says of its writes, and the count of failures rises exactly with such a fault.
 pub record Tells {T E : Type 0} (is_fault : E → Bool) (old new : State) (result : Result T E) : Type 0 where
   pub honest : new.honest ≡ old.honest
+  pub mixes : new.mixes ≡ old.mixes
   pub failures : MatchResult result (λ _. new.failures ≡ old.failures) (λ e. Rises (is_fault e) old.failures new.failures)
 
 -- a call of the disk itself, which has no other error
 abbrev pub is_fault_of_device : DeviceFault → Bool
 is_fault_of_device fault = true
 
--- a call of the disk itself: its honesty stays, and the count rises exactly where the call failed
+-- a call of the disk itself: its honesty stays, and what it says of its writes, and the count rises exactly where the call failed
 abbrev pub Counts : {T : Type 0} → State → State → Result T DeviceFault → Type 0
 Counts old new result = Tells is_fault_of_device old new result
 

@@ -22,7 +22,7 @@ joined a b c P Q first second weaken = record {
   mixes = second.mixes ∙ first.mixes;
 }
 
--- the same run, of which less is said
+-- what holds at each moment of a run does so where less is said of it
 pub weaker : (a b : State) (P Q : Image → Type 0) → Throughout a b P → ((i : Image) → P i → Q i) → Throughout a b Q
 weaker a b P Q run weaken = record {
   later = run.later;

@@ -7,10 +7,12 @@ use Rattle.user_macros.specs.declared.call.Gather.TheVariants.{Next}
 use Rattle.user_macros.specs.Calls.{Material, one, MacroAnswer, value, refused}
 use Rattle.user_macros.specs.Functions.{Functions}
 
+-- what it answers: twice an integer, if that is in range, and else the refusal 1
 abbrev pub doubled : Material → MacroAnswer
 doubled (one (integer i)) = if is_in_range (i *ℤ pos 2) then value (integer (i *ℤ pos 2)) else refused 1
 doubled _ = refused 1
 
+-- the macro functions of this program: DOUBLE, which reads the next object
 abbrev pub doubling : Functions
 doubling = record {
   names = codes "DOUBLE" ∷ [];

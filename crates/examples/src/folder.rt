@@ -40,7 +40,7 @@ pub fn next_number<R: Files<File = File> + AllocGlobal>(
     next_on(rt.alloc(), disk, Macros::new(rt.alloc(), NoFunctions))
 }
 
-/// The same over any disk, and with any macro functions: what holds a store is generic in both.
+/// Counts one more in the store of any disk, with any macro functions: what holds a store is generic in both.
 fn next_on<D: Disk + Drop, M: MacroFunctions + Drop>(
     alloc: Global,
     disk: D,

@@ -10,7 +10,7 @@ use Rattle.package_table.specs.Table.{Table as Packages, common_lisp_user}
 use Rattle.plist_state.specs.State.{WorldState}
 use Rattle.user_macros.specs.Functions.{Functions, no_functions}
 use Rattle.lisp_operators.specs.Evaluation.{Done}
-use Rattle.lisp_reading.specs.declared.found.Found.TheVariants.{One as one}
+use Rattle.lisp_reading.specs.declared.attempt.Found.TheVariants.{One as one}
 use Rattle.lisp_reading.specs.Setting.{setting_of}
 use Rattle.lisp_reading.specs.Reading.{form, outcome, reads, reads_at}
 use Rattle.lisp_reading.proofs.Forms.{drop_front, reads_is}

@@ -26,7 +26,7 @@ use Rattle.lisp_operators.specs.Properties.{t as t_object}
 use Rattle.evaluator.specs.Value.{value_by, values_by, value_over}
 use Rattle.form_eval.specs.Acceptance.{accepted_by}
 use Rattle.form_eval.proofs.KnownSymbols.{known_symbols}
-use Rattle.world_forms.specs.NameTokens.{is_too_long, prefix_length}
+use Rattle.world_forms.specs.NameTokens.{is_too_long, token_prefix_length}
 use Rattle.text_laws.specs.Objects.{call}
 use Rattle.text_laws.proofs.One.{two_values}
 use Rattle.export_laws.proofs.PackageText.{change_argument}
@@ -35,7 +35,7 @@ use Rattle.prevalence_store.specs.meaning.Acceptance.{transaction_value}
 use Rattle.prevalence_store.specs.meaning.Forgetting.{is_forgetting}
 use Rattle.prevalence_store.proofs.meaning.Transactions.{not_forgetting}
 
-prefix_short : (prefix : Name) → prefix_length prefix ≤ length prefix + 2
+prefix_short : (prefix : Name) → token_prefix_length prefix ≤ length prefix + 2
 prefix_short prefix = by_package (bytes_eq prefix keyword) (bytes_eq prefix common_lisp_user)
   where
     by_package : (k u : Bool) → (if k then 1 else (if u then 0 else length prefix + 2)) ≤ length prefix + 2
@@ -124,7 +124,7 @@ module _ (names : List Name) (s : WorldState) (sound : packages.AreSoundPackages
             let same : n ≡ codes "NIL" = (bytes_eq-Decides n (codes "NIL")).0 (and_parts (bytes_eq h (codes "COMMON-LISP")) (bytes_eq n (codes "NIL")) nil_so).1 in
             let three : length n ≡ 3 = ap length same in
             let few : length prefix ≤ 256 = (sound.within.package_names prefix there).short in
-            absurd (omega (arith, three, few, prefix_short prefix, ltb-true 4096 (prefix_length prefix + length n) long))
+            absurd (omega (arith, three, few, prefix_short prefix, ltb-true 4096 (token_prefix_length prefix + length n) long))
         | false ↦ λ _. refl
       ] refl
 

@@ -14,10 +14,10 @@ use Rattle.user_macros.specs.Functions.{no_functions}
 use Rattle.canon_printer.specs.Names as names
 use Rattle.canon_printer.specs.Names.{with_backslashes, is_escaped_in_bars}
 use Rattle.canon_printer.specs.Written.{is_escaped_in_text, printed_text}
-use Rattle.lisp_reading.specs.declared.found.Found.TheVariants.{One as one}
+use Rattle.lisp_reading.specs.declared.attempt.Found.TheVariants.{One as one}
 use Rattle.prevalence_store.specs.meaning.Acceptance.{form_limits}
 use Rattle.world_text.proofs.Spelling.{IsAscii}
-use Rattle.world_forms.specs.NameTokens.{call_text, is_portable_name, is_too_long, name_text, prefix_length, symbol_text, text_argument, value_text}
+use Rattle.world_forms.specs.NameTokens.{call_text, is_portable_name, is_too_long, name_text, token_prefix_length, symbol_text, text_argument, value_text}
 use Rattle.text_laws.specs.Objects.{call}
 use Rattle.export_laws.proofs.OneForm.{IsForm}
 use Rattle.text_laws.proofs.PartsRead.{AreRead, IsRead, deeper, list_read, listed_is_read, no_more, one_more, quoted_is_read}
@@ -58,7 +58,7 @@ name_short n =
 
 symbol_short : (home own : Name) → is_too_long home own ≡ false → length (symbol_text home own) ≤ 8202
 unfolding is_too_long symbol_text
-symbol_short home own short = by_home (bytes_eq home keyword) (bytes_eq home common_lisp_user) (ltb-false 4096 (prefix_length home + length own) short)
+symbol_short home own short = by_home (bytes_eq home keyword) (bytes_eq home common_lisp_user) (ltb-false 4096 (token_prefix_length home + length own) short)
   where
     by_home : (k u : Bool) → (if k then 1 else (if u then 0 else length home + 2)) + length own ≤ 4096
         → length ((if k then codes ":" else (if u then [] else name_text home ++ codes "::")) ++ name_text own) ≤ 8202

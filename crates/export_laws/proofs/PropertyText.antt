@@ -10,8 +10,8 @@ use Rattle.user_macros.specs.Functions.{no_functions}
 use Rattle.canon_printer.specs.Names as names
 use Rattle.canon_printer.specs.Printed.{printed}
 use Rattle.lisp_reading.specs.declared.limits.Limits.{Limits}
-use Rattle.lisp_reading.specs.declared.found.Found.{Found}
-use Rattle.lisp_reading.specs.declared.found.Found.TheVariants.{One as one}
+use Rattle.lisp_reading.specs.declared.attempt.Found.{Found}
+use Rattle.lisp_reading.specs.declared.attempt.Found.TheVariants.{One as one}
 use Rattle.lisp_reading.specs.Plans.{Read}
 use Rattle.lisp_reading.specs.Reading.{attempt, outcome, reads, reads_at}
 use Rattle.lisp_reading.proofs.Following.{Follows, follows}

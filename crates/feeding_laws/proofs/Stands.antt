@@ -22,7 +22,7 @@ use Rattle.message_laws.specs.NearRounds.{IsTidy, Near}
 use Rattle.message_laws.proofs.Tidy.{sound_tidy}
 use Rattle.message_laws.proofs.Together.{StandsAt, near_itself, stands_first}
 use Rattle.message_session.specs.Account.{MessageAccount}
-use Rattle.message_session.specs.FrameAnswers.{AskAlike, answers_of, answers_to, each_frame, one_frame, parts_of_asked}
+use Rattle.message_session.specs.FrameAnswers.{AskAlike, answers_of, answers_to, each_frame, one_frame, frame_of_request}
 use Rattle.message_session.specs.declared.answer.TheConstants.{MOST_CLIENTS}
 use Rattle.message_session.specs.MessageSessions.{text_limit}
 use Rattle.message_session.proofs.Rounds.{answers_append, both_rounds, same_rounds}
@@ -45,14 +45,14 @@ asked_by Ask bytes = asked.Request (record { number = None; text = record { ref_
 abbrev asked_of : Sent → AnyRequest
 asked_of frame = asked_by frame.0 frame.1
 
-one_alike : (kind : Kind) (bytes : List ℕ) → parts_of_asked (asked_by kind bytes) ≡ (kind, bytes)
+one_alike : (kind : Kind) (bytes : List ℕ) → frame_of_request (asked_by kind bytes) ≡ (kind, bytes)
 one_alike (Do number) bytes = refl
 one_alike (By number) bytes = refl
 one_alike Ask bytes = refl
 
 alike : (frames : List Sent) → AskAlike (map asked_of frames) frames
 alike [] = refl
-alike (frame ∷ frames) = ap (λ one. one ∷ map parts_of_asked (map asked_of frames)) (one_alike frame.0 frame.1) ∙ ap (λ rest. frame ∷ rest) (alike frames)
+alike (frame ∷ frames) = ap (λ one. one ∷ map frame_of_request (map asked_of frames)) (one_alike frame.0 frame.1) ∙ ap (λ rest. frame ∷ rest) (alike frames)
 
 -- frames without a name ask what their requests do
 pub requests_alike : (functions : Functions) (frames : List Sent) (round : Round) → HaveNoNames frames → each_request functions round (map request_of frames) ≡ each_frame functions round frames

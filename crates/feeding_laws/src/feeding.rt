@@ -32,33 +32,46 @@ pub fn feeding_again<D: Disk, R>()
         (handings : List (FrameHanding D R))
         (last : FrameHanding D R)
         → FramesAreHanded functions D.state account handings
-        → AnswersAreStored functions D.state (account_after_frames functions account handings) last.store last.frames last.bytes
+        → AnswersAreStored functions D.state (account_after_frames functions account handings)
+        last.store last.frames last.bytes
         → HaveNoNames last.frames
         → FramesAreHanded functions D.state account (handings ++ last ∷ [])
-        × (account_after_frames functions account (handings ++ last ∷ []) ≡ with_frames functions last.frames last.store (account_after_frames functions account handings)) }
+        × (account_after_frames functions account (handings ++ last ∷ [])
+        ≡ with_frames functions last.frames last.store (account_after_frames functions account handings)) }
     ensures in_rounds { (functions : Functions) (account : MessageAccount D)
         (handings : List (FrameHanding D R))
         → FramesAreHanded functions D.state account handings
-        → AccountTellsPlace (after_rounds functions (place_at account.last account.now) (rounds_of_frames handings)) (account_after_frames functions account handings) }
+        → AccountTellsPlace (after_rounds functions (place_at account.last account.now)
+        (rounds_of_frames handings)) (account_after_frames functions account handings) }
     ensures while_stored { (functions : Functions) (account : MessageAccount D)
         (handings : List (FrameHanding D R)) (one : FrameHanding D R)
         → (more : List Sent) (image : Image) (now : WorldState)
-        → IsFirstMessageAccount account → IsHonest (D.state account.disk) → Keeps functions (D.state account.disk) account.now
+        → IsFirstMessageAccount account → IsHonest (D.state account.disk)
+        → Keeps functions (D.state account.disk) account.now
         → FramesAreHanded functions D.state account handings
-        → AnswersAreStored functions D.state (account_after_frames functions account handings) one.store one.frames one.bytes
+        → AnswersAreStored functions D.state
+        (account_after_frames functions account handings) one.store one.frames one.bytes
         → HaveNoNames one.frames → HaveNoNames more
-        → (D.state one.store.disk).left_since (D.state (account_after_frames functions account handings).disk).moment image → MeansWorld functions image now
-        → FeedsAgain functions account.last account.now ((account_after_frames functions account handings).answered ++ (one.frames ++ more)) now }
+        → (D.state one.store.disk).left_since
+        (D.state (account_after_frames functions account handings).disk).moment image
+        → MeansWorld functions image now
+        → FeedsAgain functions account.last account.now
+        ((account_after_frames functions account handings).answered ++ (one.frames ++ more)) now }
     ensures while_ended { (functions : Functions) (account : MessageAccount D)
         (handings : List (FrameHanding D R))
         (store : StoreView D R)
         → (more : List Sent) (image : Image) (now : WorldState)
-        → IsFirstMessageAccount account → IsHonest (D.state account.disk) → Keeps functions (D.state account.disk) account.now
+        → IsFirstMessageAccount account → IsHonest (D.state account.disk)
+        → Keeps functions (D.state account.disk) account.now
         → FramesAreHanded functions D.state account handings
-        → (since : FramesAreUnderWay functions D.state (account_after_frames functions account handings) store)
+        → (since : FramesAreUnderWay functions D.state
+        (account_after_frames functions account handings) store)
         → HaveNoNames since.frames → HaveNoNames more
-        → (D.state store.disk).left_since (D.state (account_after_frames functions account handings).disk).moment image → MeansWorld functions image now
-        → FeedsAgain functions account.last account.now ((account_after_frames functions account handings).answered ++ (since.frames ++ more)) now }
+        → (D.state store.disk).left_since
+        (D.state (account_after_frames functions account handings).disk).moment image
+        → MeansWorld functions image now
+        → FeedsAgain functions account.last account.now
+        ((account_after_frames functions account handings).answered ++ (since.frames ++ more)) now }
 {}
 
 /// A session over a store that has a position, whose input are the messages over it, of all these frames, and no more: where they may be fed
@@ -69,7 +82,8 @@ pub fn fed_sessions<D: Disk, R>()
         → (left held written : Option (List ℕ))
         → FeedsAgain functions last first frames now → told_in now ≡ Some position
         → AllByRecursion (IsFrame text_limit) frames
-        → ServesMessages functions D.state old new now (Some (flat_map frame_bytes (over position frames))) left held written MessagesEnd.End
+        → ServesMessages functions D.state old new now (Some (flat_map frame_bytes (over position frames)))
+        left held written MessagesEnd.End
         → AreAnsweredAgain functions new last first frames position held written }
 {
     bytes_are_one_list();

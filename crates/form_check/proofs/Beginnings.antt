@@ -15,7 +15,7 @@ use Rattle.form_reader.specs.declared.reader.Advance.TheVariants.{More as Advanc
 use Rattle.form_reader.specs.declared.reader.ReadOutcome.{ReadOutcome}
 use Rattle.form_reader.specs.declared.reader.ReadOutcome.TheVariants as outcomes
 use Rattle.form_reader.specs.Reader.{begun, FeedsReader, HasBegunAfter, IsAfterBytes, IsOutcome, RefusesFrom, Steps, StepsBegun}
-use Rattle.form_check.specs.Checking.{IsBeginning, ending}
+use Rattle.form_check.specs.Checking.{IsBeginning, beginning_at_end}
 use Rattle.form_check.specs.declared.begin.Beginning.TheVariants as begins
 
 -- a form has no more bytes than the text
@@ -63,7 +63,7 @@ whole_begun setting new text count step has is all =
 
 -- at the end of the text
 pub ends : (setting : Setting) (text : List ℕ) (outcome : ReadOutcome) (start : ℕ) → IsOutcome outcome (reads setting text) → RefusesFrom setting text start outcome
-    → start ≤ length text → FormsFit → RefusalsFit → IsBeginning setting text (ending outcome start)
+    → start ≤ length text → FormsFit → RefusalsFit → IsBeginning setting text (beginning_at_end outcome start)
 ends setting text outcomes.Empty start is from far forms refusals = is
 ends setting text (outcomes.Form datum first «end» next) start is from far forms refusals =
     (object_of datum, first, «end», is.0, forms setting text (object_of datum) first «end» next is.0)

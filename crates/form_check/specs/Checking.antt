@@ -18,6 +18,7 @@ use Rattle.form_check.specs.declared.checking.Unreadable.{Unreadable}
 abbrev pub checked_limits : Limits
 checked_limits = record { text = 1048576; token = 4096; nesting = 100 }
 
+-- reading under the limits of a form, with this readtable, this base, these packages and this current one
 abbrev pub setting_under : Table → ℕ → Packages → Name → Functions → Setting
 setting_under table base packages current functions = setting_of checked_limits table base packages current functions
 
@@ -30,6 +31,7 @@ after_line (c ∷ cs) = if c == 10 then cs else after_line cs
 abbrev pub Checking : Type 0
 Checking = ℕ × List Unreadable
 
+-- one that cannot be read, before the others; there are as many forms
 abbrev pub with_one : Unreadable → Checking → Checking
 with_one one others = (others.0, one ∷ others.1)
 
@@ -41,7 +43,7 @@ found_after more forms offset start text (form x from «end» next) = more (drop
 found_after more forms offset start text (refused number at) =
     with_one (record { number = number; forms = forms; start = offset + start; at = offset + at }) (more (after_line (drop at text)))
 
--- The same of a text that is the end of one of so many bytes, after so many forms. The first number bounds the turns, each of which takes a
+-- What is found in a text that is the end of one of so many bytes, after so many forms. The first number bounds the turns, each of which takes a
 -- byte at least.
 unfoldable pub checked_in : Setting → ℕ → (forms whole : ℕ) → List ℕ → Checking
 checked_in setting zero forms whole text = (forms, [])
@@ -61,7 +63,7 @@ IsBeginning setting text (begins.Refused number start at) =
     (reads setting text ≡ refused number at) × (decided_from setting text ≡ start) × (start ≤ length text) × (at ≤ length text)
 
 -- what a text begins with that came to this at its end, where what is open began there
-abbrev pub ending : ReadOutcome → ℕ → Beginning
-ending outcomes.Empty start = begins.Nothing
-ending (outcomes.Form datum from «end» next) start = begins.Form next
-ending (outcomes.Refused number at) start = begins.Refused number start at
+abbrev pub beginning_at_end : ReadOutcome → ℕ → Beginning
+beginning_at_end outcomes.Empty start = begins.Nothing
+beginning_at_end (outcomes.Form datum from «end» next) start = begins.Form next
+beginning_at_end (outcomes.Refused number at) start = begins.Refused number start at

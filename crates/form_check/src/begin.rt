@@ -2,7 +2,7 @@
 ghost use Rattle.std.specs.Prelude.{◌≡◌, ◌≤◌, ◌^◌, ℕ, List, IfOk};
 ghost use Rattle.package_table.specs.Table.{IsPackage};
 ghost use Rattle.lisp_reading.specs.Setting.{setting_of};
-ghost use Rattle.form_check.specs.Checking.{IsBeginning, ending, setting_under};
+ghost use Rattle.form_check.specs.Checking.{IsBeginning, beginning_at_end, setting_under};
 ghost use Rattle.form_reader.specs.Reader.{IsAfterBytes, HasBegunAfter, fed, limits_of};
 
 use form_reader::{
@@ -108,7 +108,7 @@ fn finished<M: MacroFunctions>(
 
 // What a text begins with that came to this, where what is open began there.
 fn ended(outcome: &ReadOutcome, start: usize) -> Beginning
-    ensures { result ≡ ending outcome.now start }
+    ensures { result ≡ beginning_at_end outcome.now start }
 {
     match outcome {
         ReadOutcome::Empty => Beginning::Nothing,

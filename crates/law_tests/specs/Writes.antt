@@ -2,7 +2,7 @@
 use Rattle.std.specs.Prelude.{◌≡◌, ℕ, List, length}
 use Rattle.disk_trait.specs.Disk.{Image, State}
 use Rattle.gate_log.specs.Layout.{Contents, LogRecord}
-use Rattle.gate_log.specs.Version3.{HoldsBatches, IsBeforeMark, BeginsWithNoMark, batches_front, mark_of_one_sync, mark_of_two_syncs}
+use Rattle.batched_half.specs.Version3.{HoldsBatches, IsBeforeMark, BeginsWithNoMark, batches_front, mark_of_one_sync, mark_of_two_syncs}
 
 -- kept with two syncs: a closed gate stands at this offset
 pub record EndsClosed (k : Contents) (at : ℕ) (file : List ℕ) : Type 0 where

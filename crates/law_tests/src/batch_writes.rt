@@ -8,14 +8,14 @@ ghost use Rattle.disk_trait.specs.Calls.{IsWithinFile};
 ghost use Rattle.disk_trait.specs.Disk.{IsHonest, IsMixing};
 ghost use Rattle.disk_trait.specs.Memory.{state_of};
 ghost use Rattle.gate_log.specs.Layout.{Contents, with_records};
-ghost use Rattle.gate_log.specs.Version3.{EndsInZeros, HoldsBatches, MayCome, mark_of_one_sync};
+ghost use Rattle.batched_half.specs.Version3.{EndsInZeros, HoldsBatches, MayCome, mark_of_one_sync};
 ghost use Rattle.law_tests.specs.Writes.{EndsClosed, HasLeftBehind, IsBehindGate, LeavesHalf};
 
 use crate::batches::{batch_of_two, count_records, is_damaged};
-use disk_trait::{Crash, DeviceFault, Disk, Half, MemoryDisk};
-use gate_log::{
+use batched_half::{
     batches_of_one_sync, batches_of_two_syncs, left_batches_are_cleared, one_contents_in_batches,
 };
+use disk_trait::{Crash, DeviceFault, Disk, Half, MemoryDisk};
 use std::test::Fail;
 
 /// The mark of a batch with one sync.

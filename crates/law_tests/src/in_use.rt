@@ -1,8 +1,7 @@
 //! Two logs whose disks read the same.
-ghost use Rattle.std.specs.Prelude.{◌≡◌, ◌-◌, ◌^◌, ◌<◌, IsTrue, Option};
+ghost use Rattle.std.specs.Prelude.{◌≡◌, ◌-◌, ◌^◌, ◌<◌, IsTrue};
 ghost use Rattle.disk_trait.specs.Disk.{Image};
-ghost use Rattle.gate_log.specs.HalfInUse.{Shows};
-ghost use Rattle.gate_log.specs.Layout.{Contents};
+ghost use Rattle.gate_log.specs.Opening.{FindsContents};
 
 use crate::AMPLE;
 use disk_trait::{Disk, Half, MemoryDisk};
@@ -16,10 +15,9 @@ fn is_same(one: Half, other: Half) -> bool
     one == other
 }
 
-/// Whether two logs have the same half in use: those whose disks read the same have.
+/// Whether two logs have the same half in use: those that found it on disks that read the same have.
 fn have_same_half<D: Disk, E: Disk>(one: &Halves<D>, other: &Halves<E>) -> bool
-    ensures { (k j : Option Contents) (image : Image)
-        → Shows one.now.used k image → Shows other.now.used j image → IsTrue result }
+    ensures { (image : Image) → FindsContents one.now.used image → FindsContents other.now.used image → IsTrue result }
 {
     one_answer();
     is_same(one.half(), other.half())

@@ -6,6 +6,7 @@
 //!
 //! - `outcomes`: what was read of a text; `tokens`: a token, and the look-up of a name; `round_trip`: an object that is printed and read again
 //! - `carried_out`: a form that is carried out in a world; `answers`: a form that a store answers as an earlier program did
+//! - `earlier_files`: a store that is opened on files of version 2
 //! - `texts`: two worlds with the same text; `parts`: the export of the data of a world, and what each of its parts makes
 //! - `batches`: records that come together, and what a crash leaves of their bytes; `batch_writes`: the writes of such records to a half
 //! - `halves`: what a half of version 3 holds as it is read, and one of its records
@@ -26,6 +27,8 @@ mod batch_writes;
 mod batches;
 #[cfg(test)]
 mod carried_out;
+#[cfg(test)]
+mod earlier_files;
 #[cfg(test)]
 mod first_answers;
 #[cfg(test)]

@@ -1,10 +1,13 @@
 pub mod AtOnce
 pub mod AtRest
 pub mod Cutting
+pub mod CuttingBatches
 pub mod Growing
+pub mod HeldOnce
 pub mod InMemory
 pub mod Looked
 pub mod Looking
 pub mod Opening
+pub mod OverZeros
 pub mod Reading
 pub mod Sights

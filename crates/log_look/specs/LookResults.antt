@@ -31,14 +31,14 @@ pub record SaysGeneration (generation : ℕ) (head : List ℕ) : Type 0 where
   pub none : generation ≡ 0 → HasOpenGate head → (length head < 16) ⊎ (generation_of head ≡ 0)
 
 -- the half of the greater of two generations, with it; A where they are the same; none where both are 0
-abbrev pub IsNewer : Half → ℕ → ℕ → ℕ → Type 0
-IsNewer A generation in_a in_b = (generation ≡ in_a) × (0 < in_a) × (in_b ≤ in_a)
-IsNewer B generation in_a in_b = (generation ≡ in_b) × (0 < in_b) × (in_a < in_b)
+abbrev pub IsHalfOfGreater : Half → ℕ → ℕ → ℕ → Type 0
+IsHalfOfGreater A generation in_a in_b = (generation ≡ in_a) × (0 < in_a) × (in_b ≤ in_a)
+IsHalfOfGreater B generation in_a in_b = (generation ≡ in_b) × (0 < in_b) × (in_a < in_b)
 
 -- the half with the greater generation, of these two; 0 is no half
-abbrev pub IsNewest : Option (Half × ℕ) → ℕ → ℕ → Type 0
-IsNewest None in_a in_b = (in_a ≡ 0) × (in_b ≡ 0)
-IsNewest (Some newest) in_a in_b = IsNewer newest.0 newest.1 in_a in_b
+abbrev pub IsGreaterOfHalves : Option (Half × ℕ) → ℕ → ℕ → Type 0
+IsGreaterOfHalves None in_a in_b = (in_a ≡ 0) × (in_b ≡ 0)
+IsGreaterOfHalves (Some newest) in_a in_b = IsHalfOfGreater newest.0 newest.1 in_a in_b
 
 -- a file was open with this generation at one moment between two
 pub record WasOpen (file : ℕ → List ℕ) (generation from to : ℕ) : Type 0 where

@@ -77,6 +77,9 @@ pub enum LogError {
     /// The half in use has a version that is not known.
     #[error("the half in use has a version that is not known")]
     UnknownVersion,
+    /// The half in use is kept with one sync, and the disk does not claim that its writes mix. A sight claims it, as nothing is written to it.
+    #[error("the half in use is kept with one sync, and the writes of the disk may tear")]
+    DoesNotMix,
 }
 
 impl From<AllocError> for LogError {
@@ -96,6 +99,7 @@ impl From<OpenRefusal> for LogError {
             OpenRefusal::DeviceFault => LogError::DeviceFault,
             OpenRefusal::Damaged => LogError::Damaged,
             OpenRefusal::UnknownVersion => LogError::UnknownVersion,
+            OpenRefusal::DoesNotMix => LogError::DoesNotMix,
         }
     }
 }

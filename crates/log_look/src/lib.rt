@@ -3,10 +3,13 @@
 //! A writer goes on while the two files are read, so that they are never seen at one moment. `look` reads the half in use from its
 //! start to its end, and the headers of both halves before and after. Where the half is still the one in use, and of the same
 //! generation, its bytes hold what it held at one moment in between (`WasMeant` in `specs/LookResults.antt`): they were read forward, and the
-//! log writes a record behind its closed gate before it opens that gate. Else it looks again.
+//! log writes a record, or a batch, behind its closed gate before it opens that gate; or, with one sync, over zeros, and then what is held is what
+//! stands before the first 0. Else it looks again.
 //!
-//! What it rests on: nobody but the log of a store writes the two files (`IsKept` in `specs/FilesDuringLook.antt`), and a read gives what was
-//! there when it was read (`LiveFiles`).
+//! What it rests on: nobody but the log of a store writes the two files (`AreFilesAppended` in `specs/FilesDuringLook.antt`), and a read gives
+//! what was there when it was read (`LiveFiles`). Where a half that is kept with one sync was cut short by a crash, the first append after an
+//! opening overwrites what is left with zeros. A look that goes on meanwhile is not covered: the sums of each record are looked at then
+//! as ever, and no more is claimed.
 //!
 //! # Modules
 //!
@@ -46,8 +49,12 @@ pub use tries::look;
 const OPEN: u8 = 0xA5;
 /// The length of a header in bytes.
 const HEADER: usize = 15;
-/// The length of a record's head in bytes.
+/// The length of a record's head in bytes, in a half of version 1 or 2.
 const RECORD_HEAD: usize = 6;
+/// The version whose records come in batches.
+const BATCHED_VERSION: u16 = 3;
+/// Where in a half of that version the mark of its batches stands.
+const MARK_AT: usize = 15;
 /// How many bytes of a half are read at a time.
 const PIECE: usize = 65_536;
 /// How often a look is tried.

@@ -8,9 +8,9 @@ use Rattle.disk_trait.specs.declared.host.IfMissing.{IfMissing}
 use Rattle.disk_trait.specs.declared.host.IfMissing.TheVariants.{Make, Refuse}
 use Rattle.sessions.specs.declared.ending.Ended.{Ended}
 use Rattle.machine_tests.specs.Machine.{FindsAnswered, IsHonestMachine, IsThereByThen, account_of_session, calls_of_session}
-use Rattle.session_ledger.specs.OutgoingLines.{disk_at}
+use Rattle.session_ledger.specs.OutgoingLines.{disk_after_lines}
 use Rattle.session_words.specs.declared.wanted.SessionOptions.{SessionOptions}
-use Rattle.store_commands.specs.Commands.{DoesAfter, AreStreamsUntouched, OpensFolder, TellsUnopened}
+use Rattle.store_commands.specs.Commands.{DoesAfter, AreStreamsUntouched, OpensFolder, IsStatusOfUnopenedStore}
 use Rattle.store_commands.specs.Folders.{OpensStore}
 use Rattle.store_commands.specs.Session.{IsSession}
 use Rattle.store_commands.specs.declared.status.Status.{Status}
@@ -40,7 +40,7 @@ module _ (functions : Functions) (wanted : SessionOptions) {D R I O : Type 0} (s
   abbrev Law : (back : D) (ended : Ended) → Session back ended → Type 0
   Law back ended session =
       (k : ℕ) → k ≤ length session.went.out.sent → (image : Image)
-      → (state back).left_since (state (disk_at (account_of_session functions wanted state session) session.went.out.sent k)).moment image
+      → (state back).left_since (state (disk_after_lines (account_of_session functions wanted state session) session.went.out.sent k)).moment image
       → MeansCalls functions session.is_opened.world (calls_of_session functions wanted state session) k image
 
   -- `run` over that disk
@@ -48,7 +48,7 @@ module _ (functions : Functions) (wanted : SessionOptions) {D R I O : Type 0} (s
       → ((back : D) (ended : Ended) (session : Session back ended) → FindsAnswered functions R state disk session.is_opened.world)
       → DoesAfter functions state macros whole remaining contents input left held written (Run wanted) status told disk
       → IsThereByThen functions wanted state macros (remaining input) (remaining left) (contents held) (contents written) disk
-      ⊎ ((back : D) × TellsUnopened functions state disk back whole status × AreStreamsUntouched input left held written)
+      ⊎ ((back : D) × IsStatusOfUnopenedStore functions state disk back whole status × AreStreamsUntouched input left held written)
   there_after honest law finds (back, inl (ended, after, tells, session)) = inl (record {
     back = back;
     ended = ended;

@@ -8,7 +8,7 @@ use Rattle.plist_state.specs.State.{WorldState}
 use Rattle.prevalence_store.specs.Theorem.{Call, MeansAsBefore}
 use Rattle.sessions.specs.Account.{Account, first_account}
 use Rattle.sessions.specs.declared.ending.Ended.{Ended}
-use Rattle.session_ledger.specs.OutgoingLines.{calls_in, disk_at}
+use Rattle.session_ledger.specs.OutgoingLines.{calls_in, disk_after_lines}
 use Rattle.session_words.specs.declared.wanted.SessionOptions.{SessionOptions}
 use Rattle.store_commands.specs.Session.{IsSession}
 use Rattle.store_laws.specs.Batches.{IsAfterCalls, MeansCalls}
@@ -32,7 +32,7 @@ module _ (functions : Functions) (wanted : SessionOptions) {D R : Type 0} (state
 
   -- Lines went out at least k times, and a crash at some moment from the k-th on, up to the end of the session, might have left this image.
   abbrev pub IsLeftSince : ℕ → Image → Type 0
-  IsLeftSince k image = (k ≤ length session.went.out.sent) × (state back).left_since (state (disk_at account_of_session session.went.out.sent k)).moment image
+  IsLeftSince k image = (k ≤ length session.went.out.sent) × (state back).left_since (state (disk_after_lines account_of_session session.went.out.sent k)).moment image
 
 -- A store that is opened on this disk finds what earlier sessions on such a machine answered: if the disk reads what a crash left of a session
 -- since lines went out for the k-th time, the store has the world after all forms of at least k times, and of no time a part.

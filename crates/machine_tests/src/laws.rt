@@ -39,7 +39,7 @@ pub fn what_was_answered_is_found<D: Disk, E: Disk, R, S>()
         → (crashed unopened : E) (limit number : ℕ)
         → IsHonest (E.state crashed) → (E.state crashed).reads ≡ image
         → (refused : IsUnopened functions E.state crashed true limit number unopened)
-        → IsNoWord (limit_of limit) image refused.fault }
+        → IsNoWord (E.state crashed).mixes (limit_of limit) image refused.fault }
     ensures unbegun { (functions : Functions) (wanted other : SessionOptions) (start back : D) (macros : R)
         → (had has held written : Option (List ℕ)) (ended : Ended) (before : WorldState)
         → IsHonest (D.state start) → Keeps functions (D.state start) before

@@ -4,7 +4,7 @@ ghost use Rattle.clap.specs.Words.{Text};
 ghost use Rattle.command_words.specs.CommandLine.{IsTakenByLine};
 ghost use Rattle.command_words.specs.declared.words.Task.{Task};
 ghost use Rattle.session_words.specs.declared.wanted.SessionOptions.{SessionOptions};
-ghost use Rattle.store_commands.specs.Commands.{AreStreamsUntouched, OpensFolder, TellsUnopened};
+ghost use Rattle.store_commands.specs.Commands.{AreStreamsUntouched, OpensFolder, IsStatusOfUnopenedStore};
 ghost use Rattle.store_commands.specs.Folders.{OpensStore};
 ghost use Rattle.store_commands.specs.declared.told.Remark.{Remark};
 ghost use Rattle.machine_tests.specs.Machine.{IsHonestMachine, IsThereByThen};
@@ -52,7 +52,7 @@ where
         (λ disk. IsThereByThen M.Meaning.functions wanted R.Disk.state macros
         (I.remaining input.old) (I.remaining input.new)
         (O.contents output.old.output) (O.contents output.new.output) disk
-        ⊎ ((back : R.Disk) × TellsUnopened M.Meaning.functions R.Disk.state disk back
+        ⊎ ((back : R.Disk) × IsStatusOfUnopenedStore M.Meaning.functions R.Disk.state disk back
         (are_registered M.Meaning.functions (M.functions macros)) result
         × AreStreamsUntouched input.old input.new output.old output.new))
         folder existing result told }

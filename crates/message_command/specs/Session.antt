@@ -24,7 +24,7 @@ session_status (way.Fault number) = Fault number
 -- The store that a disk holds was opened with these macro functions, and it served the frames of the input. It may have written zeros ahead,
 -- which were cut then, and it was closed: this is its disk. What failed in the cut is how the session ended. A recipient
 -- that keeps account has this one at the end.
-pub record IsMessageSession (functions : Functions) {D R : Type 0} (state : D → State) (disk : D) (macros : R) (had has held written : Option (List ℕ)) (account : Option (MessageAccount D)) (ended : MessagesEnd) (back : D) : Type 0 where
+pub record IsSessionOfMessageCommand (functions : Functions) {D R : Type 0} (state : D → State) (disk : D) (macros : R) (had has held written : Option (List ℕ)) (account : Option (MessageAccount D)) (ended : MessagesEnd) (back : D) : Type 0 where
   pub opened : StoreView D R
   pub is_opened : IsOpened functions state disk macros half_limit opened
   pub served : StoreView D R
@@ -42,7 +42,7 @@ module _ (functions : Functions) {D R : Type 0} (state : D → State) (macros : 
   -- second.
   abbrev pub ServesOn : D → D → MessagesEnd → Type 0
   ServesOn disk back ended =
-      IsMessageSession functions state disk macros (remaining input) (remaining left) (contents held) (contents written) account ended back
+      IsSessionOfMessageCommand functions state disk macros (remaining input) (remaining left) (contents held) (contents written) account ended back
       ⊎ ((number : ℕ) × (ended ≡ way.Fault number) × IsUnopened functions state disk whole half_limit number back × AreStreamsUntouched input left held written)
 
   -- over the disk that the opening of a folder gave, with the status of its end

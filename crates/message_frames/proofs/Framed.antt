@@ -11,7 +11,7 @@ use Rattle.message_frames.specs.declared.frame.Kind.{Kind}
 use Rattle.message_frames.specs.declared.frame.Kind.TheVariants.{Do, By, Ask}
 use Rattle.message_frames.specs.Frames.{IsFrame, IsKind, Sent, frame_bytes, sized_text}
 use Rattle.message_frames.specs.Reading.{IsMessage, keyword_bytes, message_bytes}
-use Rattle.message_frames.specs.Words.{Begins, BeginsNone, IsPart, Reads}
+use Rattle.message_frames.specs.Words.{Begins, BeginsNone, IsPartOfWord, Reads}
 
 -- a message as a frame, one of a client, and a question
 abbrev pub message_of : ℕ × List ℕ → Sent
@@ -40,7 +40,7 @@ module _ (limit : ℕ) (rest bytes : List ℕ) (first : Begins keyword_bytes (λ
         ∙ ap (λ z. z ++ after) (sym (message_parts message));
   }
 
-  pub message_is_part : IsPart message_bytes (IsMessage limit) rest → IsPart frame_bytes (IsFrame limit) bytes
+  pub message_is_part : IsPartOfWord message_bytes (IsMessage limit) rest → IsPartOfWord frame_bytes (IsFrame limit) bytes
   message_is_part part = record {
     x = message_of part.x;
     more = part.more;
@@ -79,7 +79,7 @@ module _ (limit : ℕ) (rest bytes : List ℕ) (first : Begins keyword_bytes (λ
         ∙ ap (λ z. z ++ after) (sym (client_message_parts message));
   }
 
-  pub client_message_is_part : IsPart message_bytes (IsMessage limit) rest → IsPart frame_bytes (IsFrame limit) bytes
+  pub client_message_is_part : IsPartOfWord message_bytes (IsMessage limit) rest → IsPartOfWord frame_bytes (IsFrame limit) bytes
   client_message_is_part part = record {
     x = client_message_of part.x;
     more = part.more;
@@ -116,7 +116,7 @@ module _ (limit : ℕ) (rest bytes : List ℕ) (first : Begins keyword_bytes (λ
     parts = first.parts ∙ ap (λ z. codes "ask " ++ z) second.parts ∙ sym (append_assoc (codes "ask ") (sized_text text) after);
   }
 
-  pub question_is_part : IsPart sized_text (λ t. length t ≤ limit) rest → IsPart frame_bytes (IsFrame limit) bytes
+  pub question_is_part : IsPartOfWord sized_text (λ t. length t ≤ limit) rest → IsPartOfWord frame_bytes (IsFrame limit) bytes
   question_is_part part = record {
     x = question_of part.x;
     more = part.more;
@@ -145,9 +145,9 @@ module _ (limit : ℕ) (rest bytes : List ℕ) (first : Begins keyword_bytes (λ
 
 -- ---- no first word
 
-pub part_of_keyword : (limit : ℕ) (bytes : List ℕ) → IsPart keyword_bytes (λ _. Unit {0}) bytes → IsPart frame_bytes (IsFrame limit) bytes
+pub part_of_keyword : (limit : ℕ) (bytes : List ℕ) → IsPartOfWord keyword_bytes (λ _. Unit {0}) bytes → IsPartOfWord frame_bytes (IsFrame limit) bytes
 part_of_keyword limit bytes part = goes_on part.x part.more part.parts part.some where
-  goes_on : (k : Keyword) (more : List ℕ) → keyword_bytes k ≡ bytes ++ more → 0 < length more → IsPart frame_bytes (IsFrame limit) bytes
+  goes_on : (k : Keyword) (more : List ℕ) → keyword_bytes k ≡ bytes ++ more → 0 < length more → IsPartOfWord frame_bytes (IsFrame limit) bytes
   goes_on keyword.Do more parts some = record {
     x = message_of (0, []);
     more = more ++ message_bytes (0, []);

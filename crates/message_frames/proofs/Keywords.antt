@@ -10,7 +10,7 @@ use Rattle.std.proofs.lemmas.Slice.Eq.{starts_is}
 use Rattle.message_frames.specs.declared.frame.Keyword.{Keyword}
 use Rattle.message_frames.specs.declared.frame.Keyword.TheVariants as keyword
 use Rattle.message_frames.specs.Reading.{keyword_bytes}
-use Rattle.message_frames.specs.Words.{BeginsNone, IsPart}
+use Rattle.message_frames.specs.Words.{BeginsNone, IsPartOfWord}
 
 -- a word that begins with these bytes and is not the beginning of them goes on after them
 pub word_goes_on : (word bytes : List ℕ) → starts_with nat_eq word bytes ≡ true → pointwise nat_eq (take (length word) word) word ≡ true
@@ -25,17 +25,17 @@ word_goes_on word bytes starts itself none =
           absurd (cc (sym itself ∙ no))
     ]
 
-pub do_is_part : (bytes : List ℕ) → starts_with nat_eq (codes "do ") bytes ≡ true → pointwise nat_eq (take 3 bytes) (codes "do ") ≡ false → IsPart keyword_bytes (λ _. Unit {0}) bytes
+pub do_is_part : (bytes : List ℕ) → starts_with nat_eq (codes "do ") bytes ≡ true → pointwise nat_eq (take 3 bytes) (codes "do ") ≡ false → IsPartOfWord keyword_bytes (λ _. Unit {0}) bytes
 do_is_part bytes starts none =
     let on = word_goes_on (codes "do ") bytes starts refl none in
     record { x = keyword.Do; more = drop (length bytes) (codes "do "); wanted = tt; parts = on.0; some = on.1 }
 
-pub ask_is_part : (bytes : List ℕ) → starts_with nat_eq (codes "ask ") bytes ≡ true → pointwise nat_eq (take 4 bytes) (codes "ask ") ≡ false → IsPart keyword_bytes (λ _. Unit {0}) bytes
+pub ask_is_part : (bytes : List ℕ) → starts_with nat_eq (codes "ask ") bytes ≡ true → pointwise nat_eq (take 4 bytes) (codes "ask ") ≡ false → IsPartOfWord keyword_bytes (λ _. Unit {0}) bytes
 ask_is_part bytes starts none =
     let on = word_goes_on (codes "ask ") bytes starts refl none in
     record { x = keyword.Ask; more = drop (length bytes) (codes "ask "); wanted = tt; parts = on.0; some = on.1 }
 
-pub by_is_part : (bytes : List ℕ) → starts_with nat_eq (codes "by ") bytes ≡ true → pointwise nat_eq (take 3 bytes) (codes "by ") ≡ false → IsPart keyword_bytes (λ _. Unit {0}) bytes
+pub by_is_part : (bytes : List ℕ) → starts_with nat_eq (codes "by ") bytes ≡ true → pointwise nat_eq (take 3 bytes) (codes "by ") ≡ false → IsPartOfWord keyword_bytes (λ _. Unit {0}) bytes
 by_is_part bytes starts none =
     let on = word_goes_on (codes "by ") bytes starts refl none in
     record { x = keyword.By; more = drop (length bytes) (codes "by "); wanted = tt; parts = on.0; some = on.1 }

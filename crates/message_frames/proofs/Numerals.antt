@@ -11,7 +11,7 @@ use Rattle.std.proofs.lemmas.Str.{digit_value_digit}
 use Rattle.std.proofs.lemmas.Str.Parse.{digits_value-take-le}
 use Rattle.std.proofs.lemmas.Fmt.{decimal_is_IsNumeral, decimal_step, decimal_digit, first_decimal, decimal_nonempty}
 use Rattle.message_frames.specs.Numbers.{AddsDigit, AddsNone, IsDigit, digits_of, number_word}
-use Rattle.message_frames.specs.Words.{Begins, BeginsNone, IsPart}
+use Rattle.message_frames.specs.Words.{Begins, BeginsNone, IsPartOfWord}
 use Rattle.message_frames.proofs.Digits.{AreDigits, decimal_has_digits, digits_end, digits_go_on}
 
 -- one digit more
@@ -121,7 +121,7 @@ begins_none number c end most bytes cs small low within other none is n more res
 pub begins : (n end most : ℕ) (bytes rest : List ℕ) → n ≤ most → bytes ≡ decimal n ++ end ∷ rest → Begins (number_word end) (λ m. m ≤ most) n rest bytes
 begins n end most bytes rest least is = record { wanted = least; parts = is ∙ sym (append_assoc (decimal n) (end ∷ []) rest) }
 
-pub is_part : (number : Option ℕ) (end most : ℕ) (bytes : List ℕ) → IfSome number (λ m. m ≤ most) → bytes ≡ digits_of number → IsPart (number_word end) (λ n. n ≤ most) bytes
+pub is_part : (number : Option ℕ) (end most : ℕ) (bytes : List ℕ) → IfSome number (λ m. m ≤ most) → bytes ≡ digits_of number → IsPartOfWord (number_word end) (λ n. n ≤ most) bytes
 is_part None end most bytes within is = record {
   x = 0;
   more = number_word end 0;

@@ -3,7 +3,7 @@ use Rattle.std.proofs.Common.{◌≡◌, ℕ, List, ◌++◌, sym, ap, subst, �
 use Rattle.std.specs.Prelude.{Err}
 use Rattle.message_frames.specs.declared.words.NotWhole.{NotWhole}
 use Rattle.message_frames.specs.declared.words.NotWhole.TheVariants.{Begun, Malformed}
-use Rattle.message_frames.specs.Words.{Begins, BeginsNone, IsPart, Reads}
+use Rattle.message_frames.specs.Words.{Begins, BeginsNone, IsPartOfWord, Reads}
 
 -- The words of Z are each one of X and then one of Y, where that of X says which are wanted.
 pub record IsMade {X Y Z : Type 0} (head : X → List ℕ) (WantedHead : X → Type 0) (tail : Y → List ℕ) (WantedTail : X → Y → Type 0) (word : Z → List ℕ) (Wanted : Z → Type 0) : Type 0 where
@@ -31,7 +31,7 @@ module _ {X Y Z : Type 0} (head : X → List ℕ) (WantedHead : X → Type 0) (t
         ∙ ap (λ z. z ++ after) (sym (made.made_parts x y first.wanted second.wanted));
   }
 
-  pub part_in_head : (bytes : List ℕ) → IsPart head WantedHead bytes → IsPart word Wanted bytes
+  pub part_in_head : (bytes : List ℕ) → IsPartOfWord head WantedHead bytes → IsPartOfWord word Wanted bytes
   part_in_head bytes part =
       let y = made.any part.x in
       let wanted = made.any_wanted part.x part.wanted in
@@ -43,7 +43,7 @@ module _ {X Y Z : Type 0} (head : X → List ℕ) (WantedHead : X → Type 0) (t
         some = omega (arith, part.some, length-append part.more (tail y));
       }
 
-  pub part_in_tail : (x : X) (rest bytes : List ℕ) → Begins head WantedHead x rest bytes → IsPart tail (WantedTail x) rest → IsPart word Wanted bytes
+  pub part_in_tail : (x : X) (rest bytes : List ℕ) → Begins head WantedHead x rest bytes → IsPartOfWord tail (WantedTail x) rest → IsPartOfWord word Wanted bytes
   part_in_tail x rest bytes first part = record {
     x = made.made x part.x;
     more = part.more;

@@ -9,7 +9,7 @@ use Rattle.message_frames.specs.declared.words.NotWhole.{NotWhole}
 use Rattle.message_frames.specs.Frames.{sized_text}
 use Rattle.message_frames.specs.Numbers.{number_word}
 use Rattle.message_frames.specs.Reading.{IsMessage, found_text, message_bytes}
-use Rattle.message_frames.specs.Words.{Begins, BeginsNone, IsPart, Reads}
+use Rattle.message_frames.specs.Words.{Begins, BeginsNone, IsPartOfWord, Reads}
 use Rattle.message_frames.proofs.Digits.{decimal_has_digits, digits_end}
 use Rattle.message_frames.proofs.Parts.{IsMade, both_begin, fault_in_tail}
 
@@ -47,7 +47,7 @@ line_begins_none bytes count within other text more rest long e =
     let both : get_or bytes count 0 ∷ (drop (count + 1) bytes ++ more) ≡ 10 ∷ rest = sym left ∙ ap (drop count) e ∙ right in
     other (ap (λ z. get_or z 0 0) both)
 
-pub line_is_part : (bytes : List ℕ) (count : ℕ) → length bytes ≤ count → IsPart line (λ text. length text ≡ count) bytes
+pub line_is_part : (bytes : List ℕ) (count : ℕ) → length bytes ≤ count → IsPartOfWord line (λ text. length text ≡ count) bytes
 line_is_part bytes count short =
     let rest = replicate (count - length bytes) 0 in
     record {

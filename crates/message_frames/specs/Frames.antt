@@ -5,7 +5,7 @@ use Rattle.std.specs.List.{flat_map, AllByRecursion}
 use Rattle.message_frames.specs.declared.frame.Kind.{Kind}
 use Rattle.message_frames.specs.declared.frame.Kind.TheVariants.{Do, By, Ask}
 use Rattle.message_frames.specs.declared.frame.MessageFrame.{MessageFrame}
-use Rattle.message_frames.specs.Words.{IsPart, BeginsNone}
+use Rattle.message_frames.specs.Words.{IsPartOfWord, BeginsNone}
 
 -- a text after its length: the length and the text, on lines of their own
 abbrev pub sized_text : List ℕ → List ℕ
@@ -21,7 +21,7 @@ frame_head (Do number) = codes "do " ++ (decimal number ++ 32 ∷ [])
 frame_head (By number) = codes "by " ++ (decimal number ++ 32 ∷ [])
 frame_head Ask = codes "ask "
 
--- the same of an answer
+-- the first line of an answer without its length: its keyword and its number
 abbrev pub answer_head : Kind → List ℕ
 answer_head (Do number) = decimal number ++ 32 ∷ []
 answer_head (By number) = codes "by " ++ (decimal number ++ 32 ∷ [])
@@ -52,7 +52,7 @@ pub record IsFrame (limit : ℕ) (frame : Sent) : Type 0 where
 
 -- less than a frame; and no frame, however the bytes go on
 abbrev pub IsBegunFrame : ℕ → List ℕ → Type 0
-IsBegunFrame limit = IsPart frame_bytes (IsFrame limit)
+IsBegunFrame limit = IsPartOfWord frame_bytes (IsFrame limit)
 
 -- these bytes are the beginning of no frame
 abbrev pub IsMalformedFrame : ℕ → List ℕ → Type 0

@@ -9,7 +9,7 @@ pub record Begins {X : Type 0} (word : X → List ℕ) (Wanted : X → Type 0) (
   pub parts : bytes ≡ word x ++ rest
 
 -- less than a word: there is one of which these bytes are a part from its front
-pub record IsPart {X : Type 0} (word : X → List ℕ) (Wanted : X → Type 0) (bytes : List ℕ) : Type 0 where
+pub record IsPartOfWord {X : Type 0} (word : X → List ℕ) (Wanted : X → Type 0) (bytes : List ℕ) : Type 0 where
   pub x : X
   pub more : List ℕ
   pub wanted : Wanted x
@@ -23,5 +23,5 @@ BeginsNone {X = X} word Wanted bytes = (x : X) (more rest : List ℕ) → Wanted
 -- What a reader of words gives of bytes: the word that they begin with and what comes after it; or whether there may still be one.
 abbrev pub Reads : {X : Type 0} → (X → List ℕ) → (X → Type 0) → List ℕ → Result (X × List ℕ) NotWhole → Type 0
 Reads word Wanted bytes (Ok found) = Begins word Wanted found.0 found.1 bytes
-Reads word Wanted bytes (Err Begun) = IsPart word Wanted bytes
+Reads word Wanted bytes (Err Begun) = IsPartOfWord word Wanted bytes
 Reads word Wanted bytes (Err Malformed) = BeginsNone word Wanted bytes

@@ -1,4 +1,5 @@
 pub mod Tidy
-pub mod TidyOperators
+pub mod KeptOperators
+pub mod KeptForms
 pub mod TidyForms
 pub mod Together

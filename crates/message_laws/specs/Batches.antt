@@ -34,7 +34,7 @@ in_batches functions far batches = fold (λ far batch. one_batch functions far b
 abbrev pub all_requests : List (List Request) → List Request
 all_requests batches = flat_map (λ batch. batch) batches
 
--- the same answers and the same last number, and the same world but for its position
+-- two ways to carry requests out have come to one: to equal answers, an equal last number, and worlds that are equal but for the position
 pub record IsAlike (one other : BatchProgress) : Type 0 where
   pub told : one.told ≡ other.told
   pub last : one.last ≡ other.last

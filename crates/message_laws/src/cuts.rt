@@ -17,7 +17,8 @@ pub fn cuts_change_nothing()
     ensures alike { (functions : Functions) (world : WorldState) (last : ℕ)
         (batches others : List (List Request))
         → IsSoundWorldState world → all_requests batches ≡ all_requests others
-        → IsAlike (in_batches functions (at_first last world) batches) (in_batches functions (at_first last world) others) }
+        → IsAlike (in_batches functions (at_first last world) batches)
+        (in_batches functions (at_first last world) others) }
     ensures at_once { (functions : Functions) (world : WorldState) (last : ℕ) (batches : List (List Request))
         → IsSoundWorldState world
         → (in_batches functions (at_first last world) batches).told

@@ -16,7 +16,7 @@ use Rattle.message_laws.specs.Batches.{at_first, with_batch}
 use Rattle.message_laws.specs.NearRounds.{Near}
 use Rattle.message_laws.proofs.Together.{StandsAt, stands_first}
 use Rattle.message_laws.proofs.Tidy.{sound_tidy}
-use Rattle.message_session.specs.FrameAnswers.{AskAlike, answered_bytes, answers_to, each_frame, parts_of_asked}
+use Rattle.message_session.specs.FrameAnswers.{AskAlike, answered_bytes, answers_to, each_frame, frame_of_request}
 use Rattle.message_session.specs.MessageSessions.{HasCarriedOut}
 use Rattle.message_session.specs.Steps.{AreFramesUntaken}
 use Rattle.message_session.specs.declared.answer.TheConstants.{MOST_CLIENTS}
@@ -34,13 +34,13 @@ use Rattle.user_macros.specs.Functions.{Functions}
 
 -- as many as frames
 pub as_many : (all : List AnyRequest) (frames : List Sent) → AskAlike all frames → length all ≡ length frames
-as_many all frames alike = sym (length-map all parts_of_asked) ∙ ap length alike
+as_many all frames alike = sym (length-map all frame_of_request) ∙ ap length alike
 
 -- the first of them ask what the first frames do
 pub front_alike : (all front rest : List AnyRequest) (frames : List Sent) → all ≡ front ++ rest → AskAlike all frames → AskAlike front (take (length front) frames)
 front_alike all front rest frames parts alike =
-    ap (map parts_of_asked) (sym (take-append_seam front rest) ∙ ap (take (length front)) (sym parts))
-    ∙ sym (take-map parts_of_asked (length front) all)
+    ap (map frame_of_request) (sym (take-append_seam front rest) ∙ ap (take (length front)) (sym parts))
+    ∙ sym (take-map frame_of_request (length front) all)
     ∙ ap (take (length front)) alike
 
 -- those that were answered

@@ -17,7 +17,7 @@ use Rattle.message_frames.specs.declared.frame.Kind.{Kind}
 use Rattle.message_frames.specs.declared.frame.Kind.TheVariants.{Ask, By, Do}
 use Rattle.message_laws.specs.NearRounds.{IsTidy, Near}
 use Rattle.message_laws.proofs.Together.{More, near_itself, near_on, one_near}
-use Rattle.message_session.specs.FrameAnswers.{answered_bytes, answers_to, by_kind, each_frame, kind_by_number, one_frame, parts_of_asked}
+use Rattle.message_session.specs.FrameAnswers.{answered_bytes, answers_to, by_kind, each_frame, kind_by_number, one_frame, frame_of_request}
 use Rattle.message_session.specs.MessageSessions.{HasCarriedOut}
 use Rattle.message_session.specs.declared.answer.TheConstants.{MOST_CLIENTS}
 use Rattle.plist_state.specs.State.{WorldState}
@@ -38,15 +38,15 @@ module _ (functions : Functions) where
   by_number_kind round None text = refl
   by_number_kind round (Some number) text = refl
 
-  one_is : (one : AnyRequest) (round : Round) → one_asked functions MOST_CLIENTS round one ≡ one_frame functions round (parts_of_asked one)
+  one_is : (one : AnyRequest) (round : Round) → one_asked functions MOST_CLIENTS round one ≡ one_frame functions round (frame_of_request one)
   one_is (asked.Request request) round = by_number_kind round request.number request.text.now
   one_is (asked.Named message) round = refl
 
-  of_asked : (all : List AnyRequest) (round : Round) → each_asked functions MOST_CLIENTS round all ≡ each_frame functions round (map parts_of_asked all)
+  of_asked : (all : List AnyRequest) (round : Round) → each_asked functions MOST_CLIENTS round all ≡ each_frame functions round (map frame_of_request all)
   of_asked [] round = refl
-  of_asked (one ∷ later) round = of_asked later (one_asked functions MOST_CLIENTS round one) ∙ ap (λ (r : Round). each_frame functions r (map parts_of_asked later)) (one_is one round)
+  of_asked (one ∷ later) round = of_asked later (one_asked functions MOST_CLIENTS round one) ∙ ap (λ (r : Round). each_frame functions r (map frame_of_request later)) (one_is one round)
 
-  pub same_rounds : (all : List AnyRequest) (frames : List Sent) (round : Round) → map parts_of_asked all ≡ frames → each_asked functions MOST_CLIENTS round all ≡ each_frame functions round frames
+  pub same_rounds : (all : List AnyRequest) (frames : List Sent) (round : Round) → map frame_of_request all ≡ frames → each_asked functions MOST_CLIENTS round all ≡ each_frame functions round frames
   same_rounds all frames round same = of_asked all round ∙ ap (each_frame functions round) same
 
   -- ---- frames

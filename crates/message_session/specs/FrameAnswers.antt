@@ -18,13 +18,13 @@ kind_by_number (Some number) = Do number
 kind_by_number None = Ask
 
 -- the kind and the text of the frame in which this is asked
-abbrev pub parts_of_asked : AnyRequest → Sent
-parts_of_asked (asked.Request request) = (kind_by_number request.number, request.text.now)
-parts_of_asked (asked.Named message) = (By message.number, message.text.now)
+abbrev pub frame_of_request : AnyRequest → Sent
+frame_of_request (asked.Request request) = (kind_by_number request.number, request.text.now)
+frame_of_request (asked.Named message) = (By message.number, message.text.now)
 
 -- these are asked in these frames, one after the other
 abbrev pub AskAlike : List AnyRequest → List Sent → Type 0
-AskAlike all frames = map parts_of_asked all ≡ frames
+AskAlike all frames = map frame_of_request all ≡ frames
 
 -- a round with the answer to one frame more, of this kind and text
 abbrev pub by_kind : Functions → Round → Kind → List ℕ → Round

@@ -3,6 +3,7 @@ use Rattle.std.specs.Prelude.{ℕ, ◌+◌, ◌≡◌, ◌≢◌, ◌⊎◌, ◌
 use Rattle.std.specs.Io.KnownBytes.{Consumes, IsAtEnd}
 use Rattle.std.specs.List.{flat_map}
 use Rattle.disk_trait.specs.Disk.{State}
+use Rattle.gate_log.specs.Layout.{half_base}
 use Rattle.message_frames.specs.Frames.{AreFrames, IsBegunFrame, IsMalformedFrame, Sent, frame_bytes, position_bytes}
 use Rattle.message_laws.specs.NearRounds.{Near}
 use Rattle.message_session.specs.FrameAnswers.{AskAlike, each_frame, session_bytes}
@@ -31,7 +32,7 @@ text_limit = 1048576
 pub record HoldsWorldAlone {D R : Type 0} (store : StoreView D R) (world : WorldState) (next : List Sent) : Type 0 where
   pub one : length next ≡ 1
   pub none_since : store.record_count ≡ 0
-  pub only_text : store.size ≡ 16 + length (snapshot world)
+  pub only_text : store.size ≡ half_base store.version (length (snapshot world))
 
 -- ---- frames that come after the message of this number, in this world
 

@@ -90,6 +90,7 @@ module _ (functions : Functions) (last : ℕ) (world : WorldState) {D R : Type 0
       pub fault : IsFaultAfter answered next ended
 
     module _ (now_last : ℕ) where
+      -- all of these frames were answered, or a fault ended the session among them
       abbrev pub AnswersFrames : List Sent → Result Unit MessagesEnd → Type 0
       AnswersFrames frames (Ok done) = AreFramesAnswered functions last world state store held written (answered_bytes functions last world) frames now_last
       AnswersFrames frames (Err ended) = Breaks frames ended
@@ -105,7 +106,8 @@ module _ (functions : Functions) (last : ℕ) (world : WorldState) {D R : Type 0
       TakesFrames old frames (Err (stop.Untaken number)) = (written ≡ held) × (now_last ≡ last) × (store ≡ old) × AreFramesUntaken old frames number
       TakesFrames old frames (Err (stop.Ended ended)) = Breaks frames ended
 
-      -- The same after a snapshot for room: where nothing came of one frame alone, that is a fault which ends the session.
+      -- What comes of frames for which a snapshot was taken where they had no room: the first so many of them were answered; or nothing was
+      -- done with them but perhaps that snapshot, and if it is one frame alone, that is a fault which ends the session; or a fault ended it.
       abbrev pub TakesWithRoom : List Sent → Result ℕ Stop → Type 0
       TakesWithRoom frames (Ok count) = AreFramesAnswered functions last world state store held written (answered_bytes functions last world) (take count frames) now_last
       TakesWithRoom frames (Err (stop.Untaken number)) = (written ≡ held) × (now_last ≡ last) × (store.world ≡ Some world) × (length frames ≡ 1 → Breaks frames (Fault number))
@@ -115,8 +117,8 @@ module _ (functions : Functions) (last : ℕ) (world : WorldState) {D R : Type 0
       abbrev pub ServesFrames : List ℕ → List Sent → List ℕ → Type 0
       ServesFrames read frames rest = BeginsWithAnsweredFrames functions last world state store held written (answered_bytes functions last world) read frames rest now_last
 
--- of the bytes that are held
 module _ (functions : Functions) (old new : Session) (world : WorldState) {D R : Type 0} (state : D → State) (store : StoreView D R) (held written : Option (List ℕ)) where
+  -- these frames were answered, which stood first among the bytes that were held, and those after them are held now
   abbrev pub PassesFrames : List Sent → Type 0
   PassesFrames frames = ServesFrames functions old.course.last world state store held written new.course.last old.held frames new.held
 

@@ -2,7 +2,7 @@
 ghost use Rattle.std.specs.Prelude.{◌≡◌, ℕ, ◌<◌, ◌≤◌, length, map, take, IfErr, IfOk, OnOk, Some};
 ghost use Rattle.std.specs.List.{flat_map};
 ghost use Rattle.message_frames.specs.Frames.{answer_bytes, sent_frame};
-ghost use Rattle.message_session.specs.FrameAnswers.{AskAlike, answers_to, parts_of_asked};
+ghost use Rattle.message_session.specs.FrameAnswers.{AskAlike, answers_to, frame_of_request};
 ghost use Rattle.message_session.specs.Standing.{AnswersMore, FramesComeNext, RestsAt, RestsOrEnds, RestsOrStops};
 ghost use Rattle.message_session.specs.Steps.{AnswersFront, AnswersFrames, RenewsForRoom, RenewsWhereDue, StopsAfter, TakesFrames, TakesWithRoom, ended_by};
 ghost use Rattle.plist_state.specs.Sound.{IsSoundWorldState};
@@ -126,8 +126,8 @@ pub(crate) fn answer_frames<D: Disk, R: MacroFunctions, O: AnswerRecipient<D, R>
     requires rests { RestsAt R.Meaning.functions D.state (O.account output.old) store.old course.old.last }
     requires next { FramesComeNext (O.account output.old) (map sent_frame frames.now) }
     ensures answers { (w : WorldState) → store.old.world ≡ Some w
-        → AnswersFrames R.Meaning.functions course.old.last w D.state store.new (O.contents output.old) (O.contents output.new)
-        course.new.last (map sent_frame frames.now) result }
+        → AnswersFrames R.Meaning.functions course.old.last w D.state store.new
+        (O.contents output.old) (O.contents output.new) course.new.last (map sent_frame frames.now) result }
     ensures rests { RestsOrEnds R.Meaning.functions D.state
         (O.account output.new) store.new course.new.last result }
     ensures more { OnOk result
@@ -159,12 +159,12 @@ fn answer_front<D: Disk, R: MacroFunctions, O: AnswerRecipient<D, R>>(
     requires next { FramesComeNext (O.account output.old) (map sent_frame frames.now) }
     requires any { 0 < length frames.now }
     ensures answers { (w : WorldState) → store.old.world ≡ Some w
-        → AnswersFront R.Meaning.functions course.old.last w D.state store.new (O.contents output.old) (O.contents output.new)
-        course.new.last (map sent_frame frames.now) result }
+        → AnswersFront R.Meaning.functions course.old.last w D.state store.new
+        (O.contents output.old) (O.contents output.new) course.new.last (map sent_frame frames.now) result }
     ensures rests { RestsOrEnds R.Meaning.functions D.state
         (O.account output.new) store.new course.new.last result }
-    ensures more { IfOk result
-        (λ count. AnswersMore (O.account output.old) (O.account output.new) (take count (map sent_frame frames.now))) }
+    ensures more { IfOk result (λ count. AnswersMore (O.account output.old) (O.account output.new)
+        (take count (map sent_frame frames.now))) }
 
     // At least one of them was answered, and at most all.
     ensures most { IfOk result (λ count. count ≤ length frames.now) }
@@ -194,12 +194,12 @@ fn answer_in_turn<D: Disk, R: MacroFunctions, O: AnswerRecipient<D, R>>(
     requires next { FramesComeNext (O.account output.old) (map sent_frame frames.now) }
     requires any { 0 < length frames.now }
     ensures answers { (w : WorldState) → store.old.world ≡ Some w
-        → AnswersFront R.Meaning.functions course.old.last w D.state store.new (O.contents output.old) (O.contents output.new)
-        course.new.last (map sent_frame frames.now) result }
+        → AnswersFront R.Meaning.functions course.old.last w D.state store.new
+        (O.contents output.old) (O.contents output.new) course.new.last (map sent_frame frames.now) result }
     ensures rests { RestsOrEnds R.Meaning.functions D.state
         (O.account output.new) store.new course.new.last result }
-    ensures more { IfOk result
-        (λ count. AnswersMore (O.account output.old) (O.account output.new) (take count (map sent_frame frames.now))) }
+    ensures more { IfOk result (λ count. AnswersMore (O.account output.old) (O.account output.new)
+        (take count (map sent_frame frames.now))) }
 
     // At least one of them was answered, and at most all.
     ensures most { IfOk result (λ count. count ≤ length frames.now) }
@@ -229,12 +229,12 @@ fn take_with_room<D: Disk, R: MacroFunctions, O: AnswerRecipient<D, R>>(
     requires next { FramesComeNext (O.account output.old) (map sent_frame frames.now) }
     requires any { 0 < length frames.now }
     ensures takes { (w : WorldState) → store.old.world ≡ Some w
-        → TakesWithRoom R.Meaning.functions course.old.last w D.state store.new (O.contents output.old) (O.contents output.new)
-        course.new.last (map sent_frame frames.now) result }
+        → TakesWithRoom R.Meaning.functions course.old.last w D.state store.new
+        (O.contents output.old) (O.contents output.new) course.new.last (map sent_frame frames.now) result }
     ensures rests { RestsOrStops R.Meaning.functions D.state
         (O.account output.new) store.new course.new.last result }
-    ensures more { IfOk result
-        (λ count. AnswersMore (O.account output.old) (O.account output.new) (take count (map sent_frame frames.now))) }
+    ensures more { IfOk result (λ count. AnswersMore (O.account output.old) (O.account output.new)
+        (take count (map sent_frame frames.now))) }
 
     // At least one of them was answered, and at most all; or, where fewer may be tried, nothing was written.
     ensures most { IfOk result (λ count. count ≤ length frames.now) }
@@ -278,12 +278,13 @@ fn take_frames<D: Disk, R: MacroFunctions, O: AnswerRecipient<D, R>>(
     requires next { FramesComeNext (O.account output.old) (map sent_frame frames.now) }
     requires any { 0 < length frames.now }
     ensures takes { (w : WorldState) → store.old.world ≡ Some w
-        → TakesFrames R.Meaning.functions course.old.last w D.state store.new (O.contents output.old) (O.contents output.new)
+        → TakesFrames R.Meaning.functions course.old.last w D.state store.new
+        (O.contents output.old) (O.contents output.new)
         course.new.last store.old (map sent_frame frames.now) result }
     ensures rests { RestsOrStops R.Meaning.functions D.state
         (O.account output.new) store.new course.new.last result }
-    ensures more { IfOk result
-        (λ count. AnswersMore (O.account output.old) (O.account output.new) (take count (map sent_frame frames.now))) }
+    ensures more { IfOk result (λ count. AnswersMore (O.account output.old) (O.account output.new)
+        (take count (map sent_frame frames.now))) }
 
     // At least one of them was answered, and at most all; or, where fewer may be tried, nothing was written.
     ensures most { IfOk result (λ count. count ≤ length frames.now) }
@@ -360,7 +361,7 @@ fn asked_of<'a>(
 
 // What a frame asks.
 fn asked_by(frame: MessageFrame<'_>) -> AnyRequest<'_>
-    ensures { parts_of_asked result ≡ sent_frame frame.entry }
+    ensures { frame_of_request result ≡ sent_frame frame.entry }
 {
     let text = frame.text;
     match frame.kind {

@@ -37,7 +37,8 @@ pub trait AnswerRecipient<D: Disk, R: MacroFunctions> {
     ) -> Result<(), OutputFault>
         requires begins { (kept : MessageAccount D) → account self.old ≡ Some kept → ⊥ }
         requires told { bytes.now ≡ position_bytes position }
-        requires in_world { (world : WorldState) → store.now.world ≡ Some world → IsPositionToldIn position world }
+        requires in_world { (world : WorldState) → store.now.world ≡ Some world
+            → IsPositionToldIn position world }
         ensures whole { OnOk result (Writes (contents self.old) (contents self.new) bytes.now) }
         ensures part { OnErr result (WritesPart (contents self.old) (contents self.new) bytes.now) }
         ensures kept { (later : MessageAccount D) → account self.new ≡ Some later
@@ -53,11 +54,13 @@ pub trait AnswerRecipient<D: Disk, R: MacroFunctions> {
         frames: &[MessageFrame<'_>],
     ) -> Result<(), OutputFault>
         requires stored { (kept : MessageAccount D) → account self.old ≡ Some kept
-            → AnswersAreStored R.Meaning.functions D.state kept store.now (map sent_frame frames.now) bytes.now }
+            → AnswersAreStored R.Meaning.functions D.state kept store.now
+            (map sent_frame frames.now) bytes.now }
         ensures whole { OnOk result (Writes (contents self.old) (contents self.new) bytes.now) }
         ensures part { OnErr result (WritesPart (contents self.old) (contents self.new) bytes.now) }
         ensures kept { (later : MessageAccount D) → account self.new ≡ Some later
-            → option_map (with_frames R.Meaning.functions (map sent_frame frames.now) store.now) (account self.old) ≡ Some later }
+            → option_map (with_frames R.Meaning.functions (map sent_frame frames.now) store.now)
+            (account self.old) ≡ Some later }
         ensures input { input self.new ≡ input self.old };
 }
 

@@ -62,7 +62,8 @@ pub fn serve_messages<D: Disk, R: MacroFunctions, I: Read, O: AnswerRecipient<D,
         → SessionAsksToReopen store.old store.new input.old input.new output.old output.new result }
     ensures serves { (w : WorldState) → store.old.world ≡ Some w
         → ServesMessages R.Meaning.functions D.state store.old store.new w
-        (I.remaining input.old) (I.remaining input.new) (O.contents output.old) (O.contents output.new) result }
+        (I.remaining input.old) (I.remaining input.new) (O.contents output.old)
+        (O.contents output.new) result }
     ensures under_way { AcknowledgesNoFrame R.Meaning.functions D.state (O.account output.new) store.new }
     ensures input { O.input output.new ≡ O.input output.old }
     ensures macros { store.new.macros ≡ store.old.macros }
@@ -112,7 +113,8 @@ fn begin_anew<D: Disk, R: MacroFunctions>(store: &mut Store<D, R>) -> Result<u64
         → HasNoRoomToBegin R.Meaning.functions D.state store.old w
         → MayBegin R.Meaning.functions D.state store.old store.new w result }
     ensures told { (before : WorldState) → store.old.world ≡ Some before
-        → IfOk result (λ position. (w : WorldState) → store.new.world ≡ Some w → IsPositionToldIn position w) }
+        → IfOk result (λ position. (w : WorldState) → store.new.world ≡ Some w
+        → IsPositionToldIn position w) }
     ensures macros { store.new.macros ≡ store.old.macros }
 {
     match renew_for_room(store) {
@@ -137,7 +139,8 @@ fn serve_frames<D: Disk, R: MacroFunctions, I: Read, O: AnswerRecipient<D, R>>(
     requires read { IsReadIn (O.account output.old) (I.remaining input.old) [] }
     ensures serves { (w : WorldState) → store.old.world ≡ Some w
         → AnswersFramesOfInput R.Meaning.functions course.last w D.state store.new
-        (I.remaining input.old) (I.remaining input.new) (O.contents output.old) (O.contents output.new) result }
+        (I.remaining input.old) (I.remaining input.new) (O.contents output.old)
+        (O.contents output.new) result }
     ensures under_way { AcknowledgesNoFrame R.Meaning.functions D.state (O.account output.new) store.new }
     ensures input { O.input output.new ≡ O.input output.old }
     ensures macros { store.new.macros ≡ store.old.macros }

@@ -1,14 +1,16 @@
--- What became of requests as a turn.
---     replies_again      their records make the world that they left, and fit the log
---     replied_written, replied_silent      what is made of them
---     replies_logged      they were answered, or a form of the store's own was refused
---     replies_unlogged      what they needed was not logged
+-- What became of a round as a turn, whatever its requests are, and of a turn that is requests.
+--     answered_again      the records that a round needs make the world that it left, and fit the log
+--     replied_written, replied_silent      what is made of a round that is held in memory
+--     answered_logged      a round was logged
+--     still_or_failed      what is left where it was not
+--     records_again, none_changed, left_by      what a turn made of it makes again; that it changed nothing; why it was not logged
+--     replies_again, refused_unchanged, replies_logged, replies_unlogged      what these say of requests
 --     unchanged_or_failed      what is left of requests that are not answered
 use Rattle.std.proofs.Common.{◌≡◌, ◌⊎◌, ℕ, ◌+◌, ◌<◌, Bool, true, false, List, [], length, map, Some, Result, Ok, Err, IfErr, refl, sym, ap, subst, ◌∙◌, inl, inr, arith}
 use Rattle.std.specs.Global.{Vec}
-use Rattle.std.specs.List.{AllByRecursion, flat_map}
+use Rattle.std.specs.List.{AllByRecursion}
 use Rattle.disk_trait.specs.Disk.{State}
-use Rattle.gate_log.specs.Layout.{IsLogRecord, LogRecord, open_record}
+use Rattle.gate_log.specs.Layout.{IsLogRecord, LogRecord, batch_size}
 use Rattle.plist_state.specs.State.{WorldState}
 use Rattle.prevalence_store.specs.declared.batch.Batch.{Batch}
 use Rattle.prevalence_store.specs.declared.failure.Unlogged.{Unlogged}
@@ -21,7 +23,7 @@ use Rattle.messages.specs.declared.round.Round.{Round as Held}
 use Rattle.prevalence_store.specs.calls.Store.{StoreView}
 use Rattle.prevalence_store.specs.meaning.Acceptance.{after}
 use Rattle.messages.specs.MessageAnswers.{Round, round_after_requests, first_round}
-use Rattle.messages.specs.MessageCalls.{AnswersRequests, AreNotAnswered, FailOnDevice, entries_by, left_after}
+use Rattle.messages.specs.MessageCalls.{AnswersRequests, AreAnsweredAndLogged, AreNotAnswered, FailOnDevice, entries_by, left_after}
 use Rattle.messages.specs.Rounds.{MayBeLogged as IsMadeBy, round_in, told_in}
 use Rattle.messages.specs.Turn.{AreRequestsAnswered, MakesReplies, front_requests, round_of}
 use Rattle.prevalence_store.specs.steps.Batch.{FailsBatch, IsEmpty, StoresBatch, entries_in, entries_of}
@@ -29,28 +31,23 @@ use Rattle.prevalence_store.specs.steps.Failure.{failure_number, is_device_failu
 use Rattle.prevalence_store.specs.steps.Together.{IsTurnLogged, IsTurnNotLogged}
 use Rattle.user_macros.specs.Functions.{Functions}
 
-module _ (functions : Functions) (turn : FirstRequests) (w : WorldState) where
-  abbrev round : Round
-  round = round_of functions turn w
-
-  -- ---- before they are logged
+module _ (functions : Functions) (w : WorldState) (round : Round) where
+  -- ---- before it is logged
 
   by_wrote : (b : Bool) → after functions w round.entries ≡ Some round.left → AllByRecursion IsLogRecord round.entries
       → (after functions w (entries_by b round.entries) ≡ Some (left_after b w round.left)) × AllByRecursion IsLogRecord (entries_by b round.entries)
   by_wrote true again fit = (again, fit)
   by_wrote false again fit = (refl, tt)
 
-  pub replies_again : (v : WorldState) (records : List LogRecord) (made : Result Replies ℕ) → MakesReplies functions turn w v records made
+  pub answered_again : (v : WorldState) (records : List LogRecord) (replies : Replies) → AreRequestsAnswered functions w round v records replies
       → (after functions w records ≡ Some v) × AllByRecursion IsLogRecord records
-  replies_again v records (Ok replies) is =
+  answered_again v records replies is =
       let of = by_wrote round.wrote is.made.again is.made.fit in (
         ap (after functions w) is.records_are ∙ of.0 ∙ ap (λ s. Some s) (sym is.left_is),
         subst (λ (es : List LogRecord). AllByRecursion IsLogRecord es) (sym is.records_are) of.1,
       )
-  replies_again v records (Err number) is =
-      (ap (after functions w) is.2 ∙ ap (λ s. Some s) (sym is.1), subst (λ (es : List LogRecord). AllByRecursion IsLogRecord es) (sym is.2) tt)
 
-  -- ---- as they are held in memory, where so many were answered
+  -- ---- as it is held in memory, where so many requests were answered
 
   module _ (held : Held) (v : WorldState) (turned : round_in held v ≡ round) (made : IsMadeBy functions w (round_in held v)) (replies : Replies) (answers : replies.answers ≡ held.answers) (last : replies.last ≡ held.last) (batch : Batch) where
     -- a message wrote
@@ -75,36 +72,52 @@ module _ (functions : Functions) (turn : FirstRequests) (w : WorldState) where
           records_are = ap entries_of none ∙ sym (ap (λ b. entries_by b (entries_in held.batch)) wrote);
         })
 
-  -- ---- they were logged, or they were not
+  -- ---- it was logged, or it was not
+
+  -- what it needs in the log
+  abbrev needed : List LogRecord
+  needed = entries_by round.wrote round.entries
 
   module _ {D R : Type 0} (state : D → State) (old new : StoreView D R) where
-    abbrev needed : List LogRecord
-    needed = entries_by round.wrote round.entries
-
-    pub replies_logged : (made : Result Replies ℕ) → IsTurnLogged functions state old new w (λ left records. MakesReplies functions turn w left records made)
-        → AnswersRequests functions state old new w turn.last (front_requests functions turn w) made
-    replies_logged (Ok replies) logged =
-        let is = logged.makes in
+    pub answered_logged : (left : WorldState) (records : List LogRecord) (replies : Replies) → AreRequestsAnswered functions w round left records replies → StoresBatch functions state old new w left records
+        → AreAnsweredAndLogged functions state old new w round replies
+    answered_logged left records replies is stored =
         let stores : StoresBatch functions state old new w (left_after round.wrote w round.left) needed =
         subst (λ (v : WorldState). StoresBatch functions state old new w v needed) is.left_is
-        (subst (λ (es : List LogRecord). StoresBatch functions state old new w logged.left es) is.records_are logged.stores) in
+        (subst (λ (es : List LogRecord). StoresBatch functions state old new w left es) is.records_are stored) in
         record { told = is.told; last = is.last; logs = stores.logs; survives = stores.survives; all_or_none = stores.all_or_none }
-    replies_logged (Err number) logged = inl (logged.makes.0, logged.stores.logs.nothing (ap length logged.makes.2))
 
-    pub refused_unchanged : (made : Result Replies ℕ) → IsTurnLogged functions state old new w (λ left records. MakesReplies functions turn w left records made) → IfErr made (λ number. new ≡ old)
-    refused_unchanged (Ok replies) logged = tt
-    refused_unchanged (Err number) logged = logged.stores.logs.nothing (ap length logged.makes.2)
+    by_device : (cause : Unlogged) (failed : Bool) → is_device_failure cause ≡ failed → AreNotAnswered functions state old new w round cause → (new ≡ old) ⊎ FailOnDevice functions state old new w round
+    by_device cause false calm left = inl (left.unchanged calm)
+    by_device cause true device left = inr (left.stopped device)
 
-    no_room : (left : WorldState) (records : List LogRecord) (made : Result Replies ℕ) → MakesReplies functions turn w left records made → 0 < length records → old.limit < old.size + length (flat_map open_record records)
-        → (0 < length needed) × (old.limit < old.size + length (flat_map open_record needed))
-    no_room left records (Ok replies) is some over = subst (λ (es : List LogRecord). (0 < length es) × (old.limit < old.size + length (flat_map open_record es))) is.records_are (some, over)
-    no_room left records (Err number) is some over = absurd (omega (arith, some, ap length is.2))
+    -- where it was not, the store is as it was, or the device failed
+    pub still_or_failed : (cause : Unlogged) → AreNotAnswered functions state old new w round cause → (new ≡ old) ⊎ FailOnDevice functions state old new w round
+    still_or_failed cause left = by_device cause (is_device_failure cause) refl left
 
-    made_again : (b : Bool) → 0 < length (entries_by b round.entries) → after functions w round.entries ≡ Some round.left → after functions w (entries_by b round.entries) ≡ Some round.left
-    made_again true some again = again
-    made_again false some again = absurd (omega (arith, some))
+  -- ---- what a turn made of it
 
-    failed_in : (left : WorldState) (records : List LogRecord) (made : Result Replies ℕ) → MakesReplies functions turn w left records made → FailsBatch functions state old new w left records → FailOnDevice functions state old new w round
+  -- with these records: answers; or a number, and then there are none
+  abbrev pub HasRecords : WorldState → List LogRecord → Result Replies ℕ → Type 0
+  HasRecords left records (Ok replies) = AreRequestsAnswered functions w round left records replies
+  HasRecords left records (Err number) = (left ≡ w) × (records ≡ [])
+
+  has_again : (v : WorldState) (records : List LogRecord) (made : Result Replies ℕ) → HasRecords v records made → (after functions w records ≡ Some v) × AllByRecursion IsLogRecord records
+  has_again v records (Ok replies) is = answered_again v records replies is
+  has_again v records (Err number) is =
+      (ap (after functions w) is.1 ∙ ap (λ s. Some s) (sym is.0), subst (λ (es : List LogRecord). AllByRecursion IsLogRecord es) (sym is.1) tt)
+
+  made_again : (b : Bool) → 0 < length (entries_by b round.entries) → after functions w round.entries ≡ Some round.left → after functions w (entries_by b round.entries) ≡ Some round.left
+  made_again true some again = again
+  made_again false some again = absurd (omega (arith, some))
+
+  module _ {D R : Type 0} (state : D → State) (old new : StoreView D R) where
+    no_room : (left : WorldState) (records : List LogRecord) (made : Result Replies ℕ) → HasRecords left records made → 0 < length records → old.limit < old.size + batch_size old.version records
+        → (0 < length needed) × (old.limit < old.size + batch_size old.version needed)
+    no_room left records (Ok replies) is some over = subst (λ (es : List LogRecord). (0 < length es) × (old.limit < old.size + batch_size old.version es)) is.records_are (some, over)
+    no_room left records (Err number) is some over = absurd (omega (arith, some, ap length is.1))
+
+    failed_in : (left : WorldState) (records : List LogRecord) (made : Result Replies ℕ) → HasRecords left records made → FailsBatch functions state old new w left records → FailOnDevice functions state old new w round
     failed_in left records (Ok replies) is fails =
         let moved : FailsBatch functions state old new w left needed = subst (λ (es : List LogRecord). FailsBatch functions state old new w left es) is.records_are fails in
         record {
@@ -115,30 +128,54 @@ module _ (functions : Functions) (turn : FirstRequests) (w : WorldState) where
           survives = moved.survives;
           all_or_none = moved.all_or_none;
         }
-    failed_in left records (Err number) is fails = absurd (omega (arith, fails.some, ap length is.2))
+    failed_in left records (Err number) is fails = absurd (omega (arith, fails.some, ap length is.1))
 
-    left_by : (cause : Unlogged) → IsTurnNotLogged functions state old new w (λ left records. (made : Result Replies ℕ) × MakesReplies functions turn w left records made) cause
-        → AreNotAnswered functions state old new w round cause
-    left_by OutOfMemory unmade = record { unchanged = unmade.unchanged; full = λ full. absurd (cc); stopped = λ device. absurd (cc) }
-    left_by Full unmade =
-        let room = unmade.full refl in
-        record { unchanged = unmade.unchanged; full = λ _. no_room room.left room.records room.makes.0 room.makes.1 room.some room.over; stopped = λ device. absurd (cc) }
-    left_by DeviceFault unmade =
-        let stopped = unmade.stopped refl in
-        record { unchanged = λ calm. absurd (cc); full = λ full. absurd (cc); stopped = λ _. failed_in stopped.left stopped.records stopped.makes.0 stopped.makes.1 stopped.fails }
+  module _ (Makes : WorldState → List LogRecord → Result Replies ℕ → Type 0) (has : (v : WorldState) (records : List LogRecord) (made : Result Replies ℕ) → Makes v records made → HasRecords v records made) where
+    pub records_again : (v : WorldState) (records : List LogRecord) (made : Result Replies ℕ) → Makes v records made → (after functions w records ≡ Some v) × AllByRecursion IsLogRecord records
+    records_again v records made is = has_again v records made (has v records made is)
+
+    module _ {D R : Type 0} (state : D → State) (old new : StoreView D R) where
+      pub none_changed : (made : Result Replies ℕ) → IsTurnLogged functions state old new w (λ left records. Makes left records made) → IfErr made (λ number. new ≡ old)
+      none_changed (Ok replies) logged = tt
+      none_changed (Err number) logged = logged.stores.logs.nothing (ap length (has logged.left logged.records (Err number) logged.makes).1)
+
+      pub left_by : (cause : Unlogged) → IsTurnNotLogged functions state old new w (λ left records. (made : Result Replies ℕ) × Makes left records made) cause → AreNotAnswered functions state old new w round cause
+      left_by OutOfMemory unmade = record { unchanged = unmade.unchanged; full = λ full. absurd (cc); stopped = λ device. absurd (cc) }
+      left_by Full unmade =
+          let room = unmade.full refl in
+          let is = has room.left room.records room.makes.0 room.makes.1 in
+          record { unchanged = unmade.unchanged; full = λ _. no_room state old new room.left room.records room.makes.0 is room.some room.over; stopped = λ device. absurd (cc) }
+      left_by DeviceFault unmade =
+          let stopped = unmade.stopped refl in
+          let is = has stopped.left stopped.records stopped.makes.0 stopped.makes.1 in
+          record { unchanged = λ calm. absurd (cc); full = λ full. absurd (cc); stopped = λ _. failed_in state old new stopped.left stopped.records stopped.makes.0 is stopped.fails }
+
+-- ---- requests
+
+module _ (functions : Functions) (turn : FirstRequests) (w : WorldState) where
+  has_records : (v : WorldState) (records : List LogRecord) (made : Result Replies ℕ) → MakesReplies functions turn w v records made → HasRecords functions w (round_of functions turn w) v records made
+  has_records v records (Ok replies) is = is
+  has_records v records (Err number) is = (is.1, is.2)
+
+  pub replies_again : (v : WorldState) (records : List LogRecord) (made : Result Replies ℕ) → MakesReplies functions turn w v records made
+      → (after functions w records ≡ Some v) × AllByRecursion IsLogRecord records
+  replies_again = records_again functions w (round_of functions turn w) (MakesReplies functions turn w) has_records
+
+  module _ {D R : Type 0} (state : D → State) (old new : StoreView D R) where
+    pub refused_unchanged : (made : Result Replies ℕ) → IsTurnLogged functions state old new w (λ left records. MakesReplies functions turn w left records made) → IfErr made (λ number. new ≡ old)
+    refused_unchanged = none_changed functions w (round_of functions turn w) (MakesReplies functions turn w) has_records state old new
+
+    pub replies_logged : (made : Result Replies ℕ) → IsTurnLogged functions state old new w (λ left records. MakesReplies functions turn w left records made)
+        → AnswersRequests functions state old new w turn.last (front_requests functions turn w) made
+    replies_logged (Ok replies) logged = answered_logged functions w (round_of functions turn w) state old new logged.left logged.records replies logged.makes logged.stores
+    replies_logged (Err number) logged = inl (logged.makes.0, refused_unchanged (Err number) logged)
 
     pub replies_unlogged : (cause : Unlogged) → IsTurnNotLogged functions state old new w (λ left records. (made : Result Replies ℕ) × MakesReplies functions turn w left records made) cause
         → AnswersRequests functions state old new w turn.last (front_requests functions turn w) (Err (failure_number cause))
-    replies_unlogged cause unmade = inr (cause, refl, left_by cause unmade)
+    replies_unlogged cause unmade = inr (cause, refl, left_by functions w (round_of functions turn w) (MakesReplies functions turn w) has_records state old new cause unmade)
 
 -- requests that are not answered leave the store as it is, or the device failed
-module _ (functions : Functions) {D R : Type 0} (state : D → State) (old new : StoreView D R) (w : WorldState) (last : ℕ) (requests : List Request) where
-  by_device : (cause : Unlogged) (failed : Bool) → is_device_failure cause ≡ failed → AreNotAnswered functions state old new w (round_after_requests functions (first_round last w) requests) cause
-      → (new ≡ old) ⊎ FailOnDevice functions state old new w (round_after_requests functions (first_round last w) requests)
-  by_device cause false calm left = inl (left.unchanged calm)
-  by_device cause true device left = inr (left.stopped device)
-
-  pub unchanged_or_failed : (number : ℕ) → AnswersRequests functions state old new w last requests (Err number)
-      → (new ≡ old) ⊎ FailOnDevice functions state old new w (round_after_requests functions (first_round last w) requests)
-  unchanged_or_failed number (inl own) = inl own.1
-  unchanged_or_failed number (inr unlogged) = by_device unlogged.0 (is_device_failure unlogged.0) refl unlogged.2
+pub unchanged_or_failed : (functions : Functions) {D R : Type 0} (state : D → State) (old new : StoreView D R) (w : WorldState) (last : ℕ) (requests : List Request) (number : ℕ) → AnswersRequests functions state old new w last requests (Err number)
+    → (new ≡ old) ⊎ FailOnDevice functions state old new w (round_after_requests functions (first_round last w) requests)
+unchanged_or_failed functions state old new w last requests number (inl own) = inl own.1
+unchanged_or_failed functions state old new w last requests number (inr unlogged) = still_or_failed functions w (round_after_requests functions (first_round last w) requests) state old new unlogged.0 unlogged.2

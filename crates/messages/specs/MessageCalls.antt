@@ -1,9 +1,8 @@
 -- What the calls of a store that carries out messages answer, and what is left after them.
 use Rattle.std.specs.Prelude.{◌≡◌, ◌⊎◌, ℕ, ◌+◌, ◌<◌, ◌≤◌, Bool, true, false, List, [], ◌∷◌, ◌++◌, length, map, Option, None, Some, IsSome, Result, Ok, Err}
-use Rattle.std.specs.List.{flat_map}
 use Rattle.disk_trait.specs.Disk.{State}
 use Rattle.disk_trait.specs.Half.{opposite_of}
-use Rattle.gate_log.specs.Layout.{LogRecord, open_record}
+use Rattle.gate_log.specs.Layout.{LogRecord, batch_size}
 use Rattle.lisp_object.specs.Object.{Object}
 use Rattle.lisp_reading.specs.Reading.{form}
 use Rattle.lisp_object.specs.declared.refusal.TheConstants.{NO_MEMORY}
@@ -91,7 +90,7 @@ module _ (functions : Functions) {D R : Type 0} (state : D → State) (old new :
   pub record FailOnDevice : Type 0 where
     pub again : after functions world records ≡ Some round.left
     pub some : 0 < length records
-    pub fits : old.size + length (flat_map open_record records) ≤ old.limit
+    pub fits : old.size + batch_size old.version records ≤ old.limit
     pub failed : DeviceFails state old new (opposite_of old.half)
     pub survives : SurvivesAs functions state old new world records 0
     pub all_or_none : AllOrNone functions state old new world records
@@ -99,7 +98,7 @@ module _ (functions : Functions) {D R : Type 0} (state : D → State) (old new :
   -- They were not logged, and this is why. Unless the device failed all is as it was.
   pub record AreNotAnswered (cause : Unlogged) : Type 0 where
     pub unchanged : is_device_failure cause ≡ false → new ≡ old
-    pub full : cause ≡ Full → (0 < length records) × (old.limit < old.size + length (flat_map open_record records))
+    pub full : cause ≡ Full → (0 < length records) × (old.limit < old.size + batch_size old.version records)
     pub stopped : is_device_failure cause ≡ true → FailOnDevice
 
 module _ (functions : Functions) {D R : Type 0} (state : D → State) (old new : StoreView D R) (world : WorldState) where

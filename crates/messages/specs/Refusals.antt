@@ -1,8 +1,7 @@
 -- Why requests were not answered, by the number of the refusal.
 use Rattle.std.specs.Prelude.{◌≡◌, ◌≢◌, ℕ, ◌+◌, ◌<◌, List, length}
-use Rattle.std.specs.List.{flat_map}
 use Rattle.disk_trait.specs.Disk.{State}
-use Rattle.gate_log.specs.Layout.{open_record}
+use Rattle.gate_log.specs.Layout.{batch_size}
 use Rattle.lisp_object.specs.declared.refusal.TheConstants.{DEVICE, LOG_FULL, NO_MEMORY}
 use Rattle.plist_state.specs.State.{WorldState}
 use Rattle.prevalence_store.specs.calls.Store.{StoreView}
@@ -15,7 +14,7 @@ module _ (functions : Functions) {D R : Type 0} (state : D → State) (old new :
   -- their messages wrote something, for which the half has no room
   abbrev pub MessagesHaveNoRoom : Type 0
   MessagesHaveNoRoom = let needed = records functions state old new world (round_after_requests functions (first_round last world) requests) in
-      (0 < length needed) × (old.limit < old.size + length (flat_map open_record needed))
+      (0 < length needed) × (old.limit < old.size + batch_size old.version needed)
 
   -- These requests were not answered, with this number.
   pub record AreRefusedBy (number : ℕ) : Type 0 where

@@ -42,7 +42,8 @@ fn answer_form<R: MacroFunctions>(
 ) -> Result<Vec<u8>, AllocError>
     requires form { MayEvaluate world.old.0.packages form.now }
     ensures answer { IfOk result (λ answer. answer.items
-        ≡ answer_to_asked (question_in_force R.Meaning.functions.names world.old.0 (object_of form.now.datum))) }
+        ≡ answer_to_asked (question_in_force R.Meaning.functions.names
+        world.old.0 (object_of form.now.datum))) }
     ensures same { world.new ≡ world.old }
 {
     let mark = world.mark_count();

@@ -33,7 +33,8 @@ impl Round {
         ensures made { OnOk result
             (StaysMade R.Meaning.functions (round_in self.old world.old.0) (round_in self.new world.new.0)) }
         ensures refused { IfErr result (λ cause. IfRefused cause
-            (RefusesOwn R.Meaning.functions (round_in self.old world.old.0) (first_of R.Meaning.functions most (round_in self.old world.old.0) requests.now))) }
+            (RefusesOwn R.Meaning.functions (round_in self.old world.old.0)
+            (first_of R.Meaning.functions most (round_in self.old world.old.0) requests.now))) }
         ensures marks { (worlds : Worlds) → IsWorldMarked worlds world.old.1
             → IsWorldMarked worlds world.new.1 }
     {
@@ -58,7 +59,8 @@ impl Round {
         ensures made { OnOk result
             (StaysMade R.Meaning.functions (round_in self.old world.old.0) (round_in self.new world.new.0)) }
         ensures refused { IfErr result (λ cause. IfRefused cause
-            (RefusesOwn R.Meaning.functions (round_in self.old world.old.0) (first_of R.Meaning.functions most (round_in self.old world.old.0) requests.now))) }
+            (RefusesOwn R.Meaning.functions (round_in self.old world.old.0)
+            (first_of R.Meaning.functions most (round_in self.old world.old.0) requests.now))) }
         ensures marks { (worlds : Worlds) → IsWorldMarked worlds world.old.1
             → IsWorldMarked worlds world.new.1 }
     {

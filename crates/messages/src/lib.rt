@@ -26,7 +26,8 @@
 //!   (`of_two`, `of_three`). proofs/Making.antt: the records of a round (`form_made`).
 //! - proofs/Fronts.antt: requests that are answered one after the other (`one_answer`); proofs/Owned.antt: which number is that of a device
 //!   fault (`no_device`).
-//! - proofs/Settling.antt: what is left of requests that are not answered (`unchanged_or_failed`).
+//! - proofs/Settling.antt: what became of a round as a turn, whatever was asked (`records_again`, `answered_logged`, `left_by`), and what is
+//!   left of requests that are not answered (`unchanged_or_failed`).
 #![tactic(auto)]
 
 mod ask;

@@ -10,6 +10,7 @@ pub mod Together
 pub mod Taking
 pub mod Turning
 pub mod Loading
+pub mod PlainTexts
 pub mod Replays
 pub mod Refusing
 pub mod Storing

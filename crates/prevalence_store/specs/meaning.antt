@@ -3,4 +3,5 @@ pub mod Forgetting
 pub mod Acceptance
 pub mod Files
 pub mod Version1
+pub mod Version2
 pub mod BeforeOperators

@@ -1,11 +1,12 @@
-//! The theorem over any calls in a row and over any openings after them, that files mean one world, and that files of version 1 mean
-//! what they meant.
+//! The theorem over any calls in a row and over any openings after them, that files mean one world, and that files of versions 1 and 2
+//! mean what they meant.
 ghost use Rattle.std.specs.Prelude.{◌≡◌, ◌↔◌, ℕ, ◌+◌, Bool, true, List, [], ◌++◌, take, Some, Ok, Err};
 ghost use Rattle.disk_trait.specs.Disk.{Image, IsFresh, IsHonest, Throughout};
 ghost use Rattle.gate_log.specs.Layout.{LogRecord};
 ghost use Rattle.prevalence_store.specs.meaning.Acceptance.{Acceptance, accepts, IsFormNumber};
 ghost use Rattle.prevalence_store.specs.meaning.Files.{MeansWorld};
 ghost use Rattle.prevalence_store.specs.meaning.Version1.{accepts1, MeansWorld1};
+ghost use Rattle.prevalence_store.specs.meaning.Version2.{accepts2, MeansWorld2};
 ghost use Rattle.session_words.specs.declared.mode.Mode.{Mode};
 ghost use Rattle.prevalence_store.specs.calls.Open.{IsNoWord, IsUnopened, limit_of};
 ghost use Rattle.prevalence_store.specs.Theorem.{Call, Headline, IsAfterSome, IsStoppedBetween, Keeps, KeepsSome, MeansSome, Reopens, Run, acknowledged_of, disk_after, forms_of};
@@ -38,6 +39,16 @@ pub fn version_1_stays()
         → MeansWorld functions image world × (world.read_base ≡ 10) }
 {}
 
+/// What version 2 accepted, and what files meant to a program of version 2, is accepted and meant as before. So a store whose half in
+/// use is of version 2 opens with the world that it had.
+pub fn version_2_stays()
+    ensures forms { (functions : Functions) (world : WorldState) (mode : Mode) (text : List ℕ)
+        → (given : Acceptance) → accepts2 functions world mode text ≡ Ok given
+        → accepts functions world mode text ≡ Ok given }
+    ensures files { (functions : Functions) (image : Image) (world : WorldState)
+        → MeansWorld2 functions image world → MeansWorld functions image world }
+{}
+
 /// A form is refused under a number of 1 to 47 alone: the numbers from 60 on are those of the store.
 pub fn form_numbers()
     ensures { (functions : Functions) (world : WorldState) (mode : Mode) (text : List ℕ)
@@ -47,7 +58,7 @@ pub fn form_numbers()
 /// Whatever calls are made in a row from the opening of an honest disk on, a crash at any moment and an opening of what
 /// it leaves, with macro functions of the same meaning, give the world after some of the forms that they took, from the
 /// first on, and after all those that were acknowledged. Such an opening, if each function is registered, is refused for
-/// memory, for a device fault, or for room for a first half alone.
+/// memory, for a device fault, for a disk that does not claim that its writes mix, or for room for a first half alone.
 pub fn headline<D: Disk>()
     ensures holds { (functions : Functions) (start : D) (world : WorldState)
         → (earlier later : List (Call D))
@@ -62,7 +73,7 @@ pub fn headline<D: Disk>()
         (D.state (disk_after start earlier)).moment image
         → (D.state crashed).reads ≡ image → IsHonest (D.state crashed)
         → (refused : IsUnopened functions D.state crashed true limit number back)
-        → IsNoWord (limit_of limit) image refused.fault }
+        → IsNoWord (D.state crashed).mixes (limit_of limit) image refused.fault }
 {}
 
 /// Openings in a row, after any calls: also where the last call met a device fault, or the process was stopped in it and
@@ -103,7 +114,7 @@ pub fn recoveries<D: Disk>()
         → (refused : IsUnopened functions D.state start whole limit number back)
         → IsHonest (D.state back) × KeepsSome functions (D.state back) world forms least
         × Throughout (D.state start) (D.state back) (MeansSome functions world forms least)
-        × IsNoWord (limit_of limit) (D.state start).reads refused.fault }
+        × IsNoWord (D.state start).mixes (limit_of limit) (D.state start).reads refused.fault }
     ensures interrupted { (functions : Functions) (start now stopped : D) (world : WorldState)
         → (forms : List LogRecord) (least : ℕ)
         → Throughout (D.state start) (D.state now) (MeansSome functions world forms least)

@@ -16,8 +16,8 @@
 //! - *Openings in a row* (`recoveries`): so does an opening after a device fault, or after a stop of the process while the machine
 //!   goes on, where a crash may leave more than one world; also where that opening is refused, or stopped itself.
 //! - *Files of version 1* (`version_1_stays`): what version 1 accepted and meant is accepted and meant the same. `open` reads
-//!   them, `execute` goes on in their half, and `snapshot` begins a half of version 2; what these survive is said above, of
-//!   files of both versions alike.
+//!   them, `execute` goes on in their half, and `snapshot` begins a half of version 3 on a disk that mixes, and after one of version 3, else of version 2; what these survive is said above, of
+//!   files of all versions alike.
 //!
 //! Of every disk: each call returns; 60 comes exactly if the device's count of failures rose, and after it each call but
 //! `close`, `world`, `half`, `version`, `generation` and `record_count` answers 61; a refusal of 1 to 47, 64, 65 or 90 changes nothing.
@@ -90,7 +90,9 @@ mod whole_macros;
 
 pub use batch::Batch;
 pub use failure::{Unadded, Unlogged};
-pub use laws::{form_numbers, fresh_files, headline, one_world, recoveries, version_1_stays};
+pub use laws::{
+    form_numbers, fresh_files, headline, one_world, recoveries, version_1_stays, version_2_stays,
+};
 pub use lisp_object::refusal::name_of as refusal_name;
 pub use named::{FoundValue, get_from_text};
 pub use open_fault::OpenFault;

@@ -19,6 +19,8 @@ pub enum OpenFault {
     Damaged,
     /// The half in use has a version that is not known.
     UnknownVersion,
+    /// The half in use is kept with one sync, and the disk does not claim that its writes mix.
+    DoesNotMix,
     /// The half that is to be started does not fit the limit.
     TooLarge,
     /// A macro function of the meaning is not registered.
@@ -36,7 +38,7 @@ impl OpenFault {
             OpenFault::OutOfMemory => NO_MEMORY,
             OpenFault::DeviceFault => DEVICE,
             OpenFault::Damaged => DAMAGED,
-            OpenFault::UnknownVersion => VERSION,
+            OpenFault::UnknownVersion | OpenFault::DoesNotMix => VERSION,
             OpenFault::TooLarge => SNAPSHOT_TOO_LARGE,
             OpenFault::NotWhole | OpenFault::UnknownFunction => MISSING_MACRO,
         }
@@ -54,6 +56,7 @@ impl From<OpenRefusal> for OpenFault {
             OpenRefusal::Damaged => OpenFault::Damaged,
             OpenRefusal::UnknownVersion => OpenFault::UnknownVersion,
             OpenRefusal::OutOfMemory => OpenFault::OutOfMemory,
+            OpenRefusal::DoesNotMix => OpenFault::DoesNotMix,
         }
     }
 }

@@ -1,6 +1,6 @@
 //! Where an answer ends, byte by byte.
 ghost use Rattle.std.specs.Prelude.{◌≡◌};
-ghost use Rattle.program_streams.specs.AnswerText.{after, at_mark, at_start, in_name, in_refusal, in_text, in_value};
+ghost use Rattle.program_streams.specs.AnswerText.{place_after_byte, at_mark, at_start, in_name, in_refusal, in_text, in_value};
 
 /// Where a text of answers has come to.
 #[derive(Clone, Copy, Debug, PartialEq, Eq)]
@@ -28,7 +28,7 @@ pub enum At {
 impl At {
     /// After one byte more.
     pub(crate) fn after(self, byte: u8) -> At
-        ensures { result ≡ after self byte }
+        ensures { result ≡ place_after_byte self byte }
     {
         match self {
             At::Start => at_start(byte),

@@ -2,7 +2,7 @@
 ghost use Rattle.std.specs.Prelude.{◌≡◌, ◌++◌, length, None, IfOk, OnOk};
 ghost use Rattle.std.specs.Io.{WritesAtMost};
 ghost use Rattle.std.specs.Io.KnownBytes.{WriteAppends};
-ghost use Rattle.program_streams.specs.AnswerText.{after, after_all, counted_on, counted_byte, counts_line, passed, refusals_in, Gets};
+ghost use Rattle.program_streams.specs.AnswerText.{place_after_byte, after_all, counted_on, counted_byte, counts_line, refusal_bytes_after, refusals_in, Gets};
 
 use crate::answer_text::At;
 use arrayvec::ArrayString;
@@ -98,9 +98,9 @@ impl<O> Refusals<O> {
     // Takes note of a byte.
     fn note(&mut self, byte: u8) -> Result<(), AllocError>
         ensures output { self.new.output ≡ self.old.output }
-        ensures at { OnOk result (self.new.at ≡ after self.old.at byte) }
+        ensures at { OnOk result (self.new.at ≡ place_after_byte self.old.at byte) }
         ensures refusals { OnOk result (self.new.refusals.items
-            ≡ self.old.refusals.items ++ passed self.old.at byte) }
+            ≡ self.old.refusals.items ++ refusal_bytes_after self.old.at byte) }
         ensures counts { OnOk result (self.new.counts ≡ counted_byte self.old.at self.old.counts byte) }
     {
         match self.at {

@@ -3,7 +3,7 @@ ghost use Rattle.std.specs.Prelude.{◌≡◌, ◌≤◌, ◌<◌, ◌-◌, ◌^
 ghost use Rattle.disk_trait.specs.Disk.{Image, IsHonest};
 ghost use Rattle.plist_state.specs.State.{WorldState};
 ghost use Rattle.sessions.specs.Account.{first_account};
-ghost use Rattle.session_ledger.specs.OutgoingLines.{WentOut, calls_in, disk_at};
+ghost use Rattle.session_ledger.specs.OutgoingLines.{WentOut, calls_in, disk_after_lines};
 ghost use Rattle.store_laws.specs.Batches.{MeansCalls};
 
 use crate::again::AMPLE;
@@ -31,7 +31,7 @@ fn there_by_then<D: Disk, M: MacroFunctions, I: Read, O: Write>(
         (first_account world Mode.Current (I.remaining reader.old) store.old.disk) store.new
         (O.contents output.old) (O.contents output.new))
         × ((k : ℕ) → k ≤ length went.out.sent → (image : Image)
-        → (D.state store.new.disk).left_since (D.state (disk_at
+        → (D.state store.new.disk).left_since (D.state (disk_after_lines
         (first_account world Mode.Current (I.remaining reader.old) store.old.disk) went.out.sent k)).moment image
         → MeansCalls M.Meaning.functions world (calls_in M.Meaning.functions D.state
         (first_account world Mode.Current (I.remaining reader.old) store.old.disk) store.new went) k image) }

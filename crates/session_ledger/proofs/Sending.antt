@@ -4,13 +4,13 @@ use Rattle.std.specs.Option.{option_map}
 use Rattle.disk_trait.specs.Disk.{Image, State}
 use Rattle.plist_state.specs.State.{WorldState}
 use Rattle.prevalence_store.specs.Theorem.{Call, disk_after, world_after}
-use Rattle.sessions.specs.Account.{Account, AreStored, AreUnderWay, call_of, with_forms}
+use Rattle.sessions.specs.Account.{Account, AreStored, AreUnderWay, call_of_stored, with_forms}
 use Rattle.prevalence_store.specs.calls.Store.{StoreView}
 use Rattle.sessions.specs.Streams.{Writes, WritesPart}
 use Rattle.session_ledger.specs.Ledger.{Agrees, IsAccountOf, account_from, account_past, named_first}
-use Rattle.session_ledger.specs.OutgoingLines.{Outgoing, WentOut, calls_in, disk_at, handings_of, out_of}
+use Rattle.session_ledger.specs.OutgoingLines.{Outgoing, WentOut, calls_in, disk_after_lines, handings_of, out_of}
 use Rattle.store_laws.specs.Batches.{MeansCalls}
-use Rattle.store_laws.specs.SessionLines.{AreCalls, AreHanded, Handing, account_after, call_since, calls_of}
+use Rattle.store_laws.specs.SessionLines.{AreCalls, AreHanded, Handing, account_after, call_since, calls_of_handings}
 use Rattle.user_macros.specs.Functions.{Functions}
 
 -- ---- one time more
@@ -127,10 +127,10 @@ module _ (functions : Functions) {D : Type 0} (R : Type 0) (state : D → State)
     pub world : world_after (Some account.now) earlier ≡ Some now
 
   parted : (k : ℕ) (handings : List (Handing D R)) (account : Account D) (handed : AreHanded functions state account handings) (others : List (Call D)) → k ≤ length handings
-      → Parted account handings (calls_of functions state account handings handed ++ others) k
+      → Parted account handings (calls_of_handings functions state account handings handed ++ others) k
   parted zero handings account handed others fits = record {
     earlier = [];
-    later = calls_of functions state account handings handed ++ others;
+    later = calls_of_handings functions state account handings handed ++ others;
     parts = refl;
     many = refl;
     disk = refl;
@@ -143,9 +143,9 @@ module _ (functions : Functions) {D : Type 0} (R : Type 0) (state : D → State)
       let here : next.now ≡ handed.0.far.world = ap (λ o. unwrap_or o account.now) handed.0.left in
       let rest = parted k more next handed.1 others (omega arith) in
       record {
-        earlier = call_of functions state account one.store one.lines one.forms handed.0 ∷ rest.earlier;
+        earlier = call_of_stored functions state account one.store one.lines one.forms handed.0 ∷ rest.earlier;
         later = rest.later;
-        parts = ap (λ cs. call_of functions state account one.store one.lines one.forms handed.0 ∷ cs) rest.parts;
+        parts = ap (λ cs. call_of_stored functions state account one.store one.lines one.forms handed.0 ∷ cs) rest.parts;
         many = ap suc rest.many;
         disk = rest.disk;
         now = rest.now;
@@ -155,7 +155,7 @@ module _ (functions : Functions) {D : Type 0} (R : Type 0) (state : D → State)
   -- a crash from then on
   pub there_by_then : (first : Account D) (closed : StoreView D R) (held written : Option (List ℕ)) (went : WentOut functions state first closed held written)
       → AreCalls functions state first (calls_in functions state first closed went) → (k : ℕ) → k ≤ length went.out.sent
-      → (image : Image) → (state closed.disk).left_since (state (disk_at first went.out.sent k)).moment image
+      → (image : Image) → (state closed.disk).left_since (state (disk_after_lines first went.out.sent k)).moment image
       → MeansCalls functions first.now (calls_in functions state first closed went) k image
   there_by_then first closed held written went are k fits image might =
       let handings = handings_of went.out.sent in
@@ -172,7 +172,7 @@ module _ (functions : Functions) {D : Type 0} (R : Type 0) (state : D → State)
         as_many (one ∷ more) = ap suc (as_many more)
 
         ends_at : (handings : List (Handing D R)) (account : Account D) (handed : AreHanded functions state account handings) (call : Call D)
-            → disk_after account.disk (calls_of functions state account handings handed ++ call ∷ []) ≡ call.disk
+            → disk_after account.disk (calls_of_handings functions state account handings handed ++ call ∷ []) ≡ call.disk
         ends_at [] account handed call = refl
         ends_at (one ∷ more) account handed call = ends_at more (with_forms one.forms one.store account) handed.1 call
 

@@ -5,7 +5,7 @@ use Rattle.prevalence_store.specs.Theorem.{Call}
 use Rattle.sessions.specs.Account.{Account, AreUnderWay}
 use Rattle.prevalence_store.specs.calls.Store.{StoreView}
 use Rattle.sessions.specs.Streams.{Writes}
-use Rattle.store_laws.specs.SessionLines.{AreHanded, Handing, account_after, call_since, calls_of}
+use Rattle.store_laws.specs.SessionLines.{AreHanded, Handing, account_after, call_since, calls_of_handings}
 use Rattle.user_macros.specs.Functions.{Functions}
 
 -- Lines that were handed to the output, and the part of them, from their front, that went out: all of them, if the output did not fail.
@@ -26,8 +26,8 @@ out_of [] = []
 out_of (one ∷ more) = one.out ++ out_of more
 
 -- The disk as lines had been handed on so many times; before the first time the one with which the session began.
-abbrev pub disk_at : {D R : Type 0} → Account D → List (Outgoing D R) → ℕ → D
-disk_at first sent k = (account_after first (take k (handings_of sent))).disk
+abbrev pub disk_after_lines : {D R : Type 0} → Account D → List (Outgoing D R) → ℕ → D
+disk_after_lines first sent k = (account_after first (take k (handings_of sent))).disk
 
 -- This is all that the output got in a session which began with this account, and each time its lines were as a recipient asks: the next ones
 -- of the session, of forms that are all stored.
@@ -45,5 +45,5 @@ pub record WentOut (functions : Functions) {D R : Type 0} (state : D → State) 
 abbrev pub calls_in : (functions : Functions) {D R : Type 0} (state : D → State) (first : Account D) (closed : StoreView D R) {held written : Option (List ℕ)}
     → WentOut functions state first closed held written → List (Call D)
 calls_in functions state first closed went =
-    calls_of functions state first (handings_of went.out.sent) went.out.handed
+    calls_of_handings functions state first (handings_of went.out.sent) went.out.handed
     ++ call_since functions state (account_after first (handings_of went.out.sent)) closed went.since ∷ []

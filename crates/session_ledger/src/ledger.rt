@@ -120,7 +120,8 @@ where
     // It serves as it is wanted, and this went out of it.
     ensures serves { (world : WorldState) → store.old.world ≡ Some world
         → ServesWanted M.Meaning.functions D.state wanted store.old store.new world
-        (I.remaining input.old) (I.remaining input.new) (O.contents output.old) (O.contents output.new) result }
+        (I.remaining input.old) (I.remaining input.new) (O.contents output.old)
+        (O.contents output.new) result }
     ensures went { (world : WorldState) → store.old.world ≡ Some world
         → WentOut M.Meaning.functions D.state
         (first_account world wanted.mode (I.remaining input.old) store.old.disk) store.new
@@ -170,7 +171,8 @@ where
         → kept ≡ first_account world wanted.mode (I.remaining input.old) store.old.disk }
     ensures serves { (world : WorldState) → store.old.world ≡ Some world
         → ServesWanted M.Meaning.functions D.state wanted store.old store.new world
-        (I.remaining input.old) (I.remaining input.new) (O.contents output.old) (O.contents output.new) result }
+        (I.remaining input.old) (I.remaining input.new) (O.contents output.old)
+        (O.contents output.new) result }
     ensures went { (world : WorldState) → store.old.world ≡ Some world
         → WentOut M.Meaning.functions D.state
         (first_account world wanted.mode (I.remaining input.old) store.old.disk) store.new

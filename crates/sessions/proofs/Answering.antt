@@ -33,7 +33,7 @@ use Rattle.sessions.proofs.Pieces.{longer, piece_whole, piece_left, next_is, aft
 
 module _ (functions : Functions) {D R : Type 0} (state : D → State) where
   after_longer : (old new : StoreView D R) (w : WorldState) (far : Progress) (more : List ℕ) → IsAfter functions state old new w far → IsAfter functions state old new w (longer far more)
-  after_longer old new w far more a = record { left = a.left; records = a.records; limit = a.limit; macros = a.macros; failures = a.failures; log = a.log }
+  after_longer old new w far more a = record { left = a.left; records = a.records; limit = a.limit; macros = a.macros; failures = a.failures; mixes = a.mixes; log = a.log }
 
   -- the same forms, of a text that goes on
   pub extended : (strict : Bool) (course later : Course) (old new : StoreView D R) (w : WorldState) (mode : Mode) (text : List ℕ) (a b : Option (List ℕ)) (pending : Pending) (left more : List ℕ)
@@ -135,8 +135,8 @@ module _ (functions : Functions) {D R : Type 0} (state : D → State) where
         far = progress_onward p second.far;
         advances = advance_both functions state sound old mid new w mode text a b c first.forms p first.advances honest second.forms (second.forms + first.forms) second.far refl
             (subst (λ t. Advances functions state mid new p.world mode t b c second.forms second.far) (sym first.rest) second.advances);
-        paced = paces_both functions old.limit w p.world p.taken second.far.taken course.pace later.pace last.pace (fill_of old) (fill_of mid) (fill_of new) first.advances.after.records first.paced
-            (subst (λ n. PacesForms functions n p.world second.far.taken later.pace last.pace (fill_of mid) (fill_of new)) first.advances.after.limit second.paced);
+        paced = paces_both functions old.limit w p.world p.taken second.far.taken course.pace later.pace last.pace (fill_of state old) (fill_of state mid) (fill_of state new) first.advances.after.records first.paced
+            (subst (λ n. PacesForms functions n p.world second.far.taken later.pace last.pace (fill_of state mid) (fill_of state new)) first.advances.after.limit second.paced);
         comes = record {
           forms_are = let one = first.comes.forms_are in let two = second.comes.forms_are in omega arith;
           bytes_are = let one = first.comes.bytes_are in let two = second.comes.bytes_are in let same = ap length first.rest in omega arith;
@@ -171,8 +171,8 @@ module _ (functions : Functions) {D R : Type 0} (state : D → State) where
         far = progress_onward p second.far;
         advances = advance_both functions state sound old mid new w mode text a b c first.forms p first.advances honest second.forms (second.forms + first.forms) second.far refl second.advances;
         later = second.later;
-        paced = paces_both functions old.limit w p.world p.taken second.far.taken course.pace later.pace second.later (fill_of old) (fill_of mid) (fill_of new) first.advances.after.records first.paced
-            (subst (λ n. PacesForms functions n p.world second.far.taken later.pace second.later (fill_of mid) (fill_of new)) first.advances.after.limit second.paced);
+        paced = paces_both functions old.limit w p.world p.taken second.far.taken course.pace later.pace second.later (fill_of state old) (fill_of state mid) (fill_of state new) first.advances.after.records first.paced
+            (subst (λ n. PacesForms functions n p.world second.far.taken later.pace second.later (fill_of state mid) (fill_of state new)) first.advances.after.limit second.paced);
         accepted = second.accepted + first.forms;
         one_more = let one = second.one_more in omega arith;
         before = progress_onward p second.before;
@@ -188,9 +188,9 @@ module _ (functions : Functions) {D R : Type 0} (state : D → State) where
           → ServesInPace functions state course.pace old new w mode text a c ending (serve_both functions state sound old mid new w mode text a b c first.forms p first.advances honest wanted.group ending served)
       unfolding serve_both
       paced_both ending served paced =
-          ends_after functions old.limit w mode p course.pace later.pace (fill_of old) (fill_of mid) first.advances.after.records first.paced first.forms served.forms served.far served.lines served.answered
-          (fill_of new) ending
-          (subst (λ n. EndsInPace functions n p.world later.pace (fill_of mid) mode served.forms served.far served.lines served.answered (fill_of new) ending) first.advances.after.limit paced)
+          ends_after functions old.limit w mode p course.pace later.pace (fill_of state old) (fill_of state mid) first.advances.after.records first.paced first.forms served.forms served.far served.lines served.answered
+          (fill_of state new) ending
+          (subst (λ n. EndsInPace functions n p.world later.pace (fill_of state mid) mode served.forms served.far served.lines served.answered (fill_of state new) ending) first.advances.after.limit paced)
 
       -- a session over what is left, and the whole of it
       strict_both : (ending : Ending) → ServesStrict functions state wanted later mid new p.world mode p.rest b c ending → ServesStrict functions state wanted course old new w mode text a c ending

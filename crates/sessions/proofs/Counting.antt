@@ -1,23 +1,13 @@
 -- Many forms that are logged together: they are counted, and no snapshot comes after any of them.
 use Rattle.std.proofs.Common.{◌≡◌, ℕ, zero, suc, ◌+◌, ◌*◌, ◌-◌, ◌<◌, ◌≤◌, List, [], ◌∷◌, length, Some, Result, Ok, Err, refl, sym, ap, subst, ◌∙◌, inl, inr, length-append, arith}
-use Rattle.std.specs.List.{flat_map}
-use Rattle.std.proofs.lemmas.List.Sums.{sum_by-append}
-use Rattle.gate_log.specs.Layout.{LogRecord, open_record}
+use Rattle.gate_log.specs.Layout.{LogRecord, batch_size}
+use Rattle.gate_log.proofs.Sizes.{count_within}
 use Rattle.plist_state.specs.State.{WorldState}
 use Rattle.sessions.specs.Pace.{Fill, HasHalfGrown, IsDue, IsDueByCount, Pace, PacesForms, fill_with_record}
-use Rattle.sessions.specs.Serve.{room_of}
 use Rattle.prevalence_store.specs.meaning.Acceptance.{Acceptance, accepts, after, mode_of}
 use Rattle.sessions.specs.steps.Schedule.{CountsAll, IsBeforeDue, IsBeforeGrown}
 use Rattle.prevalence_store.proofs.meaning.Replaying.{stepped}
 use Rattle.user_macros.specs.Functions.{Functions}
-
-room_first : (e : LogRecord) (es : List LogRecord) → room_of (e ∷ es) ≡ (6 + length e.text) + room_of es
-room_first e es = omega (arith, sum_by-append (λ (entry : LogRecord). 6 + length entry.text) (e ∷ []) es)
-
--- the bytes that records take, one by one and all at once
-pub room_is : (es : List LogRecord) → length (flat_map open_record es) ≡ room_of es
-room_is [] = refl
-room_is (e ∷ es) = omega (arith, room_first e es, room_is es, length-append e.text (flat_map open_record es))
 
 -- ---- how they are counted
 
@@ -44,12 +34,16 @@ never_counted (suc count) pace later few never every ratio still left =
       never_counted count counted later (omega arith) never every ratio (λ _. none) (λ _. none),
     )
 
+-- a record takes some bytes
+some_room : (version : ℕ) (e : LogRecord) (es : List LogRecord) → 0 < batch_size version (e ∷ es)
+some_room version e es = omega (arith, count_within version (e ∷ es))
+
 -- records that take no more bytes than there are before a half has grown enough leave it too small
-pub before_grown : (ratio room : ℕ) (fill now : Fill) (es : List LogRecord) → IsBeforeGrown ratio fill room → room_of es ≤ room → now.size ≡ fill.size + room_of es → now.first_size ≡ fill.first_size
-    → 0 < length es → HasHalfGrown ratio now.size now.first_size → ⊥
+pub before_grown : (ratio room : ℕ) (fill now : Fill) (es : List LogRecord) → IsBeforeGrown ratio fill room → batch_size fill.version es ≤ room → now.size ≡ fill.size + batch_size fill.version es
+    → now.first_size ≡ fill.first_size → 0 < length es → HasHalfGrown ratio now.size now.first_size → ⊥
 before_grown ratio room fill now [] before within size first some grown = absurd (omega (arith, some))
 before_grown ratio room fill now (e ∷ es) before within size first some grown =
-    before (omega (arith, within, room_first e es)) (grown.0, omega (arith, grown.1, size, within), subst (λ n. ratio * n ≤ fill.size + room) first (omega (arith, grown.2, size, within)))
+    before (omega (arith, within, some_room fill.version e es)) (grown.0, omega (arith, grown.1, size, within), subst (λ n. ratio * n ≤ fill.size + room) first (omega (arith, grown.2, size, within)))
 
 pub fewer_before_due : (pace : Pace) (few many : ℕ) → few ≤ many → IsBeforeDue pace many → IsBeforeDue pace few
 fewer_before_due pace few many fewer (inl less) = inl (omega (arith, less, fewer))
@@ -96,17 +90,17 @@ module _ (functions : Functions) (limit : ℕ) where
       small (grown.0, omega (arith, grown.1, less), subst (λ n. pace.ratio * n ≤ now.size) (sym first) (omega (arith, grown.2, less)))
 
   pub all_paced : (w v : WorldState) (es : List LogRecord) (pace later : Pace) (fill now : Fill) → after functions w es ≡ Some v → CountsAll (length es) pace later
-      → (0 < length es → HasHalfGrown pace.ratio now.size now.first_size → ⊥) → (0 < length es → fill.size + room_of es ≤ limit)
-      → now.generation ≡ fill.generation → now.record_count ≡ fill.record_count + length es → now.size ≡ fill.size + room_of es → now.first_size ≡ fill.first_size
+      → (0 < length es → HasHalfGrown pace.ratio now.size now.first_size → ⊥) → (0 < length es → fill.size + batch_size fill.version es ≤ limit)
+      → now.mixes ≡ fill.mixes → now.version ≡ fill.version → now.generation ≡ fill.generation → now.record_count ≡ fill.record_count + length es → now.size ≡ fill.size + batch_size fill.version es
+      → now.first_size ≡ fill.first_size
       → PacesForms functions limit w es pace later fill now
-  all_paced w v [] pace later fill now there counts small fits generation records size start =
+  all_paced w v [] pace later fill now there counts small fits mixes version generation records size start =
       let many : now.record_count ≡ fill.record_count = omega (arith, records) in
       let bytes : now.size ≡ fill.size = omega (arith, size) in
-      (counts, λ i. record { generation = generation i; record_count = many i; size = bytes i; first_size = start i })
-  all_paced w v (e ∷ es) pace later fill now there (counted, one, not_due, others) small fits generation records size start =
+      (counts, λ i. record { mixes = mixes i; version = version i; generation = generation i; record_count = many i; size = bytes i; first_size = start i })
+  all_paced w v (e ∷ es) pace later fill now there (counted, one, not_due, others) small fits mixes version generation records size start =
       let is = first_of w v es (accepts functions w (mode_of e.kind) e.text) there in
       let given = is.0 in
-      let first = room_first e es in
       let grown_not = small (omega arith) in
       let room = fits (omega arith) in (
         given.world,
@@ -115,10 +109,10 @@ module _ (functions : Functions) (limit : ℕ) where
         record {
           given_is = ap (stepped functions []) is.1;
           logged = fill_with_record e fill;
-          logs = record { room = fill; made = inl refl; fits = omega (arith, first, room); now_is = refl };
+          logs = record { room = fill; made = inl refl; fits = omega (arith, room); now_is = refl };
           counts = one;
-          followed = inl (none_due pace (fill_with_record e fill) now not_due grown_not start (omega (arith, first, size)), refl);
+          followed = inl (none_due pace (fill_with_record e fill) now not_due grown_not start (omega (arith, size)), refl);
         },
-        all_paced given.world v es counted later (fill_with_record e fill) now is.2 others (λ some. subst (λ r. HasHalfGrown r now.size now.first_size → ⊥) (sym one.ratio) grown_not) (λ some. omega (arith, first, room))
-            generation (omega (arith, records)) (omega (arith, first, size)) start,
+        all_paced given.world v es counted later (fill_with_record e fill) now is.2 others (λ some. subst (λ r. HasHalfGrown r now.size now.first_size → ⊥) (sym one.ratio) grown_not) (λ some. omega (arith, room))
+            mixes version generation (omega (arith, records)) (omega (arith, size)) start,
       )

@@ -255,7 +255,7 @@ module _ (functions : Functions) {D R : Type 0} (state : D → State) where
     record {
       far = is.0;
       advances = is.1;
-      paced = subst (λ (k : Course). PacesForms functions old.limit w is.0.taken course.pace k.pace (fill_of old) (fill_of new)) (sym passed) is.2;
+      paced = subst (λ (k : Course). PacesForms functions old.limit w is.0.taken course.pace k.pace (fill_of state old) (fill_of state new)) (sym passed) is.2;
       forms = ap (λ (k : Course). k.forms) passed ∙ ap (λ n. n + 1) forms;
       bytes = ap (λ (k : Course). k.bytes) passed ∙ ap (λ n. n + next) bytes;
       refused_are = refl;

@@ -88,6 +88,7 @@ module _ (functions : Functions) where
           limit = refl;
           macros = refl;
           failures = refl;
+          mixes = refl;
           log = inl (record {
             half = refl;
             version = refl;

@@ -83,6 +83,7 @@ module _ (functions : Functions) where
         limit = logs.limit;
         macros = logs.macros;
         failures = logs.failures;
+        mixes = logs.mixes;
         log = inl (record {
           half = logs.half;
           version = logs.version;
@@ -104,15 +105,15 @@ module _ (functions : Functions) where
 
     -- what it leaves in the half in use
     leaves : (wrote : Bool) (given : WorldState) → Stores state old new wrote mode own given
-        → LeavesRecord (LogsAtOnce old.limit (fill_of old) (fill_of new)) (records_of wrote mode own) (fill_of old) (fill_of new) wrote
+        → LeavesRecord (LogsAtOnce old.limit (fill_of state old) (fill_of state new)) (records_of wrote mode own) (fill_of state old) (fill_of state new) wrote
     leaves true given logs =
         let size = logs.size in
         let fits = logs.fits in
-        inr (refl, (accepted_record mode own, refl, (omega arith, λ i. record { generation = logs.generation i; record_count = logs.record_count i; size = logs.size i; first_size = logs.first_size i })))
-    leaves false given same = inl (refl, refl, ap (λ (s : StoreView D R). fill_of s) same.0)
+        inr (refl, (accepted_record mode own, refl, (omega arith, λ i. record { mixes = logs.mixes i; version = logs.version i; generation = logs.generation i; record_count = logs.record_count i; size = logs.size i; first_size = logs.first_size i })))
+    leaves false given same = inl (refl, refl, ap (λ (s : StoreView D R). fill_of state s) same.0)
 
-    refused_leaves : new ≡ old → LeavesRecord (LogsAtOnce old.limit (fill_of old) (fill_of new)) [] (fill_of old) (fill_of new) false
-    refused_leaves same = inl (refl, refl, ap (λ (s : StoreView D R). fill_of s) same)
+    refused_leaves : new ≡ old → LeavesRecord (LogsAtOnce old.limit (fill_of state old) (fill_of state new)) [] (fill_of state old) (fill_of state new) false
+    refused_leaves same = inl (refl, refl, ap (λ (s : StoreView D R). fill_of state s) same)
 
     -- the form is answered, and the session goes on
     form_is_answered : (answer : Result Evaluated Failure) (line : List ℕ) → TakesForm functions state old new mode own x answer → IsAnswerLine new answer line
@@ -233,7 +234,7 @@ module _ (functions : Functions) where
         in_form = λ output. absurd (omega arith);
         accepted = refl;
       },
-      inl (memory, refl, ap (λ (s : StoreView D R). fill_of s) same),
+      inl (memory, refl, ap (λ (s : StoreView D R). fill_of state s) same),
     )
 
     records_written : (wrote : Bool) → wrote ≡ true → records_of wrote mode own ≡ accepted_record mode own ∷ []
@@ -266,10 +267,10 @@ module _ (functions : Functions) where
                     all_or_none_of_one functions (state old.disk) (state new.disk) w (accepted_record mode own)
                     (of.survives w here claims keeps).any_moment;
               })),
-          inr (inr (stop, refl, refl, λ i. record { generation = failed.generation i; record_count = failed.record_count i; size = failed.size i; first_size = failed.first_size i })),
+          inr (inr (stop, refl, refl, λ i. record { mixes = failed.mixes i; version = failed.version i; generation = failed.generation i; record_count = failed.record_count i; size = failed.size i; first_size = failed.first_size i })),
         )
 
-    over_in : (cause : Unlogged) (number : ℕ) → IsFormLeft functions state old new mode own x cause → number ≡ failure_number cause → number ≡ LOG_FULL → IsOver functions old w mode text
+    over_in : (cause : Unlogged) (number : ℕ) → IsFormLeft functions state old new mode own x cause → number ≡ failure_number cause → number ≡ LOG_FULL → IsOver functions state old w mode text
     over_in unlogged.OutOfMemory number of stop full = absurd (omega arith)
     over_in unlogged.DeviceFault number of stop full = absurd (omega arith)
     over_in unlogged.Full number of stop full =

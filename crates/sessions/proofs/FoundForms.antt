@@ -31,14 +31,14 @@ use Rattle.prevalence_store.proofs.Surviving.{unchanged_survives}
 use Rattle.sessions.specs.declared.answer.Answered.TheVariants.{Accepted}
 use Rattle.sessions.specs.declared.ending.Ended.TheVariants as ways
 use Rattle.sessions.specs.declared.input.Pending.{Pending}
-use Rattle.sessions.specs.declared.input.found.FoundLine.{FoundLine}
+use Rattle.sessions.specs.declared.input.property_line.FoundLine.{FoundLine}
 use Rattle.sessions.specs.FormAnswers.{value_line}
 use Rattle.sessions.specs.Pace.{Fill, fill_of}
 use Rattle.sessions.specs.Streams.{Writes, WritesPart}
 use Rattle.sessions.specs.steps.Answer.{LeavesRecord, PassesForm, TriesForm}
 use Rattle.sessions.specs.steps.Course.{Course, pass}
 use Rattle.sessions.specs.steps.Forms.{TakesForm}
-use Rattle.sessions.specs.steps.Found.{HasLine}
+use Rattle.sessions.specs.steps.PropertyLine.{HasLine}
 use Rattle.sessions.specs.steps.Input.{HasForm, IsPending}
 use Rattle.sessions.specs.steps.Output.{IsAnswerLine}
 use Rattle.sessions.specs.steps.Serve.{HasEndedAt}
@@ -175,7 +175,7 @@ module _ (functions : Functions) {D R : Type 0} (state : D → State) (sound : (
   found_passed fresh none writes course later passed =
       let reads = reads_here functions w wanted bytes piece found has in
       let tries = found_answered functions state sound old w wanted.mode known text has.object has.start found.next reads has.value has.valued found.line.items has.line_is held written writes in
-      let paced = none_paced functions old.limit w course.pace tries.0.taken (fill_of old) (fill_of old) (taken_none _ tries.0.taken (fill_of old) tries.2) refl in
+      let paced = none_paced functions old.limit w course.pace tries.0.taken (fill_of state old) (fill_of state old) (taken_none _ tries.0.taken (fill_of state old) tries.2) refl in
       let passes = passes_form functions state course course later old old w wanted text held written has.start found.next (Accepted false) (tries.0, tries.1, paced, tries.3) refl refl passed in
       (passes.0.refused, passes.1, passes.2)
 

@@ -1,10 +1,9 @@
 -- The forms of a group that were answered, or in which the session has ended.
 use Rattle.std.proofs.Common.{◌≡◌, ◌≢◌, ◌⊎◌, ℕ, zero, suc, ◌+◌, ◌<◌, ◌≤◌, max, true, List, [], ◌∷◌, ◌++◌, length, drop, Option, None, Some, Ok, Err, refl, sym, ap, subst, ◌∙◌, inl, inr, append_assoc, append-nil, length-append, length-drop, arith}
 use Rattle.std.specs.Option.{option_map}
-use Rattle.std.specs.List.{flat_map}
 use Rattle.std.proofs.lemmas.List.{drop-drop}
 use Rattle.disk_trait.specs.Disk.{State, IsHonest, IsSoundDisk}
-use Rattle.gate_log.specs.Layout.{LogRecord, open_record}
+use Rattle.gate_log.specs.Layout.{LogRecord, batch_size}
 use Rattle.lisp_object.specs.Object.{Object}
 use Rattle.lisp_object.specs.declared.refusal.TheConstants.{DEVICE, OUTPUT}
 use Rattle.lisp_operators.specs.Evaluation.{Evaluation}
@@ -20,7 +19,7 @@ use Rattle.prevalence_store.specs.meaning.Acceptance.{after, between, read_in, t
 use Rattle.sessions.specs.FormAnswers.{Progress, after_forms, first_progress, form_progress, last_line, one_form, progress_onward}
 use Rattle.prevalence_store.specs.calls.ExecuteAll.{LogsAll}
 use Rattle.sessions.specs.Pace.{PacesForms, fill_of}
-use Rattle.sessions.specs.Serve.{IsAfter, room_of}
+use Rattle.sessions.specs.Serve.{IsAfter}
 use Rattle.prevalence_store.specs.calls.Store.{StoreView}
 use Rattle.sessions.specs.Streams.{Writes, WritesPart}
 use Rattle.prevalence_store.specs.steps.Batch.{StoresBatch}
@@ -29,7 +28,7 @@ use Rattle.sessions.specs.steps.Gather.{AnswersGroup, FailsForms, AreFormsGather
 use Rattle.sessions.specs.steps.Schedule.{CountsAll, IsBeforeDue, IsBeforeGrown}
 use Rattle.sessions.specs.steps.Serve.{HasEndedAt}
 use Rattle.sessions.proofs.Progressing.{step_back}
-use Rattle.sessions.proofs.Counting.{all_paced, before_grown, counted_all, room_is}
+use Rattle.sessions.proofs.Counting.{all_paced, before_grown, counted_all}
 use Rattle.sessions.proofs.Endings.{after_none, part_of, writes_nothing}
 use Rattle.sessions.proofs.FormAnswers.{some_first, some_last}
 use Rattle.sessions.proofs.Pieces.{longer, stays_longer}
@@ -144,8 +143,15 @@ module _ (functions : Functions) where
 
   -- ---- what is left of a group
 
+  -- their records take no more bytes than that, in a half of this version
+  abbrev pub AreWithinRoom : (room version : ℕ) → GatheredForms → Type 0
+  AreWithinRoom room version gathered = (gathered.record_bytes ≤ room) × (gathered.limit.version ≡ version)
+
+  taken_within : (room version : ℕ) (gathered : GatheredForms) (taken : List LogRecord) → gathered.record_bytes ≡ batch_size gathered.limit.version taken → AreWithinRoom room version gathered → batch_size version taken ≤ room
+  taken_within room version gathered taken bytes within = omega (arith, bytes, within.0, ap (λ n. batch_size n taken) within.1)
+
   module _ {D R : Type 0} (state : D → State) (old new : StoreView D R) (w : WorldState) where
-    fits_most : (es : List LogRecord) → new.size ≡ old.size + length (flat_map open_record es) → (0 < length es → new.size ≤ old.limit) → new.size ≤ max old.size old.limit
+    fits_most : (es : List LogRecord) → new.size ≡ old.size + batch_size old.version es → (0 < length es → new.size ≤ old.limit) → new.size ≤ max old.size old.limit
     fits_most [] size fits = omega (arith, size)
     fits_most (e ∷ es) size fits = omega (arith, fits (omega arith))
 
@@ -156,12 +162,13 @@ module _ (functions : Functions) where
       limit = logs.limit;
       macros = logs.macros;
       failures = logs.failures;
+      mixes = logs.mixes;
       log = inl (record {
         half = logs.half;
         version = logs.version;
         generation = logs.generation;
         record_count = logs.record_count;
-        size = logs.size ∙ ap (λ n. old.size + n) (room_is far.taken);
+        size = logs.size;
         first_size = logs.first_size;
         fits = fits_most far.taken logs.size logs.fits;
         described = logs.described;
@@ -171,12 +178,11 @@ module _ (functions : Functions) where
     }
 
     all_in_pace : (far : Progress) → LogsAll state old new far.taken far.world → after functions w far.taken ≡ Some far.world → (course later : Course) → CountsAll (length far.taken) course.pace later.pace
-        → (room : ℕ) → IsBeforeGrown course.pace.ratio (fill_of old) room → room_of far.taken ≤ room → PacesForms functions old.limit w far.taken course.pace later.pace (fill_of old) (fill_of new)
+        → (room : ℕ) → IsBeforeGrown course.pace.ratio (fill_of state old) room → batch_size old.version far.taken ≤ room → PacesForms functions old.limit w far.taken course.pace later.pace (fill_of state old) (fill_of state new)
     all_in_pace far logs again course later counts room before within =
-        let size = logs.size ∙ ap (λ n. old.size + n) (room_is far.taken) in
-        all_paced functions old.limit w far.world far.taken course.pace later.pace (fill_of old) (fill_of new) again counts
-        (before_grown course.pace.ratio room (fill_of old) (fill_of new) far.taken before within size logs.first_size)
-        (λ some. omega (arith, logs.fits some, size)) logs.generation logs.record_count size logs.first_size
+        all_paced functions old.limit w far.world far.taken course.pace later.pace (fill_of state old) (fill_of state new) again counts
+        (before_grown course.pace.ratio room (fill_of state old) (fill_of state new) far.taken before within logs.size logs.first_size)
+        (λ some. omega (arith, logs.fits some, logs.size)) logs.mixes logs.version logs.generation logs.record_count logs.size logs.first_size
 
   -- ---- how a session goes on, or has ended
 
@@ -184,7 +190,7 @@ module _ (functions : Functions) where
       (held written : Option (List ℕ)) (known : old.world ≡ Some w) where
     -- the forms were answered
     pub group_answered : (gathered : GatheredForms) (next count : ℕ) → TakesForms functions wanted state old new w text gathered → Writes held written gathered.lines.items → drop next text ≡ rest
-        → gathered.bytes ≡ next + count → CountsAll gathered.records course.pace later.pace → (room : ℕ) → IsBeforeGrown course.pace.ratio (fill_of old) room → gathered.record_bytes ≤ room → later.forms ≡ course.forms + gathered.forms → later.bytes ≡ course.bytes + gathered.bytes
+        → gathered.bytes ≡ next + count → CountsAll gathered.records course.pace later.pace → (room : ℕ) → IsBeforeGrown course.pace.ratio (fill_of state old) room → AreWithinRoom room old.version gathered → later.forms ≡ course.forms + gathered.forms → later.bytes ≡ course.bytes + gathered.bytes
         → AnswersGroup functions wanted state course later old new w text rest held written (grouped.Answered count)
     group_answered gathered next count took writes left many counts room before within forms bytes pending none =
         let is = took.makes in
@@ -203,7 +209,7 @@ module _ (functions : Functions) where
             survives = stores.survives;
           };
           paced = all_in_pace state old new w far stores.logs is.again course later (subst (λ n. CountsAll n course.pace later.pace) entries counts)
-              room before (omega (arith, is.record_bytes, within));
+              room before (taken_within room old.version gathered far.taken is.record_bytes within);
           comes = record {
             forms_are = omega (arith, forms);
             bytes_are = omega (arith, bytes, ap length is.rest, length-drop gathered.bytes text, is.within);
@@ -246,7 +252,7 @@ module _ (functions : Functions) where
                 some = fails.some;
                 one_open = λ none. absurd (cc);
                 were_accepted = refl;
-                fits = omega (arith, fails.fits, room_is far.taken);
+                fits = fails.fits;
                 failed = fails.failed;
                 all_or_none = fails.all_or_none;
               });
@@ -254,7 +260,7 @@ module _ (functions : Functions) where
             paced = inr (inr (inr (record {
               device = refl;
               some_open = fault.makes.1;
-              before = inl (course.pace, (refl, λ i. record { generation = fails.failed.generation i; record_count = fails.failed.record_count i; size = fails.failed.size i; first_size = fails.failed.first_size i }));
+              before = inl (course.pace, (refl, λ i. record { mixes = fails.failed.mixes i; version = fails.failed.version i; generation = fails.failed.generation i; record_count = fails.failed.record_count i; size = fails.failed.size i; first_size = fails.failed.first_size i }));
             })));
             stays = (λ output. absurd (omega arith), stays_longer functions gathered.forms w wanted.mode text more far is.stays);
           },
@@ -263,7 +269,7 @@ module _ (functions : Functions) where
 
     -- the writer failed in their lines
     pub group_unwritten : wanted.group ≡ true → (gathered : GatheredForms) → 0 < gathered.forms → TakesForms functions wanted state old new w text gathered → WritesPart held written gathered.lines.items
-        → IsBeforeDue course.pace gathered.records → (room : ℕ) → IsBeforeGrown course.pace.ratio (fill_of old) room → gathered.record_bytes ≤ room
+        → IsBeforeDue course.pace gathered.records → (room : ℕ) → IsBeforeGrown course.pace.ratio (fill_of state old) room → AreWithinRoom room old.version gathered
         → AnswersGroup functions wanted state course later old new w text rest held written (grouped.Ended (ways.Store OUTPUT))
     group_unwritten grouped gathered some took writes before room small within more = by_part (part_of held written far.lines (some_lines gathered.forms some far_is) (subst (WritesPart held written) is.lines writes)) where
       is : AreFormsGathered functions wanted w text took.left took.records gathered
@@ -320,7 +326,7 @@ module _ (functions : Functions) where
                 paced = (
                   counted.0,
                   all_in_pace state old new w far stores.logs is.again course (record course { pace = counted.0 }) counted.1
-                      room small (omega (arith, is.record_bytes, within)),
+                      room small (taken_within room old.version gathered far.taken is.record_bytes within),
                 );
                 other = λ full. absurd (omega arith);
                 fault = λ device. absurd (omega arith);

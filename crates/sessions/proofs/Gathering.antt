@@ -2,8 +2,8 @@
 use Rattle.std.proofs.Common.{◌≡◌, ℕ, ◌+◌, ◌-◌, ◌<◌, ◌≤◌, Bool, true, false, cond, List, [], ◌++◌, length, take, drop, Some, Ok, Err, refl, sym, ap, subst, ◌∙◌, append-nil, length-append, length-drop, arith}
 use Rattle.std.specs.List.{AllByRecursion}
 use Rattle.std.proofs.lemmas.List.{drop-append-le, drop-drop}
-use Rattle.std.proofs.lemmas.List.Sums.{sum_by-append}
-use Rattle.gate_log.specs.Layout.{IsLogRecord, LogRecord}
+use Rattle.gate_log.proofs.Sizes.{batch_more}
+use Rattle.gate_log.specs.Layout.{IsLogRecord, LogRecord, batch_size}
 use Rattle.lisp_object.specs.Object.{Object, IsSound}
 use Rattle.lisp_object.specs.Datum.{object_of, is_proper}
 use Rattle.form_eval.specs.declared.read_form.ReadForm.{ReadForm}
@@ -134,7 +134,7 @@ module _ (functions : Functions) (wanted : SessionOptions) (w : WorldState) (tex
         taken = added.taken ∙ ap (λ l. l ++ one.taken) is.taken;
         counted = added.counted;
         accepted = λ strict. ap (λ l. l ++ one.refused) (is.accepted strict) ∙ added.accepted strict;
-        record_bytes = omega (arith, added.record_bytes, is.record_bytes, sum_by-append (λ (entry : LogRecord). 6 + length entry.text) p.taken one.taken);
+        record_bytes = omega (arith, added.record_bytes, is.record_bytes, batch_more old.limit.version p.taken one.taken, ap (λ (l : GroupLimit). batch_size l.version (p.taken ++ one.taken)) added.limit);
         again = after-append functions w p.world p.taken one.taken is.again ∙ subst (λ (s : WorldState). after functions s one.taken ≡ Some one.world) is.left again.0;
         fit = fit_both p.taken one.taken is.fit again.1;
       }
@@ -146,11 +146,11 @@ module _ (functions : Functions) (wanted : SessionOptions) (w : WorldState) (tex
       more_gathered w v had has none new text next (subst (λ (es : List LogRecord). AreFormsGathered functions wanted w text w es none) (sym (none_in had empty)) (none_gathered none is)) (ap (λ n. drop n text) is.bytes)
       (record { object = x; own = own; begins = begins; added = added })
 
--- how many forms there are, by a limit that is the same
-pub counted_by : (next many : ℕ) (limit other : GroupLimit) (gathered : GatheredForms) → other ≡ limit → 0 < gathered.forms → gathered.forms ≤ gathered.bytes → next ≤ gathered.bytes → gathered.bytes ≤ next + many
-    → gathered.records ≤ other.forms → gathered.record_bytes ≤ other.bytes → AreWithinLimit next many limit gathered
-counted_by next many limit other gathered same some forms first others records bytes =
-    subst (λ (l : GroupLimit). AreWithinLimit next many l gathered) same (record { some = some; forms = forms; first = first; others = others; records = records; record_bytes = bytes })
+-- how many forms there are
+pub counted_by : (next many : ℕ) (limit : GroupLimit) (gathered : GatheredForms) → gathered.limit ≡ limit → 0 < gathered.forms → gathered.forms ≤ gathered.bytes → next ≤ gathered.bytes → gathered.bytes ≤ next + many
+    → gathered.records ≤ limit.forms → gathered.record_bytes ≤ limit.bytes → AreWithinLimit next many limit gathered
+counted_by next many limit gathered same some forms first others records bytes =
+    record { some = some; forms = forms; first = first; others = others; records = records; record_bytes = bytes; limit_is = same }
 
 -- a form has one record at most
 record_at_most : (wrote : Bool) (mode : Mode) (own : List ℕ) → length (records_of wrote mode own) ≤ 1

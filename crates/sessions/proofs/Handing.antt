@@ -381,7 +381,7 @@ module _ (functions : Functions) {D R : Type 0} (state : D → State) (sound : (
         let advances = tries.1 in
         let written : Some line ≡ Some ([] ++ tries.0.lines) = advances.lines [] refl in
         stored_after 1 tries.0 advances.far_is (inl (cc)) advances.after.left advances.survives
-        (λ here honest keeps. one_batch functions (state old.disk) (state new.disk) w tries.0.taken (fill_of old) (fill_of new) (was_logged told) tries.2 (advances.survives here honest keeps).any_moment)
+        (λ here honest keeps. one_batch functions (state old.disk) (state new.disk) w tries.0.taken (fill_of state old) (fill_of state new) (was_logged told) tries.2 (advances.survives here honest keeps).any_moment)
 
     -- the lines of a group
     pub lines_stored : (text more : List ℕ) → bytes ≡ text ++ more → (wanted : SessionOptions) (gathered : GatheredForms) → wanted.mode ≡ mode → TakesForms functions wanted state old new w text gathered → lines ≡ gathered.lines.items

@@ -1,7 +1,7 @@
 -- How far the snapshots of a session have come, and how its parts join.
 use Rattle.std.proofs.Common.{◌≡◌, ℕ, ◌+◌, ◌<◌, ◌⊎◌, Bool, List, [], ◌∷◌, ◌++◌, length, Option, Some, refl, sym, ap, subst, ◌∙◌, inl, inr, append_assoc, arith}
 use Rattle.disk_trait.specs.Disk.{State, IsHonest, IsSoundDisk}
-use Rattle.gate_log.specs.Layout.{LogRecord}
+use Rattle.gate_log.specs.Layout.{LogRecord, size_of_record}
 use Rattle.lisp_object.specs.declared.refusal.TheConstants.{DEVICE, OUTPUT, NO_MEMORY}
 use Rattle.lisp_reading.specs.Reading.{empty, refused}
 use Rattle.plist_state.specs.State.{WorldState}
@@ -89,22 +89,22 @@ module _ (functions : Functions) (limit : ℕ) where
 
   -- the half has not changed; or it had no room for the form that the text begins with, and a snapshot was taken
   abbrev pub HasReadied : WorldState → Mode → List ℕ → (start middle : Fill) → Type 0
-  HasReadied w mode text start middle = (middle ≡ start) ⊎ (IsOverIn functions limit start.size w mode text × (middle ≡ fill_of_new_half w start))
+  HasReadied w mode text start middle = (middle ≡ start) ⊎ (IsOverIn functions limit start w mode text × (middle ≡ fill_of_new_half w start))
 
   module _ (w : WorldState) (mode : Mode) (text : List ℕ) (start middle now : Fill) where
-    record_is : (over : IsOverIn functions limit start.size w mode text) (far : Progress) → after_forms functions 1 w mode text ≡ Some far → far.taken ≡ over.record_ ∷ []
+    record_is : (over : IsOverIn functions limit start w mode text) (far : Progress) → after_forms functions 1 w mode text ≡ Some far → far.taken ≡ over.record_ ∷ []
     record_is over far is =
         let one = after_one_form functions w mode text over.next over.next_is in
         let same : over.next ≡ far = cc in
         ap (λ (p : Progress). p.taken) (sym same) ∙ over.is_taken
 
     made_for : (entry : LogRecord) (far : Progress) → HasReadied w mode text start middle → after_forms functions 1 w mode text ≡ Some far → far.taken ≡ entry ∷ []
-        → (middle ≡ start) ⊎ ((limit < start.size + (6 + length entry.text)) × (middle ≡ fill_of_new_half w start))
+        → (middle ≡ start) ⊎ ((limit < start.size + size_of_record start.version (length entry.text)) × (middle ≡ fill_of_new_half w start))
     made_for entry far (inl same) is taken = inl same
     made_for entry far (inr over) is taken =
         let known = record_is over.0 far is in
         let same : over.0.record_ ≡ entry = cc in
-        inr (subst (λ (e : LogRecord). limit < start.size + (6 + length e.text)) same over.0.over, over.1)
+        inr (subst (λ (e : LogRecord). limit < start.size + size_of_record start.version (length e.text)) same over.0.over, over.1)
 
     pub with_room : (far : Progress) (wrote : Bool) → HasReadied w mode text start middle → after_forms functions 1 w mode text ≡ Some far
         → LeavesRecord (LogsAtOnce limit middle now) far.taken middle now wrote → LeavesRecord (λ entry. LogsWithRoom limit w entry start now) far.taken start now wrote
@@ -171,8 +171,8 @@ module _ (functions : Functions) (limit : ℕ) where
 
 module _ (functions : Functions) {D R : Type 0} (state : D → State) (sound : (d : D) → IsHonest (state d) → IsSoundDisk (state d)) (old new : StoreView D R) (w : WorldState) (mode : Mode) (text : List ℕ) (held written : Option (List ℕ))
     (known : old.world ≡ Some w) where
-  same_fill : new ≡ old → fill_of new ≡ fill_of old
-  same_fill same = ap (λ (s : StoreView D R). fill_of s) same
+  same_fill : new ≡ old → fill_of state new ≡ fill_of state old
+  same_fill same = ap (λ (s : StoreView D R). fill_of state s) same
 
   -- the answer to a refusal of the reader
   pub fault_paced : (group : Bool) (number at : ℕ) (is : read_in functions w mode text ≡ refused number at) (same : new ≡ old) (ending : Ending) (answers : AnswersFault number held written ending) (pace : Pace)

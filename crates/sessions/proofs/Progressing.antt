@@ -1,11 +1,11 @@
 -- How the turns of a session join.
 use Rattle.std.proofs.Common.{◌≡◌, ℕ, zero, suc, Bool, ◌+◌, ◌⊎◌, List, [], ◌∷◌, ◌++◌, length, Option, None, Some, IsTrue, refl, sym, ap, subst, ◌∙◌, inl, inr, append_assoc, append-nil, arith, length-append}
 use Rattle.std.specs.Option.{option_map, option_and_then}
-use Rattle.std.proofs.lemmas.List.Sums.{sum_by-append}
 use Rattle.disk_trait.specs.Disk.{State, IsHonest, IsSoundDisk}
 use Rattle.disk_trait.specs.Half.{opposite_of}
 use Rattle.disk_trait.specs.declared.half.Half.{Half}
-use Rattle.gate_log.specs.Layout.{LogRecord, with_records}
+use Rattle.gate_log.specs.Layout.{LogRecord, batch_size, half_base, next_version, with_records}
+use Rattle.gate_log.proofs.Sizes.{batch_more, next_version_twice}
 use Rattle.session_words.specs.declared.mode.Mode.{Mode}
 use Rattle.sessions.specs.declared.ending.Ending.{Ending}
 use Rattle.sessions.specs.declared.ending.Ending.TheVariants.{End, Reader, Store}
@@ -16,6 +16,7 @@ use Rattle.sessions.specs.FormAnswers.{Progress, after_forms, first_progress, la
 use Rattle.sessions.specs.Serve.{Advances, Ends, IsAfter, IsHalfExtended, IsHalfRenewed, Serves, contents_after, half_after}
 use Rattle.sessions.specs.Streams.{Writes}
 use Rattle.plist_state.specs.State.{WorldState}
+use Rattle.world_text.specs.Snapshot.{snapshot}
 use Rattle.prevalence_store.specs.Theorem.{Survives}
 use Rattle.prevalence_store.proofs.calls.LeftAlone.{alone_both}
 use Rattle.prevalence_store.proofs.Surviving.{after-append, both_survive}
@@ -53,14 +54,21 @@ half_after_both (suc n) m zero half is = absurd (omega arith)
 half_after_both (suc n) m (suc k) half is = let less : k ≡ n + m = omega arith in ap opposite_of (half_after_both n m k half less)
 
 module _ (functions : Functions) {D R : Type 0} (state : D → State) (sound : (d : D) → IsHonest (state d) → IsSoundDisk (state d)) (old mid new : StoreView D R) (w v : WorldState) (xs ys : List LogRecord)
-    (here : after functions w xs ≡ Some v) (limit : mid.limit ≡ old.limit) (honest : (state mid.disk).honest ≡ (state old.disk).honest) where
+    (here : after functions w xs ≡ Some v) (limit : mid.limit ≡ old.limit) (honest : (state mid.disk).honest ≡ (state old.disk).honest) (mixes : (state mid.disk).mixes ≡ (state old.disk).mixes) where
+  -- the version of a half that is begun later, after one of this version, or after one that was begun on the same disk
+  begun_later : (version : ℕ) → next_version (state mid.disk).mixes version ≡ next_version (state old.disk).mixes version
+  begun_later version = ap (λ m. next_version m version) mixes
+
+  begun_twice : (version : ℕ) → next_version (state mid.disk).mixes (next_version (state old.disk).mixes version) ≡ next_version (state old.disk).mixes version
+  begun_twice version = begun_later (next_version (state old.disk).mixes version) ∙ next_version_twice (state old.disk).mixes version
+
   both_extended : IsHalfExtended state old mid xs → IsHalfExtended state mid new ys → IsHalfExtended state old new (xs ++ ys)
   both_extended one two = record {
     half = two.half ∙ one.half;
     version = two.version ∙ one.version;
     generation = two.generation ∙ one.generation;
     record_count = let sum = length-append xs ys in let a = one.record_count in let b = two.record_count in omega arith;
-    size = let sum = sum_by-append (λ (entry : LogRecord). 6 + length entry.text) xs ys in let a = one.size in let b = two.size in omega arith;
+    size = omega (arith, one.size, two.size, batch_more old.version xs ys, ap (λ n. batch_size n ys) one.version);
     first_size = two.first_size ∙ one.first_size;
     fits = let a = one.fits in let b = two.fits in omega arith;
     described = λ k claims held.
@@ -84,13 +92,15 @@ module _ (functions : Functions) {D R : Type 0} (state : D → State) (sound : (
     first = two.first;
     first_is = after-append functions w v xs two.earlier here ∙ two.first_is;
     half = two.half ∙ ap (half_after two.snapshots) one.half;
-    version = two.version;
+    version = two.version ∙ ap (next_version (state mid.disk).mixes) one.version ∙ begun_later old.version;
     generation = let a = one.generation in let b = two.generation in omega arith;
     record_count = two.record_count;
     size = two.size;
     first_size = two.first_size;
     fits = let fits = two.fits in omega arith;
-    described = λ k claims held. two.described (with_records k xs) (subst IsTrue (sym honest) claims) (one.described k claims held);
+    described = λ k claims held.
+        subst (λ m. Describes new (contents_after m k two.snapshots two.first two.later) (state new.disk).reads) mixes
+        (two.described (with_records k xs) (subst IsTrue (sym honest) claims) (one.described k claims held));
   }
 
   -- they were taken earlier
@@ -107,10 +117,18 @@ module _ (functions : Functions) {D R : Type 0} (state : D → State) (sound : (
     version = two.version ∙ one.version;
     generation = two.generation ∙ one.generation;
     record_count = let sum = length-append one.later ys in let a = one.record_count in let b = two.record_count in omega arith;
-    size = let sum = sum_by-append (λ (entry : LogRecord). 6 + length entry.text) one.later ys in let a = one.size in let b = two.size in omega arith;
-    first_size = two.first_size ∙ one.first_size;
+    size =
+        omega (
+          arith,
+          one.size,
+          two.size,
+          batch_more mid.version one.later ys,
+          ap (λ n. half_base n (length (snapshot one.first))) two.version,
+          ap (λ n. batch_size n (one.later ++ ys)) two.version,
+        );
+    first_size = two.first_size ∙ one.first_size ∙ ap (λ n. half_base n (length (snapshot one.first))) (sym two.version);
     fits = let a = one.fits in let b = two.fits in omega arith;
-    described = λ k claims held. two.described (contents_after k one.snapshots one.first one.later) (subst IsTrue (sym honest) claims) (one.described k claims held);
+    described = λ k claims held. two.described (contents_after (state old.disk).mixes k one.snapshots one.first one.later) (subst IsTrue (sym honest) claims) (one.described k claims held);
   }
 
   unfoldable both_renewed : IsHalfRenewed state old mid functions w xs → IsHalfRenewed state mid new functions v ys → IsHalfRenewed state old new functions w (xs ++ ys)
@@ -123,7 +141,7 @@ module _ (functions : Functions) {D R : Type 0} (state : D → State) (sound : (
     first = two.first;
     first_is = after-append functions w v xs two.earlier here ∙ two.first_is;
     half = two.half ∙ ap (half_after two.snapshots) one.half ∙ sym (half_after_both two.snapshots one.snapshots (two.snapshots + one.snapshots) old.half refl);
-    version = two.version;
+    version = two.version ∙ ap (next_version (state mid.disk).mixes) one.version ∙ begun_twice old.version;
     generation = let a = one.generation in let b = two.generation in omega arith;
     record_count = two.record_count;
     size = two.size;
@@ -131,8 +149,9 @@ module _ (functions : Functions) {D R : Type 0} (state : D → State) (sound : (
     fits = let fits = two.fits in omega arith;
     described = λ k claims held.
         let later : (k.generation + one.snapshots) + two.snapshots ≡ k.generation + (two.snapshots + one.snapshots) = omega arith in
-        subst (λ g. Describes new (record (contents_after k one.snapshots two.first two.later) { generation = g }) (state new.disk).reads) later
-        (two.described (contents_after k one.snapshots one.first one.later) (subst IsTrue (sym honest) claims) (one.described k claims held));
+        subst (λ g. Describes new (record (contents_after (state old.disk).mixes k one.snapshots two.first two.later) { generation = g }) (state new.disk).reads) later
+        (subst (λ v. Describes new (record { version = v; generation = (k.generation + one.snapshots) + two.snapshots; snapshot = snapshot two.first; entries = two.later }) (state new.disk).reads) (begun_twice k.version)
+        (two.described (contents_after (state old.disk).mixes k one.snapshots one.first one.later) (subst IsTrue (sym honest) claims) (one.described k claims held)));
   }
 
   -- snapshots are taken in the second part, and this is left of it
@@ -158,7 +177,8 @@ module _ (functions : Functions) {D R : Type 0} (state : D → State) (sound : (
     limit = second.limit ∙ first.limit;
     macros = second.macros ∙ first.macros;
     failures = second.failures ∙ first.failures;
-    log = log_both functions state sound old mid new w p.world p.taken q.taken first.records first.limit honest first.log second.log;
+    mixes = second.mixes ∙ first.mixes;
+    log = log_both functions state sound old mid new w p.world p.taken q.taken first.records first.limit honest first.mixes first.log second.log;
   }
 
 module _ (functions : Functions) where
@@ -248,7 +268,7 @@ module _ (functions : Functions) where
       failed = stopped.failed;
     }))
     ends_both forms far lines answered part group (Store number) answered_is (inr (inr (inl full))) =
-        let renewed = renewed_later functions state sound old mid new w p.world p.taken far.taken first.after.records first.after.limit honest first.after.log full.renewed in
+        let renewed = renewed_later functions state sound old mid new w p.world p.taken far.taken first.after.records first.after.limit honest first.after.mixes first.after.log full.renewed in
         inr (inr (inl (record {
           full = full.full;
           all = let all = full.all in omega arith;

@@ -2,7 +2,7 @@
 use Rattle.std.proofs.Common.{◌≡◌, ℕ, ◌+◌, Bool, true, false, List, [], ◌++◌, length, Some, Result, Ok, Err, refl, sym, ap, subst, ◌∙◌, arith}
 use Rattle.std.specs.List.{AllByRecursion}
 use Rattle.disk_trait.specs.Disk.{State, IsHonest, IsSoundDisk}
-use Rattle.gate_log.specs.Layout.{IsLogRecord, LogRecord}
+use Rattle.gate_log.specs.Layout.{IsLogRecord, LogRecord, size_of_record}
 use Rattle.lisp_object.specs.Object.{Object}
 use Rattle.lisp_operators.specs.EvaluationAnswers.{done}
 use Rattle.lisp_operators.specs.declared.evaluated.Evaluated.{Evaluated}
@@ -21,7 +21,7 @@ use Rattle.sessions.specs.steps.Answer.{IsFormLeft, IsReplyTo, TakesReply, IsRep
 use Rattle.prevalence_store.specs.steps.Batch.{StoresBatch, TakesBatch, entries_in, IsEmpty}
 use Rattle.prevalence_store.proofs.Surviving.{unchanged_survives}
 use Rattle.user_macros.specs.Functions.{Functions}
-use Rattle.prevalence_store.proofs.steps.Taking.{none_in, one_record, one_size, stored_one}
+use Rattle.prevalence_store.proofs.steps.Taking.{none_in, one_record, stored_one}
 use Rattle.prevalence_store.specs.steps.Failure.{is_device_failure}
 use Rattle.prevalence_store.specs.steps.Together.{IsTurnLogged, IsTurnNotLogged}
 
@@ -65,7 +65,7 @@ module _ (functions : Functions) where
         nothing_survives DeviceFault is same u = absurd (cc)
 
         pub takes_nothing : (failure : Failure) → is_device failure ≡ false → new ≡ old
-            → ((u : WorldState) → old.world ≡ Some u → IsCause (transaction_value functions.names u x) old.size old.limit (length text) failure) → TakesForm functions state old new mode text x (Err failure)
+            → ((u : WorldState) → old.world ≡ Some u → IsCause (transaction_value functions.names u x) (old.size + size_of_record old.version (length text)) old.limit failure) → TakesForm functions state old new mode text x (Err failure)
         takes_nothing failure calm same cause = record {
           accepted = λ u known. tt;
           cause = cause;
@@ -90,22 +90,22 @@ module _ (functions : Functions) where
 
           -- and whose record was not logged
           by_wrote : (wrote : Bool) → e.wrote ≡ wrote → (cause : Unlogged) {T : Type 0} → TakesBatch functions state old new w v (records_of wrote mode text) {T = T} (Err cause)
-              → IsCause (transaction_value functions.names w x) old.size old.limit (length text) (of_unlogged cause) × SurvivesAs functions state old new w (taken_in mode text (Err (of_unlogged cause))) 0
+              → IsCause (transaction_value functions.names w x) (old.size + size_of_record old.version (length text)) old.limit (of_unlogged cause) × SurvivesAs functions state old new w (taken_in mode text (Err (of_unlogged cause))) 0
           by_wrote wrote is unlogged.OutOfMemory took = (tt, nothing_survives OutOfMemory refl (took.unchanged refl) w)
           by_wrote true is unlogged.Full took =
               let over = took.full refl in
-              (((done e v, valued, is), omega (arith, over.1, one_size mode text)), nothing_survives Full refl (took.unchanged refl) w)
+              (((done e v, valued, is), omega (arith, over.1)), nothing_survives Full refl (took.unchanged refl) w)
           by_wrote false is unlogged.Full took = let over = took.full refl in absurd (omega (arith, over.0))
           by_wrote true is unlogged.DeviceFault took =
               let stopped = took.stopped refl in
-              (((done e v, valued, is), omega (arith, stopped.fits, one_size mode text)), stopped.survives)
+              (((done e v, valued, is), omega (arith, stopped.fits)), stopped.survives)
           by_wrote false is unlogged.DeviceFault took = let stopped = took.stopped refl in absurd (omega (arith, stopped.some))
 
           takes_failure : (cause : Unlogged) {T : Type 0} → TakesBatch functions state old new w v (records_of e.wrote mode text) {T = T} (Err cause) → TakesForm functions state old new mode text x (Err (of_unlogged cause))
           takes_failure cause took =
               let told = by_wrote e.wrote refl cause took in record {
                 accepted = λ u is. tt;
-                cause = λ u is. subst (λ a. IsCause (transaction_value functions.names a x) old.size old.limit (length text) (of_unlogged cause)) (here u is) told.0;
+                cause = λ u is. subst (λ a. IsCause (transaction_value functions.names a x) (old.size + size_of_record old.version (length text)) old.limit (of_unlogged cause)) (here u is) told.0;
                 unchanged = λ calm. took.unchanged (device_same cause ∙ calm);
                 fault = λ device. (took.stopped (device_same cause ∙ device)).failed;
                 survives = λ u is. subst (λ a. SurvivesAs functions state old new a (taken_in mode text (Err (of_unlogged cause))) 0) (here u is) told.1 is;

@@ -57,8 +57,8 @@ module _ (functions : Functions) {D R : Type 0} (state : D → State) (account :
     pub all_or_none : IsHonest (state account.disk) → Throughout (state account.disk) (state store.disk) (MeansAllOrNone functions account.now far.taken)
 
   -- as a call of the store
-  abbrev pub call_of : AreStored → Call D
-  call_of stored = record { disk = store.disk; taken = stored.far.taken; acknowledged = length stored.far.taken; left = Some stored.far.world }
+  abbrev pub call_of_stored : AreStored → Call D
+  call_of_stored stored = record { disk = store.disk; taken = stored.far.taken; acknowledged = length stored.far.taken; left = Some stored.far.world }
 
 -- These forms, if any, were taken since lines were last handed on, and none of them was acknowledged. A crash at any moment since leaves all
 -- of them, or none.

@@ -1,7 +1,8 @@
 -- When a session takes snapshots: after each so many forms that were logged; once the half in use has grown so many times; and for a
 -- record that has no room.
-use Rattle.std.specs.Prelude.{◌≡◌, ◌≢◌, ◌⊎◌, ℕ, ◌+◌, ◌*◌, ◌<◌, ◌≤◌, List, [], ◌∷◌, ◌++◌, length, Some}
-use Rattle.gate_log.specs.Layout.{LogRecord}
+use Rattle.std.specs.Prelude.{Bool, ◌≡◌, ◌≢◌, ◌⊎◌, ℕ, ◌+◌, ◌*◌, ◌<◌, ◌≤◌, List, [], ◌∷◌, ◌++◌, length, Some}
+use Rattle.disk_trait.specs.Disk.{State}
+use Rattle.gate_log.specs.Layout.{LogRecord, half_base, next_version, size_of_record}
 use Rattle.lisp_object.specs.declared.refusal.TheConstants.{DEVICE, LOG_FULL, OUTPUT, NO_MEMORY}
 use Rattle.plist_state.specs.State.{WorldState}
 use Rattle.world_text.specs.Snapshot.{snapshot}
@@ -33,16 +34,19 @@ pub record CountsLoggedForm (pace later : Pace) : Type 0 where
   pub fewer : 1 < pace.left → later.left + 1 ≡ pace.left
   pub again : pace.left ≤ 1 → later.left ≡ pace.every
 
--- Of the half in use: its generation, how many records it holds, and how many bytes it takes and took before its first record.
+-- Whether the writes of the disk mix; and of the half in use its version, its generation, how many records it holds, and how many bytes it
+-- takes and took before its first record.
 pub record Fill : Type 0 where
+  pub mixes : Bool
+  pub version : ℕ
   pub generation : ℕ
   pub record_count : ℕ
   pub size : ℕ
   pub first_size : ℕ
 
--- what a store tells of its half in use
-abbrev pub fill_of : {D R : Type 0} → StoreView D R → Fill
-fill_of store = record { generation = store.generation; record_count = store.record_count; size = store.size; first_size = store.first_size }
+-- what a store tells of its half in use, and its disk of its writes
+abbrev pub fill_of : {D R : Type 0} → (D → State) → StoreView D R → Fill
+fill_of state store = record { mixes = (state store.disk).mixes; version = store.version; generation = store.generation; record_count = store.record_count; size = store.size; first_size = store.first_size }
 
 -- the half has at least 1 MiB, and so many times the bytes that it had before its first record; never, if that is 0 times
 abbrev pub HasHalfGrown : ℕ → (size first_size : ℕ) → Type 0
@@ -58,35 +62,45 @@ IsDue pace fill = IsDueByCount pace ⊎ HasHalfGrown pace.ratio fill.size fill.f
 
 -- what the half in use has with one record more
 abbrev pub fill_with_record : LogRecord → Fill → Fill
-fill_with_record entry fill = record { generation = fill.generation; record_count = fill.record_count + 1; size = fill.size + (6 + length entry.text); first_size = fill.first_size }
+fill_with_record entry fill = record fill { record_count = fill.record_count + 1; size = fill.size + size_of_record fill.version (length entry.text) }
 
--- what the half in use has after a snapshot: the next generation, the text of this world, and no record
+-- how many bytes a half takes that is begun after this one with the text of this world
+abbrev pub size_of_new_half : WorldState → Fill → ℕ
+size_of_new_half world fill = half_base (next_version fill.mixes fill.version) (length (snapshot world))
+
+-- what the half in use has after a snapshot: the version of a half that is begun after this one, the next generation, the text of this world,
+-- and no record
 abbrev pub fill_of_new_half : WorldState → Fill → Fill
-fill_of_new_half world fill = record { generation = fill.generation + 1; record_count = 0; size = 16 + length (snapshot world); first_size = 16 + length (snapshot world) }
+fill_of_new_half world fill =
+    record { mixes = fill.mixes; version = next_version fill.mixes fill.version; generation = fill.generation + 1; record_count = 0; size = size_of_new_half world fill; first_size = size_of_new_half world fill }
 
--- The form that this text begins with is accepted in this world, and a half of this size would pass its limit by its record.
-pub record IsOverIn (functions : Functions) (limit size : ℕ) (world : WorldState) (mode : Mode) (text : List ℕ) : Type 0 where
+-- there is no half for a snapshot of this world after this one
+abbrev pub HasNoNewHalf : ℕ → Fill → WorldState → Type 0
+HasNoNewHalf limit fill world = IsTooLargeFor (next_version fill.mixes fill.version) limit fill.generation world
+
+-- The form that this text begins with is accepted in this world, and a half with this in it would pass the limit by its record.
+pub record IsOverIn (functions : Functions) (limit : ℕ) (fill : Fill) (world : WorldState) (mode : Mode) (text : List ℕ) : Type 0 where
   pub next : Progress
   pub next_is : one_form functions world mode text (read_in functions world mode text) ≡ Some next
   pub record_ : LogRecord
   pub is_taken : next.taken ≡ record_ ∷ []
-  pub over : limit < size + (6 + length record_.text)
+  pub over : limit < fill.size + size_of_record fill.version (length record_.text)
 
 -- ---- one form that was logged
 
 -- A form with this record was logged in this world. If the half had no room for it, a snapshot was taken first.
 pub record LogsWithRoom (limit : ℕ) (world : WorldState) (entry : LogRecord) (fill now : Fill) : Type 0 where
   pub room : Fill
-  pub made : (room ≡ fill) ⊎ ((limit < fill.size + (6 + length entry.text)) × (room ≡ fill_of_new_half world fill))
-  pub fits : room.size + (6 + length entry.text) ≤ limit
+  pub made : (room ≡ fill) ⊎ ((limit < fill.size + size_of_record fill.version (length entry.text)) × (room ≡ fill_of_new_half world fill))
+  pub fits : room.size + size_of_record room.version (length entry.text) ≤ limit
   pub now_is : now ≡ fill_with_record entry room
 
 -- What follows it, in the world that it left: a snapshot if one is due and there is a half for it, and else nothing.
 abbrev pub IsFillAfterForm : ℕ → Pace → WorldState → Fill → Fill → Type 0
 IsFillAfterForm limit pace world fill now =
     ((IsDue pace fill → ⊥) × (now ≡ fill))
-    ⊎ ((IsDue pace fill × IsTooLargeFor limit fill.generation world × (now ≡ fill))
-    ⊎ (IsDue pace fill × (IsTooLargeFor limit fill.generation world → ⊥) × (now ≡ fill_of_new_half world fill)))
+    ⊎ ((IsDue pace fill × HasNoNewHalf limit fill world × (now ≡ fill))
+    ⊎ (IsDue pace fill × (HasNoNewHalf limit fill world → ⊥) × (now ≡ fill_of_new_half world fill)))
 
 module _ (functions : Functions) (limit : ℕ) where
   -- a form with this record, and what follows it: it was taken in this world, and left the other
@@ -128,7 +142,7 @@ module _ (functions : Functions) (limit : ℕ) where
       pub later : Pace
       pub before : Fill
       pub paced : PacesForms world far.taken pace later fill before
-      pub next : IsOverIn functions limit before.size far.world mode far.rest
+      pub next : IsOverIn functions limit before far.world mode far.rest
       pub begun : now ≡ fill_of_new_half far.world before
 
     module _ (mode : Mode) (forms : ℕ) (far : Progress) (lines : ℕ) (answered : Progress) (now : Fill) where
@@ -136,7 +150,7 @@ module _ (functions : Functions) (limit : ℕ) where
       pub record EndsAfterAll (number : ℕ) : Type 0 where
         pub paced : IsFillAfterForms far.taken now
         pub other : number ≢ LOG_FULL
-        pub fault : number ≡ DEVICE → IsOverIn functions limit now.size far.world mode far.rest
+        pub fault : number ≡ DEVICE → IsOverIn functions limit now far.world mode far.rest
 
       -- the session ended in the answer to the last of them, or in the snapshot that is due after it
       pub record EndsInLast (number : ℕ) : Type 0 where

@@ -6,11 +6,10 @@
 --
 -- There `lines` is how many forms were answered, and `lines` of a `Progress` their bytes; `taken` are the records of the forms that wrote.
 use Rattle.std.specs.Prelude.{◌≡◌, ◌≢◌, ◌⊎◌, ℕ, zero, suc, ◌+◌, ◌-◌, ◌<◌, ◌≤◌, ◌==◌, if◌then◌else◌, max, List, [], ◌∷◌, ◌++◌, length, take, drop, Option, Some, Result, Ok, Err, Bool, true, false}
-use Rattle.std.specs.List.{sum_by}
 use Rattle.disk_trait.specs.Disk.{State, IsHonest}
 use Rattle.disk_trait.specs.Half.{opposite_of}
 use Rattle.disk_trait.specs.declared.half.Half.{Half}
-use Rattle.gate_log.specs.Layout.{Contents, LogRecord, with_records, written_version}
+use Rattle.gate_log.specs.Layout.{Contents, LogRecord, batch_size, half_base, next_version, with_records}
 use Rattle.lisp_object.specs.declared.refusal.TheConstants.{DEVICE, LOG_FULL, REOPEN, SNAPSHOT_TOO_LARGE, INPUT, OUTPUT, NO_MEMORY}
 use Rattle.session_words.specs.declared.mode.Mode.{Mode}
 use Rattle.sessions.specs.declared.ending.Ended.{Ended}
@@ -35,18 +34,15 @@ use Rattle.plist_state.specs.State.{WorldState}
 use Rattle.world_text.specs.Snapshot.{snapshot}
 use Rattle.user_macros.specs.Functions.{Functions}
 
--- the bytes that these records take in a half
-abbrev pub room_of : List LogRecord → ℕ
-room_of = sum_by (λ entry. 6 + length entry.text)
-
 -- the half in use after so many snapshots
 abbrev pub half_after : ℕ → Half → Half
 half_after zero half = half
 half_after (suc snapshots) half = opposite_of (half_after snapshots half)
 
--- what a half holds that was begun with the text of a world, so many generations after these contents, and these records after it
-abbrev pub contents_after : Contents → ℕ → WorldState → List LogRecord → Contents
-contents_after k snapshots first entries = record { version = written_version; generation = k.generation + snapshots; snapshot = snapshot first; entries = entries }
+-- what a half holds that was begun with the text of a world, on a disk that mixes or does not, so many generations after these contents, and
+-- these records after it
+abbrev pub contents_after : (mixes : Bool) → Contents → ℕ → WorldState → List LogRecord → Contents
+contents_after mixes k snapshots first entries = record { version = next_version mixes k.version; generation = k.generation + snapshots; snapshot = snapshot first; entries = entries }
 
 module _ {D R : Type 0} (state : D → State) (old new : StoreView D R) where
   -- No snapshot was taken: the half that was in use has these records more.
@@ -55,7 +51,7 @@ module _ {D R : Type 0} (state : D → State) (old new : StoreView D R) where
     pub version : new.version ≡ old.version
     pub generation : new.generation ≡ old.generation
     pub record_count : new.record_count ≡ old.record_count + length taken
-    pub size : new.size ≡ old.size + room_of taken
+    pub size : new.size ≡ old.size + batch_size old.version taken
     pub first_size : new.first_size ≡ old.first_size
     -- each record had room
     pub fits : new.size ≤ max old.size old.limit
@@ -77,15 +73,15 @@ module _ {D R : Type 0} (state : D → State) (old new : StoreView D R) where
     pub first : WorldState
     pub first_is : after functions world earlier ≡ Some first
     pub half : new.half ≡ half_after snapshots old.half
-    pub version : new.version ≡ written_version
+    pub version : new.version ≡ next_version (state old.disk).mixes old.version
     pub generation : new.generation ≡ old.generation + snapshots
     pub record_count : new.record_count ≡ length later
-    pub size : new.size ≡ 16 + length (snapshot first) + room_of later
-    pub first_size : new.first_size ≡ 16 + length (snapshot first)
+    pub size : new.size ≡ half_base new.version (length (snapshot first)) + batch_size new.version later
+    pub first_size : new.first_size ≡ half_base new.version (length (snapshot first))
     -- the text and each record had room
     pub fits : new.size ≤ old.limit
     pub described : (k : Contents) → IsHonest (state old.disk) → Describes old k (state old.disk).reads
-        → Describes new (contents_after k snapshots first later) (state new.disk).reads
+        → Describes new (contents_after (state old.disk).mixes k snapshots first later) (state new.disk).reads
 
 module _ (functions : Functions) {D R : Type 0} (state : D → State) (old new : StoreView D R) (world : WorldState) where
   -- The device has not failed: the world and the log are those after these forms, on an honest disk in the files too.
@@ -96,11 +92,12 @@ module _ (functions : Functions) {D R : Type 0} (state : D → State) (old new :
     pub limit : new.limit ≡ old.limit
     pub macros : new.macros ≡ old.macros
     pub failures : (state new.disk).failures ≡ (state old.disk).failures
+    pub mixes : (state new.disk).mixes ≡ (state old.disk).mixes
     pub log : IsHalfExtended state old new far.taken ⊎ IsHalfRenewed state old new functions world far.taken
 
 -- the half would pass its limit by the record of the form that this text begins with
-abbrev pub IsOver : Functions → {D R : Type 0} → StoreView D R → WorldState → Mode → List ℕ → Type 0
-IsOver functions store world mode text = IsOverIn functions store.limit store.size world mode text
+abbrev pub IsOver : Functions → {D R : Type 0} → (D → State) → StoreView D R → WorldState → Mode → List ℕ → Type 0
+IsOver functions state store world mode text = IsOverIn functions store.limit (fill_of state store) world mode text
 
 module _ (functions : Functions) {D R : Type 0} (state : D → State) (old new : StoreView D R) where
   module _ (world : WorldState) (mode : Mode) (text : List ℕ) (held written : Option (List ℕ)) where
@@ -142,7 +139,7 @@ module _ (functions : Functions) {D R : Type 0} (state : D → State) (old new :
         pub some : 0 < length entries
         pub one_open : group ≡ false → (forms ≡ lines + 1) × (length entries ≡ 1)
         pub were_accepted : far.taken ≡ answered.taken ++ entries
-        pub fits : mid.size + room_of entries ≤ mid.limit
+        pub fits : mid.size + batch_size mid.version entries ≤ mid.limit
         pub failed : DeviceFails state mid new (opposite_of mid.half)
         -- a crash at any moment since leaves all of them, or none
         pub all_or_none : AllOrNone functions state mid new answered.world entries
@@ -155,7 +152,7 @@ module _ (functions : Functions) {D R : Type 0} (state : D → State) (old new :
         -- the store as the snapshot was begun
         pub mid : StoreView D R
         pub before : IsAfter functions state old mid world far
-        pub fits : IsTooLarge mid far.world → ⊥
+        pub fits : IsTooLarge (state mid.disk).mixes mid far.world → ⊥
         pub failed : DeviceFails state mid new mid.half
 
       -- The next form is accepted in that world, and has no room; nor has it in a half that holds nothing but the text of it,
@@ -164,10 +161,10 @@ module _ (functions : Functions) {D R : Type 0} (state : D → State) (old new :
         pub full : number ≡ LOG_FULL
         pub all : lines ≡ forms
         pub no_part : part ≡ []
-        pub next : IsOver functions new far.world mode far.rest
+        pub next : IsOver functions state new far.world mode far.rest
         pub renewed : IsHalfRenewed state old new functions world far.taken
         pub none_since : renewed.later ≡ []
-        pub only_text : new.size ≡ 16 + length (snapshot far.world)
+        pub only_text : new.size ≡ half_base new.version (length (snapshot far.world))
         pub after : IsAfter functions state old new world far
 
       -- the next form is accepted in that world, and has no room, and there is no half for a snapshot of it
@@ -175,8 +172,8 @@ module _ (functions : Functions) {D R : Type 0} (state : D → State) (old new :
         pub large : number ≡ SNAPSHOT_TOO_LARGE
         pub all : lines ≡ forms
         pub no_part : part ≡ []
-        pub next : IsOver functions new far.world mode far.rest
-        pub why : IsTooLarge new far.world
+        pub next : IsOver functions state new far.world mode far.rest
+        pub why : IsTooLarge (state new.disk).mixes new far.world
         pub after : IsAfter functions state old new world far
 
       -- a read failed
@@ -232,7 +229,7 @@ module _ (functions : Functions) {D R : Type 0} (state : D → State) (old new :
       pub survives : SurvivesAs functions state old new world far.taken (length answered.taken)
       pub ends : Ends forms far lines answered part group ending
 
--- The same forms come first in each text that goes on.
+-- These first forms of a text come first in each text that goes on from it too, and come to this there.
 abbrev pub StaysAnswered : Functions → WorldState → Mode → (text : List ℕ) (forms : ℕ) (far : Progress) → Type 0
 StaysAnswered functions world mode text forms far =
     (more : List ℕ) → after_forms functions forms world mode (text ++ more) ≡ Some (record far { rest = far.rest ++ more })
@@ -267,7 +264,7 @@ HasRead functions state old new world mode text held written (Store number) serv
 abbrev pub ServesInPace : (functions : Functions) {D R : Type 0} {group : Bool} (state : D → State) (pace : Pace) (old new : StoreView D R) (world : WorldState) (mode : Mode) (text : List ℕ)
     (held written : Option (List ℕ)) (ending : Ending) → Serves functions state old new world mode text held written group ending → Type 0
 ServesInPace functions state pace old new world mode text held written ending served =
-    EndsInPace functions old.limit world pace (fill_of old) mode served.forms served.far served.lines served.answered (fill_of new) ending
+    EndsInPace functions old.limit world pace (fill_of state old) mode served.forms served.far served.lines served.answered (fill_of state new) ending
 
 -- A session over what a reader gives, with snapshots at this pace, with groups or without: what the reader had is what was read and what
 -- is left.
@@ -319,7 +316,7 @@ module _ (functions : Functions) {D R : Type 0} (state : D → State) (old new :
     pub far : Progress
     pub advances : Advances functions state old new world mode text held written forms far
     pub later : Pace
-    pub paced : PacesForms functions old.limit world far.taken pace later (fill_of old) (fill_of new)
+    pub paced : PacesForms functions old.limit world far.taken pace later (fill_of state old) (fill_of state new)
     pub accepted : ℕ
     pub one_more : forms ≡ accepted + 1
     pub before : Progress

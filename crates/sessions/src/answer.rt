@@ -116,9 +116,11 @@ pub(crate) fn answer_read<D: Disk, R: MacroFunctions, W: Recipient<D, R>>(
 
     // What became of it, and what the recipient was handed.
     ensures answers { (w : WorldState) → store.old.world ≡ Some w → (text : List ℕ) (next : ℕ)
-        → (begins : BeginsWithForm R.Meaning.functions w wanted.mode text (object_of form.now.read.datum) form.now.own.items next)
+        → (begins : BeginsWithForm R.Meaning.functions w wanted.mode text
+        (object_of form.now.read.datum) form.now.own.items next)
         → begins.start ≡ form.now.start
-        → AnswersRead R.Meaning.functions D.state (course_of course.old) (course_of course.new) store.old store.new w wanted
+        → AnswersRead R.Meaning.functions D.state (course_of course.old)
+        (course_of course.new) store.old store.new w wanted
         text (W.contents writer.old) (W.contents writer.new) form.now.start form.now.next result }
     ensures hands { OnOk result
         (HandsOn R.Meaning.functions D.state (course_of course.old).forms (course_of course.new).forms
@@ -164,8 +166,10 @@ pub(crate) fn answer_form<D: Disk, R: MacroFunctions, W: Recipient<D, R>>(
     requires stands { StandsAtForm R.Meaning.functions D.state (W.account writer.old) store.old
         mode (object_of form.now.read.now.datum) form.now.own.now }
     ensures answers { (w : WorldState) → store.old.world ≡ Some w → (text : List ℕ) (next : ℕ)
-        → BeginsWithForm R.Meaning.functions w mode text (object_of form.now.read.now.datum) form.now.own.now next
-        → AnswersForm R.Meaning.functions D.state store.old store.new w mode (pace_of schedule.old) (pace_of schedule.new)
+        → BeginsWithForm R.Meaning.functions w mode text
+        (object_of form.now.read.now.datum) form.now.own.now next
+        → AnswersForm R.Meaning.functions D.state store.old store.new w mode
+        (pace_of schedule.old) (pace_of schedule.new)
         text (W.contents writer.old) (W.contents writer.new) result }
     ensures hands { OnOk result
         (HandsOn R.Meaning.functions D.state 0 1 (W.account writer.old) (W.account writer.new) store.new) }
@@ -196,7 +200,8 @@ fn fit_form<D: Disk, R: MacroFunctions, W: Recipient<D, R>>(
     requires stands { StandsAtForm R.Meaning.functions D.state (W.account writer.old) store.old
         mode (object_of form.now.read.now.datum) form.now.own.now }
     ensures fits { (w : WorldState) → store.old.world ≡ Some w → (text : List ℕ) (next : ℕ)
-        → BeginsWithForm R.Meaning.functions w mode text (object_of form.now.read.now.datum) form.now.own.now next
+        → BeginsWithForm R.Meaning.functions w mode text
+        (object_of form.now.read.now.datum) form.now.own.now next
         → FitsForm R.Meaning.functions D.state store.old store.new w mode
         text (W.contents writer.old) (W.contents writer.new) result }
     ensures is_open { OnOk result (IsSome store.new.world) }
@@ -237,7 +242,8 @@ fn try_form<D: Disk, R: MacroFunctions, W: Recipient<D, R>>(
 
     // What became of it: with 64 nothing was done.
     ensures tries { (w : WorldState) → store.old.world ≡ Some w → (text : List ℕ) (next : ℕ)
-        → BeginsWithForm R.Meaning.functions w mode text (object_of form.now.read.now.datum) form.now.own.now next
+        → BeginsWithForm R.Meaning.functions w mode text
+        (object_of form.now.read.now.datum) form.now.own.now next
         → TriesForm R.Meaning.functions D.state store.old store.new w mode
         text (W.contents writer.old) (W.contents writer.new) result }
     ensures unchanged { IfErr result (λ number. number ≡ LOG_FULL → store.new ≡ store.old) }

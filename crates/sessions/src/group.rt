@@ -56,7 +56,8 @@ pub(crate) fn answer_group<D: Disk, R: MacroFunctions, W: Recipient<D, R>>(
     // What became of it and of those after it, and what the recipient was handed.
     ensures answers { (world : WorldState) → store.old.world ≡ Some world
         → (text : List ℕ) → BeginsWhole R.Meaning.functions world wanted.mode text
-        (object_of first.now.read.datum) first.now.own.items first.now.next → drop first.now.next text ≡ rest.now
+        (object_of first.now.read.datum) first.now.own.items first.now.next
+        → drop first.now.next text ≡ rest.now
         → AnswersGroup R.Meaning.functions wanted D.state (course_of course.old) (course_of course.new)
         store.old store.new world text rest.now (W.contents writer.old) (W.contents writer.new) result }
     ensures left { result ≡ Left
@@ -82,15 +83,18 @@ pub(crate) fn answer_group<D: Disk, R: MacroFunctions, W: Recipient<D, R>>(
         return Grouped::Left;
     }
     let bytes = room_before_grown(store, course.schedule.ratio);
-    let limit = GroupLimit { forms, bytes };
-    let listening = writer.is_listening();
+    let limit = GroupLimit {
+        forms,
+        bytes,
+        version: store.version(),
+    };
     let turn = WholeForms {
         wanted,
         limit,
         first,
         rest,
     };
-    let made = match take_group(store, &turn, listening) {
+    let made = match take_group(store, &turn, writer.is_listening()) {
         Ok(made) => made,
         Err(cause) => {
             if matches!(cause, Unlogged::DeviceFault) {

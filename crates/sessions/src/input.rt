@@ -15,10 +15,10 @@ use session_words::Mode;
 use std::alloc::{AllocError, Global};
 use user_macros::MacroFunctions;
 
-mod found;
 mod plain;
+mod property_line;
 
-pub(crate) use found::FoundLine;
+pub(crate) use property_line::FoundLine;
 
 /// What was read and is not answered yet: a reader that was fed it, and the bytes since what the reader has open began.
 #[derive(Drop)]

@@ -4,7 +4,7 @@ ghost use Rattle.disk_trait.specs.Disk.{Image, IsHonest};
 ghost use Rattle.plist_state.specs.State.{WorldState};
 ghost use Rattle.prevalence_store.specs.calls.Store.{StoreView};
 ghost use Rattle.prevalence_store.specs.Theorem.{Reopens, Run};
-ghost use Rattle.sessions.specs.Account.{Account, AreStored, call_of, with_forms};
+ghost use Rattle.sessions.specs.Account.{Account, AreStored, call_of_stored, with_forms};
 ghost use Rattle.user_macros.specs.Functions.{Functions};
 
 use disk_trait::Disk;
@@ -19,7 +19,8 @@ pub fn what_is_answered_is_stored<D: Disk, R>()
         → (lines : List ℕ) (forms : ℕ)
         → IsHonest (D.state account.disk)
         → (stored : AreStored functions D.state account store lines forms)
-        → Run functions D.state account.disk (Some account.now) (call_of functions D.state account store lines forms stored ∷ [])
+        → Run functions D.state account.disk (Some account.now)
+        (call_of_stored functions D.state account store lines forms stored ∷ [])
         × ((with_forms forms store account).now ≡ stored.far.world) × IsHonest (D.state store.disk) }
     ensures opened { (functions : Functions) (account : Account D) (store : StoreView D R)
         → (lines : List ℕ) (forms : ℕ)

@@ -22,7 +22,7 @@
 //!
 //! - `serving`: the calls, which read pieces of the input, and look at each byte up to the first one that decides something
 //! - `input`: what a session has read and not answered yet; with `input/plain`, a form that stands whole and plain in a piece, and with
-//!   `input/found`, GET of a property there, which `found` answers from its text
+//!   `input/property_line`, the line of GET of a property there; `first_of_piece` answers what a piece begins with, by either
 //! - `answer`: the answer to a form, and to a refusal of the reader; `one_form`, that form as a turn
 //! - `gather`: forms that stand whole after one another, with their lines; `whole_forms`, these as a turn; `group`, the answers to them
 //! - `schedule`: when a session takes snapshots, and how; `course`: how far it has come; `ending`: how it ends, and where
@@ -39,7 +39,7 @@
 mod answer;
 mod course;
 mod ending;
-mod found;
+mod first_of_piece;
 mod gather;
 mod group;
 mod input;

@@ -127,7 +127,7 @@ pub fn write_zeros_ahead<D: Disk, R: MacroFunctions>(
 
 // Whether the half in use has grown so many times.
 fn has_grown<D: Disk, R: MacroFunctions>(store: &Store<D, R>, ratio: u64) -> bool
-    ensures { IsTrue result ↔ HasHalfGrown ratio (fill_of store.now).size (fill_of store.now).first_size }
+    ensures { IsTrue result ↔ HasHalfGrown ratio store.now.size store.now.first_size }
 {
     let size = store.size();
     match grown_size(ratio, store.first_size()) {
@@ -138,7 +138,7 @@ fn has_grown<D: Disk, R: MacroFunctions>(store: &Store<D, R>, ratio: u64) -> boo
 
 /// How many bytes of records may be logged together: those for which there is room, before the half has grown so many times.
 pub(crate) fn room_before_grown<D: Disk, R: MacroFunctions>(store: &Store<D, R>, ratio: u64) -> u64
-    ensures grown { IsBeforeGrown ratio (fill_of store.now) result }
+    ensures grown { IsBeforeGrown ratio (fill_of D.state store.now) result }
     ensures fits { result ≤ store.now.limit - store.now.size }
 {
     bytes_before_grown(ratio, store.size(), store.first_size()).min(store.room())
@@ -153,7 +153,8 @@ pub(crate) fn renew_after_form<D: Disk, R: MacroFunctions>(
 ) -> Option<u16>
     requires is_open { IsSome store.old.world }
     ensures renews { (w : WorldState) → store.old.world ≡ Some w
-        → RenewsAfterForm R.Meaning.functions D.state store.old store.new w wrote (pace_of schedule.old) (pace_of schedule.new) result }
+        → RenewsAfterForm R.Meaning.functions D.state store.old store.new w wrote (pace_of schedule.old)
+        (pace_of schedule.new) result }
     ensures honest { (D.state store.new.disk).honest ≡ (D.state store.old.disk).honest }
 {
     if !wrote {

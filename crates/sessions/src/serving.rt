@@ -16,7 +16,7 @@ ghost use Rattle.sessions.specs.steps.Standing.{AcknowledgesNone, HandsOn, Stand
 use crate::answer::{answer_fault, answer_read};
 use crate::course::Course;
 use crate::ending::{Ended, Ending};
-use crate::found::answer_first;
+use crate::first_of_piece::answer_first;
 use crate::group::{Grouped, answer_group};
 use crate::input::{Fed, FedPiece, Pending};
 use crate::open_world::open_world;
@@ -65,8 +65,10 @@ pub fn serve<D: Disk, R: MacroFunctions, I: Read, W: Recipient<D, R>>(
         → (result ≡ Ending.Store REOPEN) × (store.new ≡ store.old)
         × (reader.new ≡ reader.old) × (writer.new ≡ writer.old) }
     ensures serves { (world : WorldState) → store.old.world ≡ Some world
-        → ServesInput R.Meaning.functions D.state false (first_pace snapshot_every 0) store.old store.new world mode
-        (I.remaining reader.old) (I.remaining reader.new) (W.contents writer.old) (W.contents writer.new) result }
+        → ServesInput R.Meaning.functions D.state false
+        (first_pace snapshot_every 0) store.old store.new world mode
+        (I.remaining reader.old) (I.remaining reader.new) (W.contents writer.old)
+        (W.contents writer.new) result }
     ensures under_way { IsSome store.old.world → (kept : Account D) → W.account writer.new ≡ Some kept
         → AreUnderWay R.Meaning.functions D.state kept store.new }
     ensures first { W.first writer.new ≡ W.first writer.old }
@@ -88,9 +90,9 @@ pub fn serve<D: Disk, R: MacroFunctions, I: Read, W: Recipient<D, R>>(
     }
 }
 
-/// The same, as it is wanted: with the place of a refusal of the reader, counted in the input; and, if it is strict, the
-/// first form whose evaluation is refused ends the session once it is answered. What the session has read after that form is
-/// let go.
+/// Serves a session over what a reader gives, as it is wanted. A refusal of the reader is told with its place, counted in the input. If
+/// the session is strict, the first form whose evaluation is refused ends it once that form is answered; what was read after it is let
+/// go.
 ///
 /// If `snapshot_ratio` is not 0, a snapshot is due also after a form that was logged, once the half in use has at least 1 MiB, and so many
 /// times the bytes that it had before its first record. It changes nothing in the count of `snapshot_every`.
@@ -115,7 +117,8 @@ pub fn serve_wanted<D: Disk, R: MacroFunctions, I: Read, W: Recipient<D, R>>(
         × (reader.new ≡ reader.old) × (writer.new ≡ writer.old) }
     ensures serves { (world : WorldState) → store.old.world ≡ Some world
         → ServesWanted R.Meaning.functions D.state wanted store.old store.new world
-        (I.remaining reader.old) (I.remaining reader.new) (W.contents writer.old) (W.contents writer.new) result }
+        (I.remaining reader.old) (I.remaining reader.new) (W.contents writer.old)
+        (W.contents writer.new) result }
     ensures under_way { IsSome store.old.world → (kept : Account D) → W.account writer.new ≡ Some kept
         → AreUnderWay R.Meaning.functions D.state kept store.new }
     ensures first { W.first writer.new ≡ W.first writer.old }
@@ -167,7 +170,8 @@ fn answer_piece<D: Disk, R: MacroFunctions, W: Recipient<D, R>>(
     // What the piece comes to, and what the recipient was handed.
     ensures answers { (w : WorldState) → store.old.world ≡ Some w → (bytes : List ℕ)
         → IsPending R.Meaning.functions w wanted.mode pending.old bytes
-        → AnswersPiece R.Meaning.functions D.state wanted (course_of course.old) (course_of course.new) store.old store.new w wanted.mode
+        → AnswersPiece R.Meaning.functions D.state wanted (course_of course.old) (course_of course.new)
+        store.old store.new w wanted.mode
         (bytes ++ piece.now) (W.contents writer.old) (W.contents writer.new) pending.new result }
     ensures hands { result ≡ None
         → HandsOn R.Meaning.functions D.state (course_of course.old).forms (course_of course.new).forms
@@ -213,7 +217,8 @@ pub(crate) fn answer_next<D: Disk, R: MacroFunctions, W: Recipient<D, R>>(
     // What the piece comes to, and what the recipient was handed.
     ensures answers { (w : WorldState) → store.old.world ≡ Some w → (bytes : List ℕ)
         → IsPending R.Meaning.functions w wanted.mode pending.old bytes
-        → PieceComesTo R.Meaning.functions D.state wanted (course_of course.old) (course_of course.new) store.old store.new w wanted.mode
+        → PieceComesTo R.Meaning.functions D.state wanted (course_of course.old) (course_of course.new)
+        store.old store.new w wanted.mode
         (bytes ++ piece.now) (W.contents writer.old) (W.contents writer.new) pending.new piece.now result }
     ensures some { PassesBytes (fed pending.old.reader) (fed pending.new.reader)
         (length piece.now) result }

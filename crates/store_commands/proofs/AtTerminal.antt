@@ -6,7 +6,7 @@ use Rattle.lisp_object.specs.declared.refusal.TheConstants.{DEVICE, INPUT, NO_ME
 use Rattle.user_macros.specs.Functions.{Functions}
 use Rattle.sessions.specs.declared.ending.Ended.{Ended}
 use Rattle.session_words.specs.declared.wanted.SessionOptions.{SessionOptions}
-use Rattle.store_commands.specs.Commands.{IsEarlyFault, AreStreamsUntouched, Performs, PerformsAtTerminal, PerformsInTurn, TellsUnopened}
+use Rattle.store_commands.specs.Commands.{IsEarlyFault, AreStreamsUntouched, Performs, PerformsAtTerminal, PerformsInTurn, IsStatusOfUnopenedStore}
 use Rattle.store_commands.specs.SessionsInRow.{AreSessions}
 use Rattle.store_commands.specs.Status.{HasFaultNumber, IsFaultNumber, status_of_ended}
 use Rattle.store_commands.specs.EndLines.{IsToldOf}
@@ -79,7 +79,7 @@ module _ (functions : Functions) {I O : Type 0} (remaining : I → Option (List 
 module _ (functions : Functions) {D : Type 0} (state : D → State) (whole : Bool)
     {I O : Type 0} (remaining : I → Option (List ℕ)) (contents : O → Option (List ℕ)) (input left : I) (held written : O) (told : Remark) (folder : Text) where
   -- the store is not opened
-  pub row_unopened : (disk back : D) (wanted : SessionOptions) (status : Status) → (folder ≡ [] → ⊥) → TellsUnopened functions state disk back whole status
+  pub row_unopened : (disk back : D) (wanted : SessionOptions) (status : Status) → (folder ≡ [] → ⊥) → IsStatusOfUnopenedStore functions state disk back whole status
       → AreStreamsUntouched input left held written → PerformsInTurn functions remaining contents input left held written folder wanted status told
   row_unopened disk back wanted status named (number, is, unopened) same =
       subst (λ (s : Status). PerformsInTurn functions remaining contents input left held written folder wanted s told) (sym is)

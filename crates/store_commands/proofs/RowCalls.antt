@@ -11,7 +11,7 @@ use Rattle.session_ledger.specs.OutgoingLines.{WentOut, calls_in, handings_of}
 use Rattle.session_words.specs.declared.wanted.SessionOptions.{SessionOptions}
 use Rattle.store_commands.specs.SessionsInRow.{AreEarlierSessions, AreSessionsInTurn, calls_before, calls_in_turn}
 use Rattle.store_laws.specs.Batches.{AreTogether}
-use Rattle.store_laws.specs.SessionLines.{AreCalls, AreHanded, Handing, account_after, call_since, calls_of}
+use Rattle.store_laws.specs.SessionLines.{AreCalls, AreHanded, Handing, account_after, call_since, calls_of_handings}
 use Rattle.user_macros.specs.Functions.{Functions}
 
 -- ---- calls after calls
@@ -73,7 +73,7 @@ module _ (functions : Functions) (wanted : SessionOptions) {D R : Type 0} (state
     → Run functions state start (Some world) (earlier ++ later) → Headline functions state start world earlier later)
     (ends : (first : Account D) (handings : List (Handing D R)) (closed : StoreView D R) (handed : AreHanded functions state first handings)
     (since : AreUnderWay functions state (account_after first handings) closed) → IsHonest (state first.disk) → Keeps functions (state first.disk) first.now
-    → AreCalls functions state first (calls_of functions state first handings handed ++ call_since functions state (account_after first handings) closed since ∷ [])) where
+    → AreCalls functions state first (calls_of_handings functions state first handings handed ++ call_since functions state (account_after first handings) closed since ∷ [])) where
   -- one of them
   one_joins : (old new : StoreView D R) (world : WorldState) (had held written : Option (List ℕ))
       → (went : WentOut functions state (first_account world wanted.mode had old.disk) new held written) → IsHonest (state old.disk) → Keeps functions (state old.disk) world
@@ -82,7 +82,7 @@ module _ (functions : Functions) (wanted : SessionOptions) {D R : Type 0} (state
       let first = first_account world wanted.mode had old.disk in
       let handings = handings_of went.out.sent in
       let are = ends first handings new went.out.handed went.since honest keeps in
-      let calls = calls_of functions state first handings went.out.handed in
+      let calls = calls_of_handings functions state first handings went.out.handed in
       let last = call_since functions state (account_after first handings) new went.since in
       record { run = are.run; together = are.together; disk = last_disk calls last old.disk; world_is = last_world calls last (Some world) }
 

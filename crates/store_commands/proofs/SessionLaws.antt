@@ -375,6 +375,7 @@ fault_is opening.OutOfMemory = inr (inr refl)
 fault_is opening.DeviceFault = inl refl
 fault_is opening.Damaged = inr (inl (omega arith, omega arith))
 fault_is opening.UnknownVersion = inr (inl (omega arith, omega arith))
+fault_is opening.DoesNotMix = inr (inl (omega arith, omega arith))
 fault_is opening.TooLarge = inr (inl (omega arith, omega arith))
 fault_is opening.NotWhole = inr (inl (omega arith, omega arith))
 fault_is opening.UnknownFunction = inr (inl (omega arith, omega arith))

@@ -11,7 +11,7 @@ use Rattle.user_macros.specs.Functions.{Functions}
 use Rattle.sessions.specs.declared.ending.Ended.{Ended}
 use Rattle.sessions.specs.declared.ending.Ended.TheVariants.{End, Store, Unaccepted, Unreadable}
 use Rattle.session_words.specs.declared.wanted.SessionOptions.{SessionOptions}
-use Rattle.store_commands.specs.Commands.{IsCarriedOutOn, DoesOn, IsEarlyFault, AreStreamsUntouched, Performs, TaskBreaksOff, TaskReads, TaskWrites, TellsUnopened, is_opening_fault}
+use Rattle.store_commands.specs.Commands.{IsCarriedOutOn, DoesOn, IsEarlyFault, AreStreamsUntouched, Performs, TaskBreaksOff, TaskReads, TaskWrites, IsStatusOfUnopenedStore, is_opening_fault}
 use Rattle.store_commands.specs.Report.{IsExport, IsReport, IsSnapshot, IsUpgrade, half_line, position_line, version_line}
 use Rattle.prevalence_store.specs.calls.Open.{IsUnopened}
 use Rattle.prevalence_store.specs.calls.Store.{StoreView}
@@ -114,7 +114,7 @@ module _ (functions : Functions) {D R : Type 0} (state : D → State) (macros : 
 
   -- the store is not opened
   performs_unopened : (disk back : D) (folder : Text) (task : Task) (status : Status) → (folder ≡ [] → ⊥)
-      → TellsUnopened functions state disk back whole status → AreStreamsUntouched input left held written → PerformedHere folder task status
+      → IsStatusOfUnopenedStore functions state disk back whole status → AreStreamsUntouched input left held written → PerformedHere folder task status
   performs_unopened disk back folder task status named (number, is, unopened) same =
       subst (PerformedHere folder task) (sym is) (untouched functions remaining contents input left held written told folder task number same (number_of_opening number unopened.fault unopened.number_is)
       (λ none. absurd (named none)))

@@ -1,7 +1,8 @@
 -- From an upgrade, and from an export, to what the commands promise.
-use Rattle.std.proofs.Common.{◌≡◌, ℕ, true, List, [], Option, Some, refl, sym, ap, subst, ◌∙◌, inl, inr, append-nil}
-use Rattle.std.proofs.lemmas.Bool.{cases_eq}
+use Rattle.std.proofs.Common.{◌≡◌, ◌≢◌, ℕ, Bool, true, false, List, [], Option, Some, refl, sym, ap, subst, ◌∙◌, inl, inr, append-nil}
+use Rattle.std.proofs.lemmas.Bool.{cases_eq, ne_eqb}
 use Rattle.disk_trait.specs.Disk.{State}
+use Rattle.gate_log.specs.Layout.{next_version}
 use Rattle.plist_state.specs.State.{WorldState}
 use Rattle.prevalence_store.specs.calls.Snapshot.{Snapshots}
 use Rattle.prevalence_store.specs.calls.Store.{StoreView}
@@ -23,13 +24,24 @@ use Rattle.command_words.specs.declared.words.Task.TheVariants.{Export, Upgrade}
 use Rattle.store_commands.proofs.Reports.{text_fault, text_front, text_of_no_opening, text_taken}
 use Rattle.store_commands.proofs.Snapshots.{no_value, refused_fault, refused_opening}
 
+-- the version of the next half, in the order in which that is found
+pub next_after_3 : (mixes : Bool) (version : ℕ) → version ≡ 3 → version ≡ next_version mixes version
+next_after_3 true version is = is
+next_after_3 false version is = rw is refl
+
+pub next_on_mixing : (mixes : Bool) (version : ℕ) → mixes ≡ true → next_version mixes version ≡ 3
+next_on_mixing mixes version is = rw is refl
+
+pub next_else : (mixes : Bool) (version : ℕ) → mixes ≡ false → version ≢ 3 → next_version mixes version ≡ 2
+next_else mixes version is other = rw (is, ne_eqb version 3 other) refl
+
 module _ (functions : Functions) {D R : Type 0} (state : D → State) (old new : StoreView D R) (world : WorldState) where
   -- what became of a snapshot that was taken, or not
   either : (outcome : Outcome) (P : Type 0) → Upgrades functions state old new world outcome
       → (Snapshots functions state old new world outcome → P) → (outcome ≡ Snapshotted → P) → P
-  either outcome P upgrades taken none = elim (cases_eq old.version 1) [
-    | inl first ↦ taken (upgrades.first first)
-    | inr later ↦ none (upgrades.later later).1
+  either outcome P upgrades taken none = elim (cases_eq old.version (next_version (state old.disk).mixes old.version)) [
+    | inl latest ↦ none (upgrades.latest latest).1
+    | inr earlier ↦ taken (upgrades.earlier earlier)
   ]
 
   pub upgrade_has_no_value : (outcome : Outcome) → Upgrades functions state old new world outcome → HasNoValue outcome

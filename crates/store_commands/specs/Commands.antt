@@ -78,8 +78,8 @@ module _ (functions : Functions) where
 
 -- The store that a disk holds was not opened, all macro functions registered or not, and the status tells why; the disk is left as
 -- the opening left it.
-abbrev pub TellsUnopened : Functions → {D : Type 0} → (D → State) → (disk back : D) → Bool → Status → Type 0
-TellsUnopened functions state disk back whole status =
+abbrev pub IsStatusOfUnopenedStore : Functions → {D : Type 0} → (D → State) → (disk back : D) → Bool → Status → Type 0
+IsStatusOfUnopenedStore functions state disk back whole status =
     (number : ℕ) × (status ≡ Fault number) × IsUnopened functions state disk whole half_limit number back
 
 -- What a task does with these macro functions, the input and the output. What a reader has left, and what a writer holds, is told
@@ -105,7 +105,7 @@ module _ (functions : Functions) {D R : Type 0} (state : D → State) (macros : 
   -- becomes the second.
   abbrev pub DoesOn : D → D → Task → Status → Remark → Type 0
   DoesOn disk back task status told =
-      IsCarriedOutOn disk back task status told ⊎ (TellsUnopened functions state disk back whole status × AreStreamsUntouched input left held written)
+      IsCarriedOutOn disk back task status told ⊎ (IsStatusOfUnopenedStore functions state disk back whole status × AreStreamsUntouched input left held written)
 
 module _ (functions : Functions) {I O : Type 0} (remaining : I → Option (List ℕ)) (contents : O → Option (List ℕ)) (input left : I) (held written : O) where
   -- A task, for the store in a folder, was done, whatever that holds: this is the status, and this is to be told.
@@ -155,7 +155,7 @@ module _ (functions : Functions) {D R : Type 0} (state : D → State) (macros : 
   SitsOn disk back wanted status told =
       ((ended : Ended) × (status ≡ status_of_ended ended) × IsToldOf ended told
       × AreSessions functions wanted state disk macros (remaining input) (remaining left) (contents held) (contents written) ended back)
-      ⊎ (TellsUnopened functions state disk back whole status × AreStreamsUntouched input left held written)
+      ⊎ (IsStatusOfUnopenedStore functions state disk back whole status × AreStreamsUntouched input left held written)
 
   -- sessions in a row went so over the disk that the opening gave; each other task is as anywhere
   abbrev pub SitsAfter : Task → Status → Remark → D → Type 0

@@ -3,6 +3,7 @@ use Rattle.std.specs.Prelude.{◌≡◌, ◌≢◌, ℕ, List, [], ◌∷◌, �
 use Rattle.disk_trait.specs.Disk.{State}
 use Rattle.disk_trait.specs.declared.half.Half.{Half}
 use Rattle.disk_trait.specs.declared.half.Half.TheVariants.{A, B}
+use Rattle.gate_log.specs.Layout.{next_version}
 use Rattle.plist_state.specs.State.{WorldState}
 use Rattle.world_text.specs.Snapshot.{snapshot}
 use Rattle.world_forms.specs.Forms.{forms}
@@ -89,10 +90,10 @@ TellsUpgrade (Accepted value) store status held written = ⊥
 TellsUpgrade Snapshotted store status held written = TellsText status held written (version_line store.version)
 TellsUpgrade (Refused number) store status held written = (status ≡ Fault number) × (written ≡ held)
 
--- A snapshot was taken where the half in use was of version 1, and nothing was done else.
+-- A snapshot was taken where the half that it begins has another version than the one that was in use, and nothing was done else.
 pub record Upgrades (functions : Functions) {D R : Type 0} (state : D → State) (old new : StoreView D R) (world : WorldState) (outcome : Outcome) : Type 0 where
-  pub first : old.version ≡ 1 → Snapshots functions state old new world outcome
-  pub later : old.version ≢ 1 → (new ≡ old) × (outcome ≡ Snapshotted)
+  pub earlier : old.version ≢ next_version (state old.disk).mixes old.version → Snapshots functions state old new world outcome
+  pub latest : old.version ≡ next_version (state old.disk).mixes old.version → (new ≡ old) × (outcome ≡ Snapshotted)
 
 -- The store that a disk holds was opened with these macro functions, it was upgraded, which was told, and it was closed: this is its
 -- disk.

@@ -29,7 +29,7 @@ status_of_ended (Unreadable number place) = FormRefused
 status_of_ended (Unaccepted number place) = FormRefused
 status_of_ended (Store number) = Fault number
 
--- the same, where the session was strict or not, and it is known or not that nothing of a text was answered
+-- The status after a session, by how it ended, where it was strict or not, and it is known or not that nothing of a text was answered.
 abbrev pub status_after : (strict unanswered : Bool) → Ended → Status
 status_after strict unanswered End = if strict && unanswered then Unanswered else Done
 status_after strict unanswered (Unreadable number place) = FormRefused

@@ -6,7 +6,7 @@ ghost use Rattle.plist_state.specs.State.{WorldState};
 ghost use Rattle.sessions.specs.Account.{Account, AreUnderWay, first_account};
 ghost use Rattle.prevalence_store.specs.calls.Store.{StoreView};
 ghost use Rattle.sessions.specs.declared.ending.Ended.{Ended};
-ghost use Rattle.session_ledger.specs.OutgoingLines.{calls_in, disk_at};
+ghost use Rattle.session_ledger.specs.OutgoingLines.{calls_in, disk_after_lines};
 ghost use Rattle.session_words.specs.declared.mode.Mode.{Mode};
 ghost use Rattle.session_words.specs.declared.wanted.SessionOptions.{SessionOptions};
 ghost use Rattle.store_commands.specs.Accounts.{AccountGoesOn};
@@ -54,7 +54,7 @@ pub fn what_a_session_wrote_is_there<D: Disk, R>()
         → IsHonest (D.state disk)
         → (session : IsSession functions wanted D.state disk macros had has held written ended back)
         → (k : ℕ) → k ≤ length session.went.out.sent → (image : Image)
-        → (D.state back).left_since (D.state (disk_at
+        → (D.state back).left_since (D.state (disk_after_lines
         (first_account session.is_opened.world wanted.mode had session.opened.disk) session.went.out.sent k)).moment image
         → MeansCalls functions session.is_opened.world (calls_in functions D.state
         (first_account session.is_opened.world wanted.mode had session.opened.disk) session.closed session.went) k image }

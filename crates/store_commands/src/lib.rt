@@ -4,7 +4,7 @@
 //! - `program` does what the words of the command line ask for, and answers a `Status` (module `status`), with what is told on standard
 //!   error as it ends (`told`); `program_at_terminal` the same at a terminal,
 //!   where `run` is sessions in a row (modules `commands` and `on_disk`).
-//! - `serve_on` serves forms over any disk, `snapshot_on` takes a snapshot, `upgrade_on` takes one of files of version 1, `export_on`
+//! - `serve_on` serves forms over any disk, `snapshot_on` takes a snapshot, `upgrade_on` takes one where the next half has another version, `export_on`
 //!   writes the forms that make the world, and `report_on` writes what is told of a store (modules `session`, `snapshot`, `upgrade`,
 //!   `export` and `report`). What the store is opened with is handed to them as an `Opening` (module `opening`).
 //! - What goes out of a session goes through a ledger (session_ledger), so it is known that it is stored by then:

@@ -1,4 +1,4 @@
-// Files of version 1 become files of version 2.
+// Files become those of the version that the next half has.
 ghost use Rattle.std.specs.Prelude.{◌≡◌, ◌<◌, ◌-◌, ◌^◌, Some, IfOk, IfErr};
 ghost use Rattle.plist_state.specs.State.{WorldState};
 ghost use Rattle.prevalence_store.specs.calls.Open.{IsUnopened};
@@ -18,8 +18,8 @@ use std::fmt::Write as WriteText;
 use std::io::Write;
 use user_macros::MacroFunctions;
 
-/// Takes a snapshot of the store that a disk holds if its half in use is of version 1, and writes the line on the version. Answers
-/// how that ended. The disk is given back as the store left it, and the macro functions.
+/// Takes a snapshot of the store that a disk holds if the half that it begins has another version than the one in use, and writes the
+/// line on the version: from version 1 to 2, or, on a disk that mixes, from 1 or 2 to 3. Answers how that ended. The disk is given back as the store left it, and the macro functions.
 ///
 /// # Errors
 ///
@@ -49,16 +49,23 @@ where
     Ok((status, disk, macros))
 }
 
-// Takes a snapshot if the half in use is of version 1.
+// Takes a snapshot if the next half has another version: on a disk that mixes it has version 3, after version 3 too, and else version 2.
 fn upgraded<D: Disk, M: MacroFunctions>(store: &mut Store<D, M>) -> Outcome
     ensures upgrades { (world : WorldState) → store.old.world ≡ Some world
         → Upgrades M.Meaning.functions D.state store.old store.new world result }
     ensures macros { store.new.macros ≡ store.old.macros }
 {
-    if store.version() == 1 {
-        store.snapshot()
-    } else {
+    let version = store.version();
+    if version == 3 {
+        return Outcome::Snapshotted;
+    }
+    if store.disk().mixes() {
+        return store.snapshot();
+    }
+    if version == 2 {
         Outcome::Snapshotted
+    } else {
+        store.snapshot()
     }
 }
 

@@ -7,7 +7,7 @@ use Rattle.plist_state.specs.State.{WorldState}
 use Rattle.prevalence_store.specs.meaning.Acceptance.{Acceptance, accepts, after, mode_of}
 use Rattle.prevalence_store.specs.calls.Open.{IsNoWord, IsUnopened, limit_of}
 use Rattle.prevalence_store.specs.Theorem.{Call, IsAfterSome, Keeps, KeepsSome, MeansSome, Reopens, Survives}
-use Rattle.store_laws.specs.Histories.{Event, StillStands, disk_by, last_disk, last_left, world_left_by, opened, refused, called, stopped, stopped_in_call, stopped_in_opening, FollowsFromEvents, EventsHappened, EventHappens, IsCall, IsOpenedOrNot, IsStop, StandsAfterEvents}
+use Rattle.store_laws.specs.Histories.{Event, StillStands, disk_by, last_disk, last_left, world_left_by, opened, refused, called, stopped, stopped_in_call, stopped_in_opening, FollowsFromEvents, EventsHappened, EventHappens, IsCallOfStore, IsOpenedOrNot, IsStop, StandsAfterEvents}
 use Rattle.user_macros.specs.Functions.{Functions}
 
 module _ (functions : Functions) where
@@ -46,7 +46,7 @@ module _ (functions : Functions) where
 
   -- at any moment of a call of the open store
   pub in_call : {D : Type 0} (state : D → State) (first : WorldState) (line : List LogRecord) (sure : ℕ) (disk : D) (left : Option WorldState) (call : Call D)
-      → StandsAfterEvents functions state first line sure disk left → IsCall functions state disk left call
+      → StandsAfterEvents functions state first line sure disk left → IsCallOfStore functions state disk left call
       → (image : Image) → (state call.disk).left_since (state disk).moment image → MeansSome functions first (line ++ call.taken) (length line) image
   in_call state first line sure disk None call stands is image might = absurd is
   in_call state first line sure disk (Some world) call stands is image might =
@@ -74,7 +74,7 @@ module _ (functions : Functions) where
       → Reopens functions (state start) (state now) world → IsAfterSome functions first line sure world)
       (refuses : (start back : D) (whole : Bool) (line : List LogRecord) (sure limit number : ℕ) → IsHonest (state start) → KeepsSome functions (state start) first line sure
       → (unopened : IsUnopened functions state start whole limit number back)
-      → IsHonest (state back) × KeepsSome functions (state back) first line sure × IsNoWord (limit_of limit) (state start).reads unopened.fault) where
+      → IsHonest (state back) × KeepsSome functions (state back) first line sure × IsNoWord (state start).mixes (limit_of limit) (state start).reads unopened.fault) where
     -- ---- one event
 
     none_open : (line : List LogRecord) (disk : D) (world : WorldState) → ◌≡◌ {A = Option WorldState} None (Some world)
@@ -95,12 +95,12 @@ module _ (functions : Functions) where
         }
 
     -- the world of the store that is called
-    caller : (disk : D) (left : Option WorldState) (call : Call D) → IsCall functions state disk left call
+    caller : (disk : D) (left : Option WorldState) (call : Call D) → IsCallOfStore functions state disk left call
         → (world : WorldState) × (left ≡ Some world) × Survives functions (state disk) (state call.disk) world call.taken call.acknowledged call.left
     caller disk None call is = absurd is
     caller disk (Some world) call is = (world, refl, is)
 
-    stands_called : (line : List LogRecord) (sure : ℕ) (disk : D) (left : Option WorldState) (call : Call D) → StandsAfterEvents functions state first line sure disk left → IsCall functions state disk left call
+    stands_called : (line : List LogRecord) (sure : ℕ) (disk : D) (left : Option WorldState) (call : Call D) → StandsAfterEvents functions state first line sure disk left → IsCallOfStore functions state disk left call
         → StandsAfterEvents functions state first (line ++ call.taken) (length line + call.acknowledged) call.disk call.left
     stands_called line sure disk left call stands is =
         let from = caller disk left call is in
@@ -119,7 +119,7 @@ module _ (functions : Functions) where
     }
 
     stands_stopped_in_call : (line : List LogRecord) (sure : ℕ) (disk : D) (left : Option WorldState) (call : Call D) (now : D) → StandsAfterEvents functions state first line sure disk left
-        → IsCall functions state disk left call → IsStop state disk call.disk now → StandsAfterEvents functions state first (line ++ call.taken) (length line) now None
+        → IsCallOfStore functions state disk left call → IsStop state disk call.disk now → StandsAfterEvents functions state first (line ++ call.taken) (length line) now None
     stands_stopped_in_call line sure disk left call now stands is stop = record {
       honest = stop.honest;
       keeps = λ image may. in_call state first line sure disk left call stands is image (stop.between image may);
@@ -168,7 +168,7 @@ module _ (functions : Functions) where
           no_less = omega arith;
           same = refl;
           stands = record { honest = after_it.0; keeps = after_it.1; whole = none_open line back };
-          follows = λ events rest. (subst (λ f. IsNoWord (limit_of limit) (state disk).reads f) refusal.fault_is after_it.2, rest);
+          follows = λ events rest. (subst (λ f. IsNoWord (state disk).mixes (limit_of limit) (state disk).reads f) refusal.fault_is after_it.2, rest);
         }
     step (called call) line sure disk left stands is =
         let le = within line sure disk left stands in record {

@@ -24,7 +24,7 @@ module _ (functions : Functions) {D R : Type 0} (state : D → State) (old new :
 
   -- the store knows nothing of the text that is left
   after_longer : (far : Progress) (more : List ℕ) → IsAfter functions state old new w far → IsAfter functions state old new w (record far { rest = far.rest ++ more })
-  after_longer far more is = record { left = is.left; records = is.records; limit = is.limit; macros = is.macros; failures = is.failures; log = is.log }
+  after_longer far more is = record { left = is.left; records = is.records; limit = is.limit; macros = is.macros; failures = is.failures; mixes = is.mixes; log = is.log }
 
   module _ (mode : Mode) (held written : Option (List ℕ)) where
     abbrev CompletesOver : List ℕ → Ended → Type 0
@@ -67,7 +67,7 @@ module _ (functions : Functions) {D R : Type 0} (state : D → State) (old new :
             ends = subst (λ r. IsEndBy r (Unreadable number place)) (sym is) refl;
             output = subst (Writes held written)
                 (ap (λ (p : Progress). p.lines ++ served.part) same ∙ ap (λ l. far.lines ++ l) (served.ends.line ∙ ap last_line (sym is))) served.output;
-            after = record { left = after_it.left; records = after_it.records; limit = after_it.limit; macros = after_it.macros; failures = after_it.failures; log = after_it.log };
+            after = record { left = after_it.left; records = after_it.records; limit = after_it.limit; macros = after_it.macros; failures = after_it.failures; mixes = after_it.mixes; log = after_it.log };
           },
         )
 

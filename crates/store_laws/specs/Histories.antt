@@ -53,9 +53,9 @@ pub record IsStop {D : Type 0} (state : D → State) (start now after : D) : Typ
 
 module _ (functions : Functions) {D : Type 0} (state : D → State) where
   -- A call on this disk, of the store that has this world. There is none where no store is open.
-  abbrev pub IsCall : D → Option WorldState → Call D → Type 0
-  IsCall disk None call = ⊥
-  IsCall disk (Some world) call = Survives functions (state disk) (state call.disk) world call.taken call.acknowledged call.left
+  abbrev pub IsCallOfStore : D → Option WorldState → Call D → Type 0
+  IsCallOfStore disk None call = ⊥
+  IsCallOfStore disk (Some world) call = Survives functions (state disk) (state call.disk) world call.taken call.acknowledged call.left
 
   -- an opening of this disk gave the other one, with this world
   pub record IsOpening (disk now : D) (world : WorldState) : Type 0 where
@@ -77,9 +77,9 @@ module _ (functions : Functions) {D : Type 0} (state : D → State) where
   abbrev pub EventHappens : D → Option WorldState → Event D → Type 0
   EventHappens disk left (opened now world) = IsOpening disk now world
   EventHappens disk left (refused limit fault back) = IsRefusal disk limit fault back
-  EventHappens disk left (called call) = IsCall disk left call
+  EventHappens disk left (called call) = IsCallOfStore disk left call
   EventHappens disk left (stopped now) = IsStop state disk disk now
-  EventHappens disk left (stopped_in_call call now) = IsCall disk left call × IsStop state disk call.disk now
+  EventHappens disk left (stopped_in_call call now) = IsCallOfStore disk left call × IsStop state disk call.disk now
   EventHappens disk left (stopped_in_opening there now) = IsOpenedOrNot disk there × IsStop state disk there now
 
   -- each of these happened where the one before it ended
@@ -107,7 +107,7 @@ module _ (functions : Functions) {D : Type 0} (state : D → State) (first : Wor
   FollowsFromEvents line sure disk left (opened now world ∷ events) =
       (found : IsAfterSome functions first line sure world) × FollowsFromEvents (take found.count line) found.count now (Some world) events
   FollowsFromEvents line sure disk left (refused limit fault back ∷ events) =
-      IsNoWord (limit_of limit) (state disk).reads fault × FollowsFromEvents line sure back None events
+      IsNoWord (state disk).mixes (limit_of limit) (state disk).reads fault × FollowsFromEvents line sure back None events
   FollowsFromEvents line sure disk left (called call ∷ events) =
       FollowsFromEvents (line ++ call.taken) (length line + call.acknowledged) call.disk call.left events
   FollowsFromEvents line sure disk left (stopped now ∷ events) = FollowsFromEvents line sure now None events

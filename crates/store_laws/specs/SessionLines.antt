@@ -2,7 +2,7 @@
 use Rattle.std.specs.Prelude.{◌≡◌, ℕ, List, [], ◌∷◌, ◌++◌, map, Some}
 use Rattle.disk_trait.specs.Disk.{State}
 use Rattle.prevalence_store.specs.Theorem.{Call, Headline, Run}
-use Rattle.sessions.specs.Account.{Account, AreStored, AreUnderWay, call_of, with_forms}
+use Rattle.sessions.specs.Account.{Account, AreStored, AreUnderWay, call_of_stored, with_forms}
 use Rattle.prevalence_store.specs.calls.Store.{StoreView}
 use Rattle.store_laws.specs.Batches.{AreTogether, InWholeCalls}
 use Rattle.store_laws.specs.Histories.{EventsHappened, called}
@@ -26,10 +26,10 @@ module _ (functions : Functions) {D R : Type 0} (state : D → State) where
   AreHanded account (one ∷ more) = AreStored functions state account one.store one.lines one.forms × AreHanded (with_forms one.forms one.store account) more
 
   -- the times that lines were handed on, each as a call of the store
-  abbrev pub calls_of : (account : Account D) (handings : List (Handing D R)) → AreHanded account handings → List (Call D)
-  calls_of account [] handed = []
-  calls_of account (one ∷ more) handed =
-      call_of functions state account one.store one.lines one.forms handed.0 ∷ calls_of (with_forms one.forms one.store account) more handed.1
+  abbrev pub calls_of_handings : (account : Account D) (handings : List (Handing D R)) → AreHanded account handings → List (Call D)
+  calls_of_handings account [] handed = []
+  calls_of_handings account (one ∷ more) handed =
+      call_of_stored functions state account one.store one.lines one.forms handed.0 ∷ calls_of_handings (with_forms one.forms one.store account) more handed.1
 
   -- what was done since lines were last handed on, as a call that has acknowledged nothing
   abbrev pub call_since : (account : Account D) (store : StoreView D R) → AreUnderWay functions state account store → Call D

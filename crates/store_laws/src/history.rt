@@ -4,7 +4,7 @@ ghost use Rattle.disk_trait.specs.Disk.{Image, IsFresh, IsHonest};
 ghost use Rattle.gate_log.specs.Layout.{LogRecord};
 ghost use Rattle.plist_state.specs.State.{WorldState, initial};
 ghost use Rattle.prevalence_store.specs.Theorem.{Call, Keeps, MeansSome};
-ghost use Rattle.store_laws.specs.Histories.{Event, FollowsFromEvents, EventsHappened, IsCall, IsOpenedOrNot, StandsAfterEvents, StillStands, last_disk, last_left};
+ghost use Rattle.store_laws.specs.Histories.{Event, FollowsFromEvents, EventsHappened, IsCallOfStore, IsOpenedOrNot, StandsAfterEvents, StillStands, last_disk, last_left};
 ghost use Rattle.user_macros.specs.Functions.{Functions};
 
 use disk_trait::Disk;
@@ -36,12 +36,14 @@ pub fn histories<D: Disk>()
         × StillStands functions D.state first line sure (last_disk disk events) (last_left left events) }
     ensures in_call { (functions : Functions) (first : WorldState) (line : List LogRecord) (sure : ℕ)
         → (disk : D) (left : Option WorldState) (call : Call D)
-        → StandsAfterEvents functions D.state first line sure disk left → IsCall functions D.state disk left call
+        → StandsAfterEvents functions D.state first line sure disk left
+        → IsCallOfStore functions D.state disk left call
         → (image : Image) → (D.state call.disk).left_since (D.state disk).moment image
         → MeansSome functions first (line ++ call.taken) (length line) image }
     ensures in_opening { (functions : Functions) (first : WorldState) (line : List LogRecord) (sure : ℕ)
         → (disk there : D) (left : Option WorldState)
-        → StandsAfterEvents functions D.state first line sure disk left → IsOpenedOrNot functions D.state disk there
+        → StandsAfterEvents functions D.state first line sure disk left
+        → IsOpenedOrNot functions D.state disk there
         → (image : Image) → (D.state there).left_since (D.state disk).moment image
         → MeansSome functions first line sure image }
 {

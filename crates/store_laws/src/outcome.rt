@@ -48,14 +48,18 @@ pub fn one_outcome<D: Disk, E: Disk, R, S>()
         → other.mode ≡ wanted.mode
         → ServesWanted functions D.state wanted old new world (Some input) has held written ended
         → IsByInput ended
-        → ServesWanted functions E.state other before after world (Some input) others_has others_held others_written ending
+        → ServesWanted functions E.state other before after world (Some input) others_has
+        others_held others_written ending
         → IsByInput ending
         → (forms : ℕ) × (far : Progress)
         × Completes functions D.state old new world wanted.mode input held written ended forms far
-        × Completes functions E.state before after world wanted.mode input others_held others_written ending forms far }
+        × Completes functions E.state before after world wanted.mode input others_held
+        others_written ending forms far }
     ensures stopped { (functions : Functions) (wanted : SessionOptions) (old new : StoreView D R)
-        → (world : WorldState) (input : List ℕ) (has held written : Option (List ℕ)) (number : ℕ) (place : Place)
-        → ServesWanted functions D.state wanted old new world (Some input) has held written (Ended.Unaccepted number place)
+        → (world : WorldState) (input : List ℕ)
+        (has held written : Option (List ℕ)) (number : ℕ) (place : Place)
+        → ServesWanted functions D.state wanted old new world (Some input) has held written
+        (Ended.Unaccepted number place)
         → (forms : ℕ) × (far : Progress)
         × StopsAtRefusal functions D.state old new world wanted.mode input held written forms far }
     ensures both_stopped { (functions : Functions) (wanted other : SessionOptions)
@@ -63,17 +67,21 @@ pub fn one_outcome<D: Disk, E: Disk, R, S>()
         → (input : List ℕ) (has held written : Option (List ℕ)) (number : ℕ) (place : Place)
         → (others_has others_held others_written : Option (List ℕ)) (code : ℕ) (others_place : Place)
         → other.mode ≡ wanted.mode
-        → ServesWanted functions D.state wanted old new world (Some input) has held written (Ended.Unaccepted number place)
-        → ServesWanted functions E.state other before after world (Some input) others_has others_held others_written
+        → ServesWanted functions D.state wanted old new world (Some input) has held written
+        (Ended.Unaccepted number place)
+        → ServesWanted functions E.state other before after world (Some input)
+        others_has others_held others_written
         (Ended.Unaccepted code others_place)
         → (forms : ℕ) × (far : Progress)
         × StopsAtRefusal functions D.state old new world wanted.mode input held written forms far
-        × StopsAtRefusal functions E.state before after world wanted.mode input others_held others_written forms far }
+        × StopsAtRefusal functions E.state before after world wanted.mode input
+        others_held others_written forms far }
     ensures front { (functions : Functions) (wanted : SessionOptions) (old new : StoreView D R)
         → (world : WorldState) (input : List ℕ) (has held written : Option (List ℕ)) (number : ℕ)
         → (forms : ℕ) (far : Progress)
         → HasForms functions world wanted.mode input forms far
-        → ServesWanted functions D.state wanted old new world (Some input) has held written (Ended.Store number)
+        → ServesWanted functions D.state wanted old new world (Some input) has
+        held written (Ended.Store number)
         → BreaksOff functions D.state old new world wanted.mode input held written far forms }
 {
     forms_are_framed();
@@ -86,25 +94,31 @@ pub fn groups_change_nothing<D: Disk, E: Disk, R, S>()
         → (old new : StoreView D R) (before after : StoreView E S) (world : WorldState)
         → (input : List ℕ) (has held written : Option (List ℕ)) (number : ℕ) (place : Place)
         → (others_has others_held others_written : Option (List ℕ)) (code : ℕ) (others_place : Place)
-        → ServesWanted functions D.state (record wanted { group = true }) old new world (Some input) has held written
+        → ServesWanted functions D.state (record wanted { group = true }) old new
+        world (Some input) has held written
         (Ended.Unaccepted number place)
-        → ServesWanted functions E.state (record wanted { group = false }) before after world (Some input) others_has others_held
+        → ServesWanted functions E.state (record wanted { group = false }) before after world
+        (Some input) others_has others_held
         others_written (Ended.Unaccepted code others_place)
         → (forms : ℕ) × (far : Progress)
         × StopsAtRefusal functions D.state old new world wanted.mode input held written forms far
-        × StopsAtRefusal functions E.state before after world wanted.mode input others_held others_written forms far }
+        × StopsAtRefusal functions E.state before after world wanted.mode input
+        others_held others_written forms far }
     ensures completed { (functions : Functions) (wanted : SessionOptions)
         → (old new : StoreView D R) (before after : StoreView E S) (world : WorldState)
         → (input : List ℕ) (has held written : Option (List ℕ)) (ended : Ended)
         → (others_has others_held others_written : Option (List ℕ)) (ending : Ended)
-        → ServesWanted functions D.state (record wanted { group = true }) old new world (Some input) has held written ended
+        → ServesWanted functions D.state (record wanted { group = true }) old new world
+        (Some input) has held written ended
         → IsByInput ended
-        → ServesWanted functions E.state (record wanted { group = false }) before after world (Some input) others_has others_held
+        → ServesWanted functions E.state (record wanted { group = false }) before after world
+        (Some input) others_has others_held
         others_written ending
         → IsByInput ending
         → (forms : ℕ) × (far : Progress)
         × Completes functions D.state old new world wanted.mode input held written ended forms far
-        × Completes functions E.state before after world wanted.mode input others_held others_written ending forms far }
+        × Completes functions E.state before after world wanted.mode input others_held
+        others_written ending forms far }
 {
     one_outcome::<D, E, R, S>();
 }

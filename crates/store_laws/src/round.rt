@@ -26,15 +26,20 @@ pub fn rounds<D: Disk, R>()
         (steps : List (Step D R))
         → old.world ≡ Some world → IsHonest (D.state old.disk) → Keeps functions (D.state old.disk) world
         → AreRoundSteps functions D.state old (place_at last world) steps
-        → HasComeToPlace functions D.state (store_after old steps) (after_rounds functions (place_at last world) (rounds_of steps)) }
+        → HasComeToPlace functions D.state (store_after old steps)
+        (after_rounds functions (place_at last world) (rounds_of steps)) }
     ensures any_moment { (functions : Functions) (old : StoreView D R) (world now : WorldState) (last : ℕ)
         (steps : List (Step D R)) (step : Step D R) (image : Image)
         → old.world ≡ Some world → IsHonest (D.state old.disk) → Keeps functions (D.state old.disk) world
         → AreRoundSteps functions D.state old (place_at last world) steps
-        → IsRoundStep functions D.state (store_after old steps) (after_rounds functions (place_at last world) (rounds_of steps)) step
-        → (D.state (store_by step).disk).left_since (D.state (store_after old steps).disk).moment image → MeansWorld functions image now
+        → IsRoundStep functions D.state (store_after old steps)
+        (after_rounds functions (place_at last world) (rounds_of steps)) step
+        → (D.state (store_by step).disk).left_since (D.state (store_after old steps).disk).moment image
+        → MeansWorld functions image now
         → IsWorldAtPlace (after_rounds functions (place_at last world) (rounds_of steps)) now
-        ⊎ IsWorldAtPlace (after_rounds functions (place_at last world) (rounds_of steps ++ begun_in step)) now }
+        ⊎ IsWorldAtPlace (after_rounds functions (place_at last world) (rounds_of steps ++ begun_in step))
+        now }
     ensures none_over { (functions : Functions) (first : Place) (rounds : List (List Request)) (number : ℕ)
-        → HasWritten functions first rounds number → IsUpToPosition (after_rounds functions first rounds).position number }
+        → HasWritten functions first rounds number
+        → IsUpToPosition (after_rounds functions first rounds).position number }
 {}

@@ -4,7 +4,7 @@ ghost use Rattle.disk_trait.specs.Disk.{IsHonest};
 ghost use Rattle.prevalence_store.specs.Theorem.{Keeps};
 ghost use Rattle.sessions.specs.Account.{Account, AreStored, AreUnderWay, with_forms};
 ghost use Rattle.prevalence_store.specs.calls.Store.{StoreView};
-ghost use Rattle.store_laws.specs.SessionLines.{AreCalls, AreHanded, Handing, account_after, call_since, calls_of};
+ghost use Rattle.store_laws.specs.SessionLines.{AreCalls, AreHanded, Handing, account_after, call_since, calls_of_handings};
 ghost use Rattle.user_macros.specs.Functions.{Functions};
 
 use crate::batch::batches;
@@ -26,17 +26,18 @@ pub fn sessions<D: Disk, R>()
         → AreHanded functions D.state account handings
         → AreStored functions D.state (account_after account handings) last.store last.lines last.forms
         → AreHanded functions D.state account (handings ++ last ∷ [])
-        × (account_after account (handings ++ last ∷ []) ≡ with_forms last.forms last.store (account_after account handings)) }
+        × (account_after account (handings ++ last ∷ [])
+        ≡ with_forms last.forms last.store (account_after account handings)) }
     ensures handed { (functions : Functions) (account : Account D) (handings : List (Handing D R))
         → (handed : AreHanded functions D.state account handings)
         → IsHonest (D.state account.disk) → Keeps functions (D.state account.disk) account.now
-        → AreCalls functions D.state account (calls_of functions D.state account handings handed) }
+        → AreCalls functions D.state account (calls_of_handings functions D.state account handings handed) }
     ensures ended { (functions : Functions) (account : Account D) (handings : List (Handing D R))
         (store : StoreView D R)
         → (handed : AreHanded functions D.state account handings)
         → (since : AreUnderWay functions D.state (account_after account handings) store)
         → IsHonest (D.state account.disk) → Keeps functions (D.state account.disk) account.now
-        → AreCalls functions D.state account (calls_of functions D.state account handings handed
+        → AreCalls functions D.state account (calls_of_handings functions D.state account handings handed
         ++ call_since functions D.state (account_after account handings) store since ∷ []) }
 {
     headline::<D>();

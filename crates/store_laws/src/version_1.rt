@@ -22,7 +22,7 @@ pub fn version_1_opens<D: Disk, R>()
         (world : WorldState)
         → IsHonest (D.state disk) → MeansWorld1 functions (D.state disk).reads world
         → (refused : IsUnopened functions D.state disk whole limit number back)
-        → IsNoWord (limit_of limit) (D.state disk).reads refused.fault }
+        → IsNoWord (D.state disk).mixes (limit_of limit) (D.state disk).reads refused.fault }
 {
     version_1_stays();
 }

@@ -16,7 +16,7 @@ use Rattle.prevalence_store.specs.calls.Store.{StoreView}
 use Rattle.store_commands.specs.Session.{half_limit}
 use Rattle.store_commands.specs.Status.{IsOfWords}
 use Rattle.store_commands.specs.declared.status.Status.{Status}
-use Rattle.store_looks.specs.CheckReports.{Checks, EndsCheck, FindsIn, IsCheckText, IsTextOf, IsWorldOfFolder, TellsForms}
+use Rattle.store_looks.specs.CheckReports.{Checks, EndsCheck, FindsIn, IsCheckText, IsTextOf, IsWorldCheckedUnder, TellsCheckedText}
 use Rattle.store_looks.specs.LookReports.{HasWorldThat, notation_of}
 use Rattle.store_looks.specs.FailedLooks.{status_of}
 use Rattle.store_looks.proofs.Looking.{at_world}
@@ -28,9 +28,9 @@ use Rattle.user_macros.specs.Functions.{Functions}
 module _ (functions registered : Functions) {R : Type 0} (macros : R) (input held written : Option (List ℕ)) where
   -- what was found was told
   pub forms_told : (asked : Check) (text seen : List ℕ) (world : WorldState) (found : Checking) (lines told : List ℕ) (all : Bool) (status : Status) → seen ≡ text → told ≡ lines
-      → IsTextOf (text_of asked.file) input text → IsWorldOfFolder functions macros (text_of asked.store) world → FindsIn registered world seen found → (notation : Notation)
+      → IsTextOf (text_of asked.file) input text → IsWorldCheckedUnder functions macros (text_of asked.store) world → FindsIn registered world seen found → (notation : Notation)
       → notation ≡ notation_of asked.json → IsCheckText notation found lines
-      → all ≡ (length found.1 == 0) → EndsCheck all held written told status → TellsForms functions registered macros input held written asked status
+      → all ≡ (length found.1 == 0) → EndsCheck all held written told status → TellsCheckedText functions registered macros input held written asked status
   forms_told asked text seen world found lines told all status seen_is told_is text_is world_is finds notation asked_so lines_are all_is ends = record {
     text = text;
     text_is = text_is;
@@ -48,7 +48,7 @@ module _ (functions registered : Functions) {R : Type 0} (macros : R) (input hel
     unfolding Checks
     check_of_words status of_words = inl of_words
 
-    pub check_told : (asked : Check) → AsksToCheck words asked → (ended status : Status) → status ≡ ended → TellsForms functions registered macros input held written asked ended
+    pub check_told : (asked : Check) → AsksToCheck words asked → (ended status : Status) → status ≡ ended → TellsCheckedText functions registered macros input held written asked ended
         → Checks functions registered macros input held written words status
     unfolding Checks
     check_told asked asks ended status is tells = inr (asked, asks, (Ok ended, is, tells))

@@ -4,7 +4,7 @@ use Rattle.std.specs.List.{flat_map}
 use Rattle.std.proofs.lemmas.List.{flat_map_more, take_more}
 use Rattle.diagnostics.specs.declared.refusal.Refusal.{Refusal}
 use Rattle.form_check.specs.declared.checking.Unreadable.{Unreadable}
-use Rattle.store_looks.specs.CheckReports.{AreRefusalsOf, IsCheckText, IsRefusalOfUnreadable, counts_text, unreadable_text}
+use Rattle.store_looks.specs.CheckReports.{AreRefusalsOf, IsCheckText, IsRefusalOfUnreadable, form_counts_text, unreadable_text}
 use Rattle.store_reports.specs.declared.numbers.Notation.{Notation}
 
 -- none so far
@@ -34,11 +34,11 @@ told_more notation unreadable i one default refusal t u v within is told so wrot
 
 -- all of them, and how many they are
 pub whole_text : (notation : Notation) (forms : ℕ) (unreadable seen : List Unreadable) (none lines all : List ℕ) (count : ℕ) → none ≡ [] → seen ≡ unreadable → count ≡ length unreadable
-    → ((refusals : List Refusal) × AreRefusalsOf seen refusals × (lines ≡ none ++ flat_map (unreadable_text notation) refusals)) → all ≡ lines ++ counts_text notation forms count
+    → ((refusals : List Refusal) × AreRefusalsOf seen refusals × (lines ≡ none ++ flat_map (unreadable_text notation) refusals)) → all ≡ lines ++ form_counts_text notation forms count
     → IsCheckText notation (forms, unreadable) all
 whole_text notation forms unreadable seen none lines all count nothing same counted told ends = record {
   refusals = told.0;
   are = subst (λ (us : List Unreadable). AreRefusalsOf us told.0) same told.1;
-  is = ends ∙ ap (λ (n : ℕ). lines ++ counts_text notation forms n) counted
-      ∙ ap (λ (l : List ℕ). l ++ counts_text notation forms (length unreadable)) (told.2 ∙ ap (λ (l : List ℕ). l ++ flat_map (unreadable_text notation) told.0) nothing);
+  is = ends ∙ ap (λ (n : ℕ). lines ++ form_counts_text notation forms n) counted
+      ∙ ap (λ (l : List ℕ). l ++ form_counts_text notation forms (length unreadable)) (told.2 ∙ ap (λ (l : List ℕ). l ++ flat_map (unreadable_text notation) told.0) nothing);
 }

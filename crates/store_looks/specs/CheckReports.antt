@@ -75,15 +75,15 @@ counts_object forms unreadable =
     123 ∷ [] ++ number_member (codes "forms") forms ++ later_member (codes "unreadable") unreadable ++ 125 ∷ 10 ∷ []
 
 -- how many forms there are, in this notation
-abbrev pub counts_text : Notation → (forms unreadable : ℕ) → List ℕ
-counts_text Lines forms unreadable = checked_counts_line forms unreadable
-counts_text Json forms unreadable = counts_object forms unreadable
+abbrev pub form_counts_text : Notation → (forms unreadable : ℕ) → List ℕ
+form_counts_text Lines forms unreadable = checked_counts_line forms unreadable
+form_counts_text Json forms unreadable = counts_object forms unreadable
 
 -- what `check` writes of what it found
 pub record IsCheckText (notation : Notation) (found : Checking) (text : List ℕ) : Type 0 where
   pub refusals : List Refusal
   pub are : AreRefusalsOf found.1 refusals
-  pub is : text ≡ flat_map (unreadable_text notation) refusals ++ counts_text notation found.0 (length found.1)
+  pub is : text ≡ flat_map (unreadable_text notation) refusals ++ form_counts_text notation found.0 (length found.1)
 
 -- it was written, and the status says whether all forms can be read; or a part of it, and the output failed
 unfoldable pub EndsCheck : Bool → Option (List ℕ) → Option (List ℕ) → List ℕ → Status → Type 0
@@ -104,9 +104,9 @@ FindsIn functions world text found =
     (λ table. found ≡ check_of_text (setting_under table world.read_base world.packages world.current_package functions) text)
 
 -- that of a new store, or that which a store in a folder had
-unfoldable pub IsWorldOfFolder : Functions → {R : Type 0} → R → Option Text → WorldState → Type 0
-IsWorldOfFolder functions macros None world = world ≡ initial
-IsWorldOfFolder functions macros (Some folder) world = (sight : Sight) × HasWorldThat functions macros (λ had. world ≡ had) sight
+unfoldable pub IsWorldCheckedUnder : Functions → {R : Type 0} → R → Option Text → WorldState → Type 0
+IsWorldCheckedUnder functions macros None world = world ≡ initial
+IsWorldCheckedUnder functions macros (Some folder) world = (sight : Sight) × HasWorldThat functions macros (λ had. world ≡ had) sight
 
 -- of a file the text that it gave, and else that of the input
 unfoldable pub IsTextOf : Option Text → Option (List ℕ) → List ℕ → Type 0
@@ -115,11 +115,11 @@ IsTextOf (Some file) input text = Unit {0}
 
 module _ (functions registered : Functions) {R : Type 0} (macros : R) (input held written : Option (List ℕ)) where
   -- the text of the file was looked through, and this is told of it
-  pub record TellsForms (asked : Check) (status : Status) : Type 0 where
+  pub record TellsCheckedText (asked : Check) (status : Status) : Type 0 where
     pub text : List ℕ
     pub text_is : IsTextOf (text_of asked.file) input text
     pub world : WorldState
-    pub world_is : IsWorldOfFolder functions macros (text_of asked.store) world
+    pub world_is : IsWorldCheckedUnder functions macros (text_of asked.store) world
     pub found : Checking
     pub finds : FindsIn registered world text found
     pub told : List ℕ
@@ -132,4 +132,4 @@ module _ (functions registered : Functions) {R : Type 0} (macros : R) (input hel
       IsOfWords status
       ⊎ ((asked : Check) × AsksToCheck words asked
       × ((ended : Result Status Unlooked) × (status ≡ status_in ended)
-      × MatchResult ended (TellsForms asked) (λ why. written ≡ held)))
+      × MatchResult ended (TellsCheckedText asked) (λ why. written ≡ held)))

@@ -29,6 +29,7 @@ of_log telling.OutOfMemory = Fault NO_MEMORY
 of_log telling.DeviceFault = Fault DEVICE
 of_log telling.Damaged = Fault DAMAGED
 of_log telling.UnknownVersion = Fault VERSION
+of_log telling.DoesNotMix = Fault VERSION
 of_log (telling.PastTheEnd records) = NoPlace (telling.PastTheEnd records)
 of_log (telling.OtherGeneration generation) = NoPlace (telling.OtherGeneration generation)
 

@@ -9,7 +9,7 @@ ghost use Rattle.world_text.specs.Snapshot.{snapshot};
 ghost use Rattle.store_commands.specs.Status.{IsQuiet};
 ghost use Rattle.store_commands.specs.EndLines.{TellsFault};
 ghost use Rattle.store_commands.specs.declared.told.Remark.{Remark};
-ghost use Rattle.store_looks.specs.CheckReports.{AreRefusalsOf, Checks, EndsCheck, FindsIn, IsCheckText, IsRefusalOfUnreadable, IsTextOf, IsWorldOfFolder, TellsForms, unreadable_text};
+ghost use Rattle.store_looks.specs.CheckReports.{AreRefusalsOf, Checks, EndsCheck, FindsIn, IsCheckText, IsRefusalOfUnreadable, IsTextOf, IsWorldCheckedUnder, TellsCheckedText, unreadable_text};
 ghost use Rattle.store_looks.specs.LookReports.{HasWorldThat};
 
 use crate::looks::{end_unlooked, notation_for, opened, sight_of};
@@ -92,7 +92,7 @@ where
     O: Write,
     requires answers { M.answers macros }
     ensures tells { IfOk result
-        (TellsForms M.Meaning.functions (M.functions macros) macros (I.remaining input.old)
+        (TellsCheckedText M.Meaning.functions (M.functions macros) macros (I.remaining input.old)
         (O.contents output.old) (O.contents output.new) asked.entry) }
     ensures refused { IfErr result (λ _. output.new ≡ output.old) }
 {
@@ -154,7 +154,7 @@ fn read_input<I: Read>(alloc: Global, input: &mut I) -> Result<Vec<u8>, Unlooked
 }
 
 // The world under which a text is read: that of the store in this folder, or of a new one. The macro functions are given back.
-#[tactic(auto, unfolding(crate::specs::CheckReports::IsWorldOfFolder))]
+#[tactic(auto, unfolding(crate::specs::CheckReports::IsWorldCheckedUnder))]
 fn world_of<R, M>(rt: &R, macros: M, store: Option<&str>) -> Result<(World, M), Unlooked>
 where
     R: Files<File = File> + Seeds + AllocGlobal,
@@ -162,7 +162,7 @@ where
     requires answers { M.answers macros }
     ensures macros { IfOk result (λ p. p.1 ≡ macros) }
     ensures world { IfOk result
-        (λ p. IsWorldOfFolder M.Meaning.functions macros (borrowed_text store.entry) p.0.0) }
+        (λ p. IsWorldCheckedUnder M.Meaning.functions macros (borrowed_text store.entry) p.0.0) }
 {
     let Ok(seed) = rt.seed() else {
         return Err(Unlooked::Fault(INPUT));

@@ -63,7 +63,7 @@ impl From<LogError> for Unlooked {
             LogError::OutOfMemory => Unlooked::Fault(NO_MEMORY),
             LogError::DeviceFault => Unlooked::Fault(DEVICE),
             LogError::Damaged => Unlooked::Fault(DAMAGED),
-            LogError::UnknownVersion => Unlooked::Fault(VERSION),
+            LogError::UnknownVersion | LogError::DoesNotMix => Unlooked::Fault(VERSION),
             error => Unlooked::NoPlace(error),
         }
     }

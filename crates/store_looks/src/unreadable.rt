@@ -2,7 +2,7 @@
 // Where memory runs out, a part of what is to be added may be there.
 ghost use Rattle.std.specs.Prelude.{◌≡◌, ◌++◌, codes, decimal, OnOk};
 ghost use Rattle.diagnostics.specs.Refusals.{form_of, line_of};
-ghost use Rattle.store_looks.specs.CheckReports.{checked_counts_line, counts_object, counts_text, later_member, refusal_object, place_members, unreadable_text};
+ghost use Rattle.store_looks.specs.CheckReports.{checked_counts_line, counts_object, form_counts_text, later_member, refusal_object, place_members, unreadable_text};
 
 use diagnostics::{Refusal, Spots, write_refusal};
 use lisp_object::refusal::name_of;
@@ -107,7 +107,7 @@ pub(crate) fn push_counts(
     forms: usize,
     unreadable: usize,
 ) -> Result<(), AllocError>
-    ensures { OnOk result (text.new.items ≡ text.old.items ++ counts_text notation forms unreadable) }
+    ensures { OnOk result (text.new.items ≡ text.old.items ++ form_counts_text notation forms unreadable) }
 {
     match notation {
         Notation::Lines => push_counts_line(alloc, text, forms, unreadable),

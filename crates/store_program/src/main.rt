@@ -4,13 +4,19 @@
 //! - `opening`: at a terminal, how much there is to open; `pages`: where prompts go, and what the pages say
 //! - `counted`: the refusals among answers, and how many answers there were; `reasons`: which refused forms standard error tells of;
 //!   `ends`: what it tells at the end
+//! - `given`: the words, and the stack; `syncing`: the files, of which is said what the words ask for
+//! - `kept`: what to do where the store is kept with one sync; `heads`: what the files of a store begin with
 #![tactic(auto)]
 
 mod counted;
 mod ends;
+mod given;
+mod heads;
+mod kept;
 mod opening;
 mod pages;
 mod reasons;
+mod syncing;
 
 ghost use Rattle.std.specs.Prelude.{◌≡◌, true, IfErr, is_ok};
 ghost use Rattle.user_macros.specs.Sound.{IsSoundCall};
@@ -18,10 +24,13 @@ ghost use Rattle.user_macros.specs.Functions.{are_registered};
 
 use crate::counted::Counted;
 use crate::ends::{tell_cause, tell_counts};
+use crate::given::{take_stack, words_given};
+use crate::kept::tell_way;
 use crate::opening::Telling;
 use crate::pages::Pages;
 use crate::reasons::{reasons_for, tell_unread};
-use command_words::{CommandWay, asks_for_quiet, way_of};
+use crate::syncing::Syncing;
+use command_words::{CommandWay, asks_for_quiet, syncs_asked, way_of};
 use lisp_object::refusal::NO_MEMORY;
 use message_command::run_messages;
 use program_streams::{
@@ -32,31 +41,17 @@ use readtable_core::FnName;
 use six_functions::{SixFunctions, macro_functions};
 use std::alloc::AllocError;
 use std::cell::Cell;
-use std::io::{ErrorKind, IsTerminal, Stderr, Stdin, Stdout, Write};
+use std::fs;
+use std::io::{IsTerminal, Stderr, Stdin, Stdout, Write};
 use std::path::Path;
 use std::process::ExitCode;
 use std::random::RandomSource;
-use std::{env, fs};
 use store_commands::{
     Answers, Folders, Heard, History, Lines, Looking, Piped, Reasons, RefusalTeller, SessionOutput,
     Status, Terminal, end_with, program, program_at_terminal,
 };
 use store_looks::{check, look};
 use user_macros::{Answer, Call, Cause, MacroFn, MacroFunctions, Macros, RegistryRefusal};
-
-/// How many bytes of the stack are taken at the start. The deepest form takes fewer.
-const STACK: usize = 524_288;
-
-// The words that the program was started with, or the status where they are not had: they are no text, or there is no memory.
-fn words_given(rt: &HostRuntime) -> Result<Vec<String>, Status> {
-    match env::args(rt) {
-        Ok(words) => words
-            .collect(rt.alloc())
-            .map_err(|_| Status::Fault(NO_MEMORY)),
-        Err(error) if error.kind() == ErrorKind::InvalidData => Err(Status::WordsRefused),
-        Err(_) => Err(Status::Fault(NO_MEMORY)),
-    }
-}
 
 // Does what the words ask for, with macro functions that are all registered.
 fn serve<M: MacroFunctions + Drop, F: Write>(rt: &HostRuntime, macros: M, faults: &mut F) -> Status
@@ -73,15 +68,6 @@ fn serve<M: MacroFunctions + Drop, F: Write>(rt: &HostRuntime, macros: M, faults
     }
 }
 
-// Writes to so much of the stack, which the process has from then on, and answers one of the bytes. Where memory has a limit, a growth of the
-// stack that finds none ends the process by a signal, and one of the heap is a refusal.
-#[inline(never)]
-fn take_stack(place: usize) -> u8 {
-    let mut room = [0u8; STACK];
-    room[place % STACK] = 1;
-    room[place / 2 % STACK]
-}
-
 // The same with these words.
 fn serve_words<M: MacroFunctions + Drop, F: Write>(
     rt: &HostRuntime,
@@ -95,7 +81,23 @@ fn serve_words<M: MacroFunctions + Drop, F: Write>(
     if take_stack(words.len()) > 1 {
         return end_with(faults, Status::Fault(NO_MEMORY));
     }
-    match way_of(words) {
+    let way = way_of(words);
+    let status = serve_in_way(rt, way, macros, words, faults);
+    tell_way(rt, faults, way, words, status);
+    status
+}
+
+// The same in this way.
+fn serve_in_way<M: MacroFunctions + Drop, F: Write>(
+    rt: &HostRuntime,
+    way: CommandWay,
+    macros: M,
+    words: &[String],
+    faults: &mut F,
+) -> Status
+    requires answers { M.answers macros }
+{
+    match way {
         way @ (CommandWay::Look | CommandWay::Check | CommandWay::See) => tell(
             rt, way, macros, words,
         ),
@@ -106,7 +108,7 @@ fn serve_words<M: MacroFunctions + Drop, F: Write>(
         ),
         CommandWay::Serve => serve_pipe(
             rt,
-            &Telling::new(rt, rt),
+            &Telling::new(rt, &Syncing::new(rt, syncs_asked(words))),
             macros,
             words,
             Uninterrupted::new(rt.stdout()),
@@ -127,7 +129,8 @@ fn serve_messages<M: MacroFunctions + Drop, F: Write>(
     let failure = Cell::new(None);
     let mut input = Uninterrupted::new(rt.stdin());
     let mut output = Pipe::new(Uninterrupted::new(rt.stdout()), &failure);
-    let folders = Telling::new(rt, rt);
+    let system = Syncing::new(rt, syncs_asked(words));
+    let folders = Telling::new(rt, &system);
     let status = run_messages(&folders, macros, words, &mut input, &mut output, faults);
     tell_cause(faults, status, failure.get());
     status
@@ -193,7 +196,8 @@ fn serve_quietly<M: MacroFunctions + Drop, F: Write>(
         return serve_quietly_at_terminal(rt, macros, words, faults);
     }
     let mut output = Refusals::new(rt.alloc(), Uninterrupted::new(rt.stdout()));
-    let folders = Telling::new(rt, rt);
+    let system = Syncing::new(rt, syncs_asked(words));
+    let folders = Telling::new(rt, &system);
     let status = serve_pipe(rt, &folders, macros, words, &mut output, rt.stderr());
     tell_counts(faults, status, output.counts());
     status
@@ -280,7 +284,8 @@ fn serve_at_terminal<M: MacroFunctions + Drop, F: Write>(
         output: Answers::new(Uninterrupted::new(rt.stdout()), &heard),
         teller: RefusalTeller::new(rt.alloc(), rt.stderr(), &history, Reasons::Few),
     };
-    let folders = Telling::new(rt, rt);
+    let system = Syncing::new(rt, syncs_asked(words));
+    let folders = Telling::new(rt, &system);
     program_at_terminal(&folders, macros, words, &mut input, &mut output, faults)
 }
 
@@ -325,7 +330,8 @@ fn serve_quietly_at_terminal<M: MacroFunctions + Drop, F: Write>(
         output: Answers::new(refusals, heard),
         teller: RefusalTeller::new(rt.alloc(), rt.stderr(), &history, Reasons::Few),
     };
-    let folders = Telling::new(rt, rt);
+    let system = Syncing::new(rt, syncs_asked(words));
+    let folders = Telling::new(rt, &system);
     let status = program_at_terminal(&folders, macros, words, &mut input, &mut output, faults);
     tell_cause(faults, status, failure.get());
     tell_counts(faults, status, counts.get());

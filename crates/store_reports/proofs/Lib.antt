@@ -1,3 +1,4 @@
 pub mod Added
 pub mod Joined
+pub mod Manners
 pub mod ShownTexts

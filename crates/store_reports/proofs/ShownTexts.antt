@@ -1,5 +1,5 @@
 -- From a text of what is asked for to what is promised of it.
-use Rattle.std.proofs.Common.{◌≡◌, ◌≢◌, ◌∙◌, ℕ, true, false, List, [], MatchResult, sym, subst, ap₂, arith}
+use Rattle.std.proofs.Common.{◌≡◌, ◌≢◌, ◌∙◌, ℕ, true, false, List, MatchResult, sym, subst, ap₂, arith}
 use Rattle.std.specs.Global.{Vec}
 use Rattle.std.specs.Prelude.{IfErr, IfOk, is_some, Result, Ok, Err}
 use Rattle.plist_state.specs.State.{WorldState}

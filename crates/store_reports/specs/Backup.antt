@@ -1,10 +1,10 @@
 -- What a backup does, and what it leaves.
-use Rattle.std.specs.Prelude.{◌≡◌, ◌≢◌, ◌⊎◌, ℕ, ◌+◌, ◌^◌, ◌<◌, min, List, [], length, Bool, Option, None, Some, Ok, Err}
+use Rattle.std.specs.Prelude.{◌≡◌, ◌≢◌, ◌⊎◌, Bool, ℕ, ◌^◌, ◌<◌, min, List, [], length, Option, None, Some, Ok, Err}
 use Rattle.disk_trait.specs.Disk.{IsDurable, IsHonest, State, Told}
 use Rattle.disk_trait.specs.declared.host.HostError.{HostError}
 use Rattle.disk_trait.specs.declared.host.IfMissing.TheVariants.{Make, Refuse}
 use Rattle.gate_log.specs.Failures.{is_open_fault, is_read_fault, is_start_fault}
-use Rattle.gate_log.specs.Layout.{Contents, written_version}
+use Rattle.gate_log.specs.Layout.{Contents, half_base, next_version}
 use Rattle.gate_log.specs.Log.{FilesMean, new_contents}
 use Rattle.gate_log.specs.Opening.{Refuses}
 use Rattle.gate_log.specs.Step.{WritesNothing}
@@ -23,20 +23,20 @@ use Rattle.store_reports.specs.declared.backups.BackupError.TheVariants as error
 
 -- ---- a log
 
--- the log holds the text of this world, and no record, and a crash leaves it so
-pub record HoldsWorld (world : WorldState) (disk : State) : Type 0 where
-  pub holds : FilesMean (Some (new_contents None (snapshot world))) disk.reads
+-- the log holds the text of this world, in the version that is begun on a disk that mixes or does not, and no record, and a crash leaves it so
+pub record HoldsWorld (mixes : Bool) (world : WorldState) (disk : State) : Type 0 where
+  pub holds : FilesMean (Some (new_contents mixes None (snapshot world))) disk.reads
   pub durable : IsDurable disk
 
--- a half is open, of the version that is written, and has no record
-abbrev pub HoldsNoRecord : Option Contents → Type 0
-HoldsNoRecord None = ⊥
-HoldsNoRecord (Some k) = (k.version ≡ written_version) × (k.entries ≡ [])
+-- a half is open, of this version, and has no record
+abbrev pub HoldsNoRecord : ℕ → Option Contents → Type 0
+HoldsNoRecord version None = ⊥
+HoldsNoRecord version (Some k) = (k.version ≡ version) × (k.entries ≡ [])
 
--- a half is open with this snapshot, in the version that is written, and has no record
-abbrev pub HoldsTextAlone : List ℕ → Option Contents → Type 0
-HoldsTextAlone text None = ⊥
-HoldsTextAlone text (Some k) = HoldsNoRecord (Some k) × (k.snapshot ≡ text)
+-- a half is open with this snapshot, of this version, and has no record
+abbrev pub HoldsTextAlone : ℕ → List ℕ → Option Contents → Type 0
+HoldsTextAlone version text None = ⊥
+HoldsTextAlone version text (Some k) = HoldsNoRecord version (Some k) × (k.snapshot ≡ text)
 
 -- the disk held a log already, and nothing was written
 pub record IsLogLeft (old new : State) : Type 0 where
@@ -60,12 +60,12 @@ pub record IsHalfUnread (number : ℕ) (old new : State) : Type 0 where
   pub told : Told (is_read_fault error) old new
   pub whole : IsHonest old → error ≢ reading.Damaged
 
--- its half was not started: the device failed, or the text is too long, or there was no memory
+-- its half was not started: the device failed, or the text is too long for a half that is begun on this disk, or there was no memory
 pub record IsHalfUnstarted (limit : ℕ) (text : List ℕ) (number : ℕ) (old new : State) : Type 0 where
   pub error : StartError
   pub number_is : number ≡ start_number error
   pub told : Told (is_start_fault error) old new
-  pub large : error ≡ starting.TooLarge → (min limit (2 ^ 40) < 16 + length text) ⊎ (4294967295 < length text)
+  pub large : error ≡ starting.TooLarge → (min limit (2 ^ 40) < half_base (next_version old.mixes 0) (length text)) ⊎ (4294967295 < length text)
 
 -- why a log was not begun with a world
 abbrev pub IsNotBegun : ℕ → WorldState → State → State → BackupError → Type 0
@@ -89,7 +89,7 @@ module _ {D : Type 0} (state : D → State) (does : Deed D → Type 0) (limit : 
     pub first : D
     pub last : D
     pub opens : does (opened dir Make (Ok first))
-    pub holds : IsHonest (state first) → HoldsWorld world (state last)
+    pub holds : IsHonest (state first) → HoldsWorld (state first).mixes world (state last)
 
   -- the files were not opened, or the world was not written to them
   abbrev pub IsCopyUnwritten : BackupError → Type 0
@@ -102,11 +102,11 @@ module _ {D : Type 0} (state : D → State) (does : Deed D → Type 0) (limit : 
   pub record IsCompared : Type 0 where
     pub again : D
     pub opens : does (opened dir Refuse (Ok again))
-    pub holds : IsHonest (state again) → (k : Option Contents) × FilesMean k (state again).reads × HoldsTextAlone (snapshot world) k
+    pub holds : IsHonest (state again) → (k : Option Contents) × FilesMean k (state again).reads × HoldsTextAlone (next_version (state again).mixes 0) (snapshot world) k
 
   -- of an honest disk they hold something else
   pub record HoldsOther (again : D) : Type 0 where
-    pub other : IsHonest (state again) → (k : Option Contents) × FilesMean k (state again).reads × (HoldsTextAlone (snapshot world) k → ⊥)
+    pub other : IsHonest (state again) → (k : Option Contents) × FilesMean k (state again).reads × (HoldsTextAlone (next_version (state again).mixes 0) (snapshot world) k → ⊥)
 
   -- the files were not opened again, or not read; or they hold something else; or there was no memory for the text
   abbrev pub IsUncompared : BackupError → Type 0

@@ -1,7 +1,7 @@
 -- What is told of the half in use, and the figures of a store.
-use Rattle.std.specs.Prelude.{◌≡◌, ℕ, min, List, [], ◌∷◌, ◌++◌, length, codes, decimal, Option, None, Some}
+use Rattle.std.specs.Prelude.{◌≡◌, ℕ, min, List, [], ◌∷◌, ◌++◌, length, codes, Option, Some}
 use Rattle.std.specs.List.{sum_by}
-use Rattle.disk_trait.specs.Disk.{Image}
+use Rattle.disk_trait.specs.Disk.{Image, file_of}
 use Rattle.disk_trait.specs.declared.half.Half.{Half}
 use Rattle.disk_trait.specs.declared.half.Half.TheVariants.{A, B}
 use Rattle.gate_log.specs.Layout.{Contents}
@@ -12,7 +12,8 @@ use Rattle.package_table.specs.Table.{Table}
 use Rattle.plist_state.specs.Changes.{plist}
 use Rattle.plist_state.specs.Readers.{symbols_with_properties}
 use Rattle.plist_state.specs.State.{WorldState}
-use Rattle.store_reports.specs.Json.{json_number}
+use Rattle.store_reports.specs.HalfManners.{TellsManner, known_manner}
+pub use Rattle.store_reports.specs.Notations.{figure, known_figure}
 use Rattle.store_reports.specs.declared.figures.FigureCounts.{FigureCounts}
 use Rattle.store_reports.specs.declared.figures.HalfFigures.{HalfFigures}
 use Rattle.store_reports.specs.declared.numbers.Notation.{Notation}
@@ -28,18 +29,9 @@ pub record AreFiguresOf (image : Image) (figures : HalfFigures) : Type 0 where
   pub records : figures.records ≡ records_in contents
   pub bytes : figures.bytes ≡ size_in contents
   pub first_bytes : figures.first_bytes ≡ first_size_in contents
+  pub manner : (k : Contents) → contents ≡ Some k → TellsManner figures.manner k (file_of figures.half image)
 
 -- ---- the figures of a store
-
--- a name and a number: a line, or a member of an object that is not its first one
-abbrev pub figure : Notation → List ℕ → ℕ → List ℕ
-figure Lines name value = name ++ 32 ∷ decimal value ++ 10 ∷ []
-figure Json name value = codes ",\"" ++ name ++ codes "\":" ++ json_number value
-
--- nothing where it is not known
-abbrev pub known_figure : Notation → List ℕ → Option ℕ → List ℕ
-known_figure notation name None = []
-known_figure notation name (Some value) = figure notation name value
 
 -- what comes first: which half it is
 abbrev pub half_figures_line : Notation → Half → List ℕ
@@ -88,11 +80,15 @@ module _ (notation : Notation) where
       ++ figure notation (codes "bytes") half.bytes
       ++ figure notation (codes "first-bytes") half.first_bytes
 
+  -- its version, and its manner
+  abbrev pub version_text : HalfFigures → List ℕ
+  version_text half = figure notation (codes "version") half.version ++ known_manner notation half.manner
+
   -- the figures of the half in use
   abbrev pub half_text : HalfFigures → List ℕ
   half_text half =
       half_figures_line notation half.half
-      ++ figure notation (codes "version") half.version
+      ++ version_text half
       ++ figure notation (codes "generation") half.generation
       ++ sizes_text half
 

@@ -2,6 +2,8 @@ pub mod Backup
 pub mod PropertyCounts
 pub mod EscapedText
 pub mod Figures
+pub mod HalfManners
+pub mod Notations
 pub mod Json
 pub mod Log
 pub mod LogRefusals

@@ -27,7 +27,7 @@ abbrev pub record_line : Bool → ℕ → ℕ → LogRecord → List ℕ
 record_line with_generation generation number entry =
     place_text with_generation generation number ++ mode_text entry.kind ++ shown_for_terminal entry.text ++ 10 ∷ []
 
--- the same as an object, which begins with the generation and the number
+-- the first members of a record as an object: the generation and the number
 unfoldable pub numbers_text : ℕ → ℕ → List ℕ
 numbers_text generation number =
     123 ∷ [] ++ number_member (codes "generation") generation ++ 44 ∷ [] ++ number_member (codes "record") number ++ 44 ∷ []

@@ -13,6 +13,7 @@ abbrev pub open_number : OpenRefusal → ℕ
 open_number opening.DeviceFault = DEVICE
 open_number opening.Damaged = DAMAGED
 open_number opening.UnknownVersion = VERSION
+open_number opening.DoesNotMix = VERSION
 open_number opening.OutOfMemory = NO_MEMORY
 
 -- one whose half is not read

@@ -11,7 +11,7 @@ use Rattle.plist_state.specs.Readers.{symbols_with_properties}
 use Rattle.plist_state.specs.State.{WorldState}
 use Rattle.store_reports.specs.Figures.{told_number}
 use Rattle.store_reports.specs.Json.{number_member}
-use Rattle.store_reports.specs.ShownProperties.{has_wanted, is_asked, is_wanted_name, shown_symbol, takes_symbol}
+use Rattle.store_reports.specs.ShownProperties.{has_wanted, is_asked, is_wanted_name, printed_in_user_package, takes_symbol}
 use Rattle.store_reports.specs.declared.numbers.Notation.{Notation}
 use Rattle.store_reports.specs.declared.numbers.Notation.TheVariants.{Json, Lines}
 use Rattle.store_reports.specs.declared.selection.Selection.{Selection}
@@ -33,7 +33,7 @@ module _ (wanted : Selection) (world : WorldState) where
 
   -- a symbol is asked for, and by this text
   unfoldable pub is_printed_so : List ℕ → Symbol → Bool
-  is_printed_so text x = takes_symbol wanted x && is_asked wanted text (shown_symbol world.packages x) x.1
+  is_printed_so text x = takes_symbol wanted x && is_asked wanted text (printed_in_user_package world.packages x) x.1
 
   -- how many properties of a symbol are asked for, if it is asked for by this text; else 0
   unfoldable pub printed_properties : List ℕ → Symbol → ℕ

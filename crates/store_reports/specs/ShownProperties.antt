@@ -36,8 +36,8 @@ takes_symbol wanted x = is_wanted_name wanted.package x.0 && option_map_or (λ (
 -- ---- how
 
 -- a symbol, as it is printed in COMMON-LISP-USER. The names of a world are of characters.
-unfoldable pub shown_symbol : Table → Symbol → List ℕ
-shown_symbol t x = if list_all is_ascii x.0 && list_all is_ascii x.1 then printed t common_lisp_user (symbol x.0 x.1) else []
+unfoldable pub printed_in_user_package : Table → Symbol → List ℕ
+printed_in_user_package t x = if list_all is_ascii x.0 && list_all is_ascii x.1 then printed t common_lisp_user (symbol x.0 x.1) else []
 
 -- a text asks for a symbol of this name that is printed so: by how it is printed, and among the symbols of a package also by its name
 abbrev pub is_asked : Selection → (text printed name : List ℕ) → Bool
@@ -62,12 +62,12 @@ module _ (wanted : Selection) (t : Table) (x : List ℕ) where
   -- a property of the symbol of this text, where its indicator has the name that is asked for
   unfoldable pub shown_property : Symbol × Object → List ℕ
   shown_property p =
-      if is_wanted_name wanted.indicator p.0.1 then property_text wanted.layout x (shown_symbol t p.0) (printed t common_lisp_user p.1) else []
+      if is_wanted_name wanted.indicator p.0.1 then property_text wanted.layout x (printed_in_user_package t p.0) (printed t common_lisp_user p.1) else []
 
 module _ (wanted : Selection) (world : WorldState) where
   -- those of a symbol, in the order of its list
   unfoldable pub shown_list : Symbol → List ℕ
-  shown_list x = if takes_symbol wanted x then flat_map (shown_property wanted world.packages (shown_symbol world.packages x)) (plist world x) else []
+  shown_list x = if takes_symbol wanted x then flat_map (shown_property wanted world.packages (printed_in_user_package world.packages x)) (plist world x) else []
 
   -- those of a world, in the order of its symbols
   unfoldable pub shown_text : List ℕ
@@ -76,15 +76,15 @@ module _ (wanted : Selection) (world : WorldState) where
   -- the home of a symbol for which this text asks, and its properties
   unfoldable pub shown_home : List ℕ → Symbol → List ℕ
   shown_home text x =
-      if takes_symbol wanted x && is_asked wanted text (shown_symbol world.packages x) x.1
-      then home_text wanted.layout (shown_symbol world.packages x) x.0 ++ shown_list x
+      if takes_symbol wanted x && is_asked wanted text (printed_in_user_package world.packages x) x.1
+      then home_text wanted.layout (printed_in_user_package world.packages x) x.0 ++ shown_list x
       else []
 
   -- of those at home in a package, and in all packages
   unfoldable pub shown_homes : List ℕ → Name → List ℕ
   shown_homes text home = flat_map (λ name. shown_home text (home, name)) (own_names world.packages home)
 
-  -- the same over all packages that may be the home
+  -- what is shown of the symbols of a name, over all packages that may be their home
   unfoldable pub shown_by_home : List ℕ → List ℕ
   shown_by_home text = flat_map (shown_homes text) (package_names world.packages)
 

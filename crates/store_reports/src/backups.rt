@@ -3,7 +3,7 @@ ghost use Rattle.std.specs.Prelude.{◌≡◌, ◌≢◌, ◌-◌, ◌^◌, ◌<
 ghost use Rattle.disk_trait.specs.Disk.{Image, IsHonest, Tells};
 ghost use Rattle.gate_log.specs.Failures.{is_read_fault};
 ghost use Rattle.gate_log.specs.HalfInUse.{IsAt, Shows};
-ghost use Rattle.gate_log.specs.Layout.{Contents};
+ghost use Rattle.gate_log.specs.Layout.{Contents, next_version};
 ghost use Rattle.gate_log.specs.Log.{FilesMean};
 ghost use Rattle.store_reports.specs.Backup.{HoldsWorld, HoldsNoRecord, HoldsTextAlone, IsCompared, IsBackupMade, IsNotBegun, HasItsName, IsToldAs, IsUncompared, HasNoBackup, IsBackupUnopened, IsCopyUnplaced, IsHalfUnread, IsCopyUnwritten, IsCopyWritten};
 ghost use Rattle.store_reports.specs.LogRefusals.{open_number, read_number, start_number};
@@ -19,8 +19,10 @@ use std::io;
 use thiserror::Error;
 use world_text::write;
 
-/// The version of a half that is written.
-const WRITTEN: u16 = 2;
+/// The version of the halves that are begun where no other is asked for.
+const VERSION_BEGUN: u16 = 2;
+/// The version of the halves that are begun on a disk that mixes.
+const VERSION_OF_MIXING: u16 = 3;
 
 /// Why there is no backup.
 #[derive(Debug, Drop, Error)]
@@ -92,7 +94,7 @@ fn number_of(refusal: OpenRefusal) -> u16
     match refusal {
         OpenRefusal::DeviceFault => DEVICE,
         OpenRefusal::Damaged => DAMAGED,
-        OpenRefusal::UnknownVersion => VERSION,
+        OpenRefusal::UnknownVersion | OpenRefusal::DoesNotMix => VERSION,
         OpenRefusal::OutOfMemory => NO_MEMORY,
     }
 }
@@ -134,7 +136,7 @@ pub fn backup_onto<D: Disk>(
 ) -> Result<D, NotBegun<D>>
     requires { (D.state disk).failures < 2 ^ 64 - 1 }
     ensures holds { IfOk result (λ back. IsHonest (D.state disk)
-        → HoldsWorld world.now.0 (D.state back)) }
+        → HoldsWorld (D.state disk).mixes world.now.0 (D.state back)) }
     ensures refused { IfErr result (λ refused.
         IsNotBegun limit world.now.0 (D.state disk) (D.state refused.disk) refused.error) }
 {
@@ -280,12 +282,14 @@ fn holds_text<D: Disk + Drop>(
 ) -> Result<bool, Unread<D>>
     requires { (D.state disk).failures < 2 ^ 64 - 1 }
     ensures answer { IfOk result (λ same. IsHonest (D.state disk)
-        → (k : Option Contents) × FilesMean k (D.state disk).reads × Decides same (HoldsTextAlone text.now k)) }
+        → (k : Option Contents) × FilesMean k (D.state disk).reads
+        × Decides same (HoldsTextAlone (next_version (D.state disk).mixes 0) text.now k)) }
     ensures refused { IfErr result
         (λ refused. IsBackupUnopened refused.number (D.state disk) (D.state refused.disk)
         ⊎ IsHalfUnread refused.number (D.state disk) (D.state refused.disk)) }
 {
     shown_is_meant();
+    let version = begun_version(&disk);
     let mut log = match Halves::open(alloc, disk, limit) {
         Ok(log) => log,
         Err(refused) => {
@@ -296,7 +300,7 @@ fn holds_text<D: Disk + Drop>(
             });
         }
     };
-    match is_bare(alloc, &mut log, text) {
+    match is_bare(alloc, &mut log, version, text) {
         Ok(same) => Ok(same),
         Err(error) => Err(Unread {
             number: number_of_read(error),
@@ -305,15 +309,31 @@ fn holds_text<D: Disk + Drop>(
     }
 }
 
-// Whether a log has a half in use, of the version that is written, with this snapshot and no record.
-fn is_bare<D: Disk>(alloc: Global, log: &mut Halves<D>, text: &[u8]) -> Result<bool, ReadError>
+// The version of the half that is begun first on a disk.
+fn begun_version<D: Disk>(disk: &D) -> u16
+    ensures { result ≡ next_version (D.state disk.now).mixes 0 }
+{
+    if disk.mixes() {
+        VERSION_OF_MIXING
+    } else {
+        VERSION_BEGUN
+    }
+}
+
+// Whether a log has a half in use, of this version, with this snapshot and no record.
+fn is_bare<D: Disk>(
+    alloc: Global,
+    log: &mut Halves<D>,
+    version: u16,
+    text: &[u8],
+) -> Result<bool, ReadError>
     requires { (D.state log.old.disk).failures < 2 ^ 64 - 1 }
     ensures tells { Tells is_read_fault (D.state log.old.disk) (D.state log.new.disk) result }
     ensures answer { (k : Option Contents) → IsHonest (D.state log.old.disk)
         → IsAt log.old.used (D.state log.old.disk) k
-        → MatchResult result (λ same. Decides same (HoldsTextAlone text.now k)) (λ e. e ≢ ReadError.Damaged) }
+        → MatchResult result (λ same. Decides same (HoldsTextAlone version text.now k)) (λ e. e ≢ ReadError.Damaged) }
 {
-    if !is_alone(log) {
+    if !is_alone(log, version) {
         return Ok(false);
     }
     match log.snapshot_bytes(alloc) {
@@ -322,16 +342,16 @@ fn is_bare<D: Disk>(alloc: Global, log: &mut Halves<D>, text: &[u8]) -> Result<b
     }
 }
 
-// Whether a log has a half in use, of the version that is written, with no record.
-fn is_alone<D: Disk>(log: &Halves<D>) -> bool
+// Whether a log has a half in use, of this version, with no record.
+fn is_alone<D: Disk>(log: &Halves<D>, version: u16) -> bool
     ensures alone { (k : Option Contents) (image : Image) → Shows log.now.used k image
-        → Decides result (HoldsNoRecord k) }
+        → Decides result (HoldsNoRecord version k) }
     ensures in_use { IsTrue result → IsSome log.now.used }
 {
     if !log.is_started() {
         return false;
     }
-    if log.version() != WRITTEN {
+    if log.version() != version {
         return false;
     }
     log.record_count() == 0

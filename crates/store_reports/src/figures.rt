@@ -4,8 +4,9 @@ ghost use Rattle.std.specs.Prelude.{◌≡◌, ◌+◌, ◌-◌, ◌^◌, ◌<�
 ghost use Rattle.log_look.specs.FirstRecords.{LogIsUnopened};
 ghost use Rattle.package_table.specs.Readers.{package_names};
 ghost use Rattle.plist_state.specs.Readers.{borrowed_symbols, symbols_with_properties};
-ghost use Rattle.store_reports.specs.Figures.{AreFiguresOf, counts_in, end_of_figures, file_info_text, files_text, half_figures_line, half_text, info_text, sizes_text, known_figure, property_count, symbol_count, told_number, verified_text, world_text};
+ghost use Rattle.store_reports.specs.Figures.{AreFiguresOf, counts_in, end_of_figures, file_info_text, files_text, half_figures_line, half_text, info_text, sizes_text, known_figure, property_count, symbol_count, told_number, verified_text, version_text, world_text};
 
+use crate::manner::{HalfManner, manner_of, push_manner};
 use crate::numbers::{Notation, push_figure};
 use disk_trait::{Disk, Half};
 use log_look::{Figures, LogError, Sight, open_sight};
@@ -14,7 +15,7 @@ use plist_state::World;
 use std::alloc::{AllocError, Global};
 
 /// What is told of the half in use.
-#[derive(Clone, Copy, Debug, PartialEq, Eq)]
+#[derive(Clone, Copy, Debug)]
 pub struct HalfFigures {
     pub half: Half,
     pub version: u16,
@@ -24,6 +25,8 @@ pub struct HalfFigures {
     pub bytes: u64,
     /// The bytes that it had before its first record.
     pub first_bytes: u64,
+    /// In which manner it is kept, where its version is 3.
+    pub manner: Option<HalfManner>,
 }
 
 /// What is told of the half in use of what was seen, and the sight as it was. Where no half is open it is half A, and its numbers are 0.
@@ -41,13 +44,16 @@ pub fn half_figures(alloc: Global, sight: Sight) -> Result<(HalfFigures, Sight),
     ensures refused { IfErr result (λ e. LogIsUnopened e (⟦<Sight as Disk>⟧.state sight).reads) }
 {
     let log = open_sight(alloc, sight)?;
+    let half = log.half();
+    let version = log.version();
     let figures = HalfFigures {
-        half: log.half(),
-        version: log.version(),
+        half,
+        version,
         generation: log.generation(),
         records: log.record_count(),
         bytes: log.size(),
         first_bytes: log.first_size(),
+        manner: manner_of(version, log.disk().file(half)),
     };
     Ok((figures, log.into_disk()))
 }
@@ -177,9 +183,21 @@ fn push_half(
     ensures { OnOk result (text.new.items ≡ text.old.items ++ half_text notation half.now) }
 {
     push_letter(text, notation, half.half)?;
-    push_figure(alloc, text, notation, b"version", half.version as u64)?;
+    push_version(alloc, text, notation, half)?;
     push_figure(alloc, text, notation, b"generation", half.generation)?;
     push_sizes(alloc, text, notation, half)
+}
+
+fn push_version(
+    alloc: Global,
+    text: &mut Vec<u8>,
+    notation: Notation,
+    half: &HalfFigures,
+) -> Result<(), AllocError>
+    ensures { OnOk result (text.new.items ≡ text.old.items ++ version_text notation half.now) }
+{
+    push_figure(alloc, text, notation, b"version", half.version as u64)?;
+    push_manner(alloc, text, notation, half.manner)
 }
 
 fn push_sizes(

@@ -3,7 +3,8 @@
 //! - `show`: properties of a world, as lines, as forms or as JSON (module `showing`, over `selection` and `homes`), and `count`:
 //!   how many they are (module `counting`).
 //! - `info`: figures of a store and of its files, and `file_info`: those that need no world; `verified`: what is told of a store that was
-//!   verified, as JSON (module `figures`).
+//!   verified, as JSON (module `figures`). Of a half of version 3 they have how many syncs an append takes, and the identity of the store (module
+//!   `manner`).
 //! - `log_lines`: the records of the half in use, a line each (module `log`).
 //! - `backup`: a new store with the world of another one (module `backups`), at a place that something makes and names (`StorePlaces`, module
 //!   `places`); `backup_onto`: on a disk that is there.
@@ -20,6 +21,7 @@ mod figures;
 mod homes;
 mod json;
 mod log;
+mod manner;
 mod numbers;
 mod places;
 mod selection;
@@ -30,6 +32,7 @@ pub use counting::count;
 pub use figures::{HalfFigures, file_info, half_figures, info, verified};
 pub use json::{push_number_member, push_string_member};
 pub use log::{LogPart, log_lines};
+pub use manner::HalfManner;
 pub use numbers::{Notation, push_figure};
 pub use places::StorePlaces;
 pub use selection::{Layout, Selection};

@@ -1,7 +1,7 @@
 //! Numbers, as they are written.
 //! Where memory runs out, a part of what is to be added may be there.
 ghost use Rattle.std.specs.Prelude.{◌≡◌, ◌++◌, [], ◌∷◌, codes, decimal, OnOk};
-ghost use Rattle.store_reports.specs.Figures.{figure};
+ghost use Rattle.store_reports.specs.Notations.{figure};
 ghost use Rattle.store_reports.specs.Json.{json_number};
 ghost use Rattle.store_reports.specs.declared.numbers.Notation.TheVariants as notations;
 

@@ -5,7 +5,7 @@ ghost use Rattle.std.specs.List.{flat_map};
 ghost use Rattle.lisp_object.specs.Datum.{is_proper};
 ghost use Rattle.plist_state.specs.Readers.{borrowed_symbols};
 ghost use Rattle.plist_state.specs.Views.{property_of};
-ghost use Rattle.store_reports.specs.ShownProperties.{asked_text, has_wanted, property_text, shown_list, shown_property, shown_symbol, ArePropertiesShown, GivesSome, ArePropertiesUnshown};
+ghost use Rattle.store_reports.specs.ShownProperties.{asked_text, has_wanted, property_text, shown_list, shown_property, printed_in_user_package, ArePropertiesShown, GivesSome, ArePropertiesUnshown};
 ghost use Rattle.store_reports.specs.declared.showing.ShowError.TheVariants as showing;
 
 use crate::escaped::push_escaped;
@@ -282,14 +282,14 @@ fn push_form(
 
 /// The text of a symbol in COMMON-LISP-USER. The names of a world are bytes below 128; of others nothing is written. It
 /// fails only for want of memory.
-#[tactic(auto, unfolding(crate::specs::ShownProperties::shown_symbol))]
+#[tactic(auto, unfolding(crate::specs::ShownProperties::printed_in_user_package))]
 pub(crate) fn symbol_text(
     alloc: Global,
     packages: &Packages,
     home: &[u8],
     name: &[u8],
 ) -> Result<Vec<u8>, AllocError>
-    ensures { IfOk result (λ text. text.items ≡ shown_symbol packages.now.0 (home.now, name.now)) }
+    ensures { IfOk result (λ text. text.items ≡ printed_in_user_package packages.now.0 (home.now, name.now)) }
 {
     packages.soundness();
     let package = Bytes::from_slice(alloc, home)?;

@@ -18,8 +18,8 @@ use Rattle.user_macros.specs.Functions.{Functions}
 use Rattle.canon_printer.specs.Printed.{printed}
 use Rattle.canon_printer.specs.Symbols.{HasAllSymbols}
 use Rattle.lisp_reading.specs.declared.limits.Limits.{Limits}
-use Rattle.lisp_reading.specs.declared.found.Found.{Found}
-use Rattle.lisp_reading.specs.declared.found.Found.TheVariants.{One as one}
+use Rattle.lisp_reading.specs.declared.attempt.Found.{Found}
+use Rattle.lisp_reading.specs.declared.attempt.Found.TheVariants.{One as one}
 use Rattle.lisp_reading.specs.Plans.{Plan, Read, run}
 use Rattle.lisp_reading.specs.Setting.{Setting}
 use Rattle.lisp_reading.specs.Reading.{Piece, item, piece_of, next_item_turn, next_item, one_piece, completed_call, inner, attempt}

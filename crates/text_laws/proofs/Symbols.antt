@@ -34,7 +34,7 @@ use Rattle.world_text.proofs.Characters.{by_table}
 use Rattle.world_text.proofs.Marked.{name_marks, plain_marks, quoted_marks}
 use Rattle.world_text.proofs.Sizes.{barred_count, count_both, name_count, plain_count}
 use Rattle.world_text.proofs.Spelling.{IsAscii, first, others}
-use Rattle.world_forms.specs.NameTokens.{call_text, is_portable_name, is_plain_after, is_too_long, name_text, prefix_length, quoted_text, symbol_text, text_argument, value_text}
+use Rattle.world_forms.specs.NameTokens.{call_text, is_portable_name, is_plain_after, is_too_long, name_text, token_prefix_length, quoted_text, symbol_text, text_argument, value_text}
 use Rattle.text_laws.specs.Objects.{call, symbol_form}
 use Rattle.text_laws.proofs.PartsRead.{AreRead, IsRead, listed_is_read, no_more, object_is_read, one_more, quoted_is_read, token_is_read}
 
@@ -143,7 +143,7 @@ module _ (limits : Limits) (packages : Packages) (functions : Functions) (sound 
     found_is_read long short =
         let token = by_package (bytes_eq prefix keyword) (bytes_eq prefix common_lisp_user) refl refl in
         token_is_read limits packages functions sound room (symbol_text prefix own) token.0 (symbol home own) token.1
-        (omega (arith, long, token.2, ltb-false 4096 (prefix_length prefix + length own) short))
+        (omega (arith, long, token.2, ltb-false 4096 (token_prefix_length prefix + length own) short))
 
   -- a symbol that is present in its home
   pub symbol_is_read : (home own : Name) → IsPresent packages home own home → 4096 ≤ limits.token → is_too_long home own ≡ false → Read 0 (symbol_text home own) (symbol home own)

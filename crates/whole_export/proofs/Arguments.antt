@@ -14,7 +14,7 @@ use Rattle.lisp_operators.specs.Evaluation.{also, and_then, gives, writes}
 use Rattle.evaluator.specs.Value.{value_by, values_by, value_over}
 use Rattle.form_eval.specs.Acceptance.{accepted_by}
 use Rattle.form_eval.proofs.KnownSymbols.{known_symbols}
-use Rattle.lisp_reading.specs.declared.found.Found.TheVariants.{One as one}
+use Rattle.lisp_reading.specs.declared.attempt.Found.TheVariants.{One as one}
 use Rattle.prevalence_store.specs.meaning.Acceptance.{form_limits, transaction_value}
 use Rattle.world_text.proofs.Begun.{begun}
 use Rattle.text_laws.specs.Objects.{call}

@@ -12,8 +12,8 @@ use Rattle.readtable_core.proofs.Named.{same_number}
 use Rattle.plist_state.specs.State.{WorldState}
 use Rattle.user_macros.specs.Functions.{Functions}
 use Rattle.form_reader.proofs.Objects.{takes_is}
-use Rattle.lisp_reading.specs.declared.found.Found.{Found}
-use Rattle.lisp_reading.specs.declared.found.Found.TheVariants.{Nothing as nothing}
+use Rattle.lisp_reading.specs.declared.attempt.Found.{Found}
+use Rattle.lisp_reading.specs.declared.attempt.Found.TheVariants.{Nothing as nothing}
 use Rattle.lisp_reading.specs.Plans.{Read, run, scans}
 use Rattle.lisp_reading.specs.Reading.{ReadingResult, alone, empty, inner, outcome, reads, reads_in, stands_alone, token_found}
 use Rattle.lisp_reading.specs.Setting.{Setting}

@@ -22,7 +22,7 @@ use Rattle.lisp_operators.specs.Evaluation.{also, and_then, gives, writes}
 use Rattle.lisp_operators.specs.ReadBase.{is_base}
 use Rattle.lisp_operators.specs.Readtables.{value_after, enter_readtable}
 use Rattle.evaluator.specs.Value.{last, value_by, values_by, value_over}
-use Rattle.lisp_reading.specs.declared.found.Found.TheVariants.{One as one}
+use Rattle.lisp_reading.specs.declared.attempt.Found.TheVariants.{One as one}
 use Rattle.prevalence_store.specs.meaning.Acceptance.{form_limits, transaction_value}
 use Rattle.session_words.specs.declared.content.Content.TheVariants.{World}
 use Rattle.world_forms.specs.Forms.{current_form}

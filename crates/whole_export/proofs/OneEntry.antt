@@ -9,7 +9,7 @@ use Rattle.std.proofs.lemmas.List.{get_or-replicate, get_or_past, length-replica
 use Rattle.std.specs.Cmp.Lexicographic.{bytes_decides}
 use Rattle.readtable_core.specs.declared.characters.Syntax.{Syntax}
 use Rattle.readtable_core.specs.declared.characters.Syntax.TheVariants.{Whitespace, Constituent, TerminatingMacro, NonTerminatingMacro, SingleEscape, MultipleEscape, Invalid}
-use Rattle.readtable_core.specs.Changes.{dispatching_entry, macro_syntax, with_character_entry, with_function}
+use Rattle.readtable_core.specs.Changes.{dispatching_entry, macro_syntax, with_character_entry, with_dispatch_function}
 use Rattle.readtable_core.specs.Characters.{is_digit, is_lower_case, standard_syntax}
 use Rattle.readtable_core.specs.NamedFunctions.{functions_at}
 use Rattle.readtable_core.specs.Names.{dispatch_name, is_dispatch_name}
@@ -169,9 +169,9 @@ module _ (functions : Functions) (first : WorldState) (whole : List ℕ) (base :
           let g_covered : is_covered functions.names g ≡ true
           = ap (passes (is_covered functions.names)) (sym is_g) ∙ passing_item (passes (is_covered functions.names)) e.dispatch covered_parts.1 sub None there_sub in
           let here = with_these places in
-          let same : with_character_entry here c (with_function (entry_at here c) sub g) ≡ with_these (set places sub (Some g))
-          = entry_twice t c (with_places e places) (with_function (entry_at here c) sub g)
-          ∙ ap (λ x. with_character_entry t c (with_function x sub g)) (at_c places)
+          let same : with_character_entry here c (with_dispatch_function (entry_at here c) sub g) ≡ with_these (set places sub (Some g))
+          = entry_twice t c (with_places e places) (with_dispatch_function (entry_at here c) sub g)
+          ∙ ap (λ x. with_character_entry t c (with_dispatch_function x sub g)) (at_c places)
           ∙ ap (λ i. with_character_entry t c (with_places e (set places i (Some g)))) (upper_same base.packages sub g may) in
           subst (λ u. Made u rest) same
           (sub_made functions first whole base sound reads n there can here (these_many places) c sub g rest below may (function_may functions.names g g_covered may.other)

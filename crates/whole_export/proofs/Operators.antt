@@ -10,14 +10,14 @@ use Rattle.lisp_object.specs.declared.refusal.TheConstants.{NO_MACRO, NO_READTAB
 use Rattle.readtable_core.specs.declared.table.Case.{Case}
 use Rattle.readtable_core.specs.declared.table.Case.TheVariants.{Upcase, Downcase, Preserve, Invert}
 use Rattle.readtable_core.specs.Cases.{case_name}
-use Rattle.readtable_core.specs.Changes.{dispatching_entry, macro_entry, with_character_entry, with_function}
+use Rattle.readtable_core.specs.Changes.{dispatching_entry, macro_entry, with_character_entry, with_dispatch_function}
 use Rattle.readtable_core.specs.Names.{is_among, is_dispatch_name, is_standard}
 use Rattle.readtable_core.specs.Sound.{is_dispatching}
 use Rattle.readtable_core.specs.Tables.{Table, entry_at, standard}
 use Rattle.package_table.specs.Table.{Name, keyword}
 use Rattle.user_macros.specs.Registry.{is_covered}
 use Rattle.plist_state.specs.declared.error.ReadtableError.TheVariants.{NoReadtable}
-use Rattle.plist_state.specs.Changes.{changed_readtable, with_sub_function, in_state, with_case, with_dispatch, with_dispatching, with_macro}
+use Rattle.plist_state.specs.Changes.{changed_readtable, with_sub_function, state_with_readtables, with_case, with_dispatch, with_dispatching, with_macro}
 use Rattle.plist_state.specs.State.{WorldState, standard_name}
 use Rattle.lisp_operators.specs.Evaluation.{Evaluation, also, and_then, gives, of_kind, writes}
 use Rattle.lisp_operators.specs.ArgumentKinds.{case_named}
@@ -81,7 +81,7 @@ module _ (names : List Name) (s : WorldState) (n : Name) where
     unfolding value_over
     like_set c d x y r z are =
         ap (λ e. and_then e set_syntax) are
-        ∙ (λ i. also false (value_after s t_object (in_state s (option_map_or (λ z. changed_readtable s.readtables n (λ t. Ok (with_character_entry t c (entry_at z d)))) (w.standard i) (Err NoReadtable)))))
+        ∙ (λ i. also false (value_after s t_object (state_with_readtables s (option_map_or (λ z. changed_readtable s.readtables n (λ t. Ok (with_character_entry t c (entry_at z d)))) (w.standard i) (Err NoReadtable)))))
         ∙ ap (λ said. also false (value_after s t_object said)) (changed_to s n table (with_character_entry table c (entry_at standard d)) (λ t. Ok (with_character_entry t c (entry_at standard d))) w refl)
 
     -- ---- a macro character
@@ -123,11 +123,11 @@ module _ (names : List Name) (s : WorldState) (n : Name) where
 
     pub sub_set : (c sub : ℕ) (f : Name) (x y z r : Object) → is_function names f ≡ true → IsSubFunction s.packages sub f → is_dispatching (entry_at table c) ≡ true
         → Are (x ∷ y ∷ z ∷ r ∷ []) (character c ∷ character sub ∷ symbol keyword f ∷ name_value ∷ [])
-        → Becomes (call (codes "SET-DISPATCH-MACRO-CHARACTER") (x ∷ y ∷ z ∷ r ∷ [])) t_object (with_character_entry table c (with_function (entry_at table c) sub f))
+        → Becomes (call (codes "SET-DISPATCH-MACRO-CHARACTER") (x ∷ y ∷ z ∷ r ∷ [])) t_object (with_character_entry table c (with_dispatch_function (entry_at table c) sub f))
     unfolding value_over
     sub_set c sub f x y z r may is dispatches are =
         let done = with_readtables s t_object (with_dispatch s.readtables n c sub f) in
         ap (λ e. and_then e (set_dispatch names)) are
         ∙ ap (also false) (changeable_so (a_function names f done) ∙ function_so f done may)
-        ∙ ap (λ said. also false (value_after s t_object said)) (changed_to s n table (with_character_entry table c (with_function (entry_at table c) sub f)) (λ t. with_sub_function t c sub f) w
+        ∙ ap (λ said. also false (value_after s t_object said)) (changed_to s n table (with_character_entry table c (with_dispatch_function (entry_at table c) sub f)) (λ t. with_sub_function t c sub f) w
         (dispatched_is s.packages table c sub f is dispatches))

@@ -12,7 +12,7 @@ use Rattle.lisp_object.specs.Object.{Object, character, symbol}
 use Rattle.readtable_core.specs.declared.table.Case.{Case}
 use Rattle.readtable_core.specs.declared.table.Case.TheVariants.{Upcase, Downcase, Preserve, Invert}
 use Rattle.readtable_core.specs.Cases.{case_name}
-use Rattle.readtable_core.specs.Changes.{dispatching_entry, macro_entry, macro_syntax, with_character_entry, with_function}
+use Rattle.readtable_core.specs.Changes.{dispatching_entry, macro_entry, macro_syntax, with_character_entry, with_dispatch_function}
 use Rattle.readtable_core.specs.Names.{is_function_name}
 use Rattle.readtable_core.specs.Sound.{is_dispatching}
 use Rattle.readtable_core.specs.Tables.{Table, entry_at, standard}
@@ -249,7 +249,7 @@ module _ (functions : Functions) (first : WorldState) (whole : List ℕ) (base :
         (subst (λ cs. MadeTable t cs) (kind ∙ same) made)
 
     pub sub_made : (c sub : ℕ) (f : Name) (rest : List ℕ) → c < 128 → IsSubFunction base.packages sub f → is_function functions.names f ≡ true → is_dispatching (entry_at t c) ≡ true
-        → MadeTable t (sub_line n c sub (Some f) ++ rest) → MadeTable (with_character_entry t c (with_function (entry_at t c) sub f)) rest
+        → MadeTable t (sub_line n c sub (Some f) ++ rest) → MadeTable (with_character_entry t c (with_dispatch_function (entry_at t c) sub f)) rest
     unfolding sub_line
     sub_made c sub f rest below is may dispatches made =
         let op = codes "SET-DISPATCH-MACRO-CHARACTER" in
@@ -265,6 +265,6 @@ module _ (functions : Functions) (first : WorldState) (whole : List ℕ) (base :
         (argument (symbol_text keyword f) y y named (table_form n ∷ []) (symbol keyword n ∷ []) (keyword_is functions.names s sound f is.named (function_short f is.name)) table_last)) in
         let same : sub_line n c sub (Some f) ++ rest ≡ (40 ∷ op ++ more) ++ 10 ∷ rest
         = after_4 n rest (codes "(SET-DISPATCH-MACRO-CHARACTER") (character_argument c) (character_argument sub) (keyword_argument f) in
-        called op is_sub more xs vs arguments (omega arith) (with_character_entry t c (with_function (entry_at t c) sub f)) rest
+        called op is_sub more xs vs arguments (omega arith) (with_character_entry t c (with_dispatch_function (entry_at t c) sub f)) rest
         (sub_set functions.names s n t writable c sub f (character c) (character sub) y (table_form n) may is dispatches (call_values functions.names s sound more xs vs arguments))
         (subst (λ cs. MadeTable t cs) same made)

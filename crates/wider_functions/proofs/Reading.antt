@@ -16,8 +16,8 @@ use Rattle.user_macros.specs.Calls.{MacroCall, refused as answer_refused}
 use Rattle.user_macros.specs.Functions.{Functions, named_way, named_answer}
 use Rattle.std_macros.specs.Values.{Material, nothing as no_material, one as one_object, many as many_objects, letters, marked}
 use Rattle.lisp_reading.specs.declared.limits.Limits.{Limits}
-use Rattle.lisp_reading.specs.declared.found.Found.{Found}
-use Rattle.lisp_reading.specs.declared.found.Found.TheVariants.{Nothing as nothing, One as one, LoneDot as lone_dot, TheEnd as the_end}
+use Rattle.lisp_reading.specs.declared.attempt.Found.{Found}
+use Rattle.lisp_reading.specs.declared.attempt.Found.TheVariants.{Nothing as nothing, One as one, LoneDot as lone_dot, TheEnd as the_end}
 use Rattle.lisp_reading.specs.declared.way.Function.{Function}
 use Rattle.lisp_reading.specs.declared.way.Function.TheVariants.{Standard as AStandard, User}
 use Rattle.lisp_reading.specs.declared.way.Way.{Way}

@@ -41,7 +41,7 @@ pub fn more_functions_open<D: Disk, R>()
         → (world : WorldState) → AreAmong fewer more
         → IsHonest (D.state disk) → MeansWorld fewer (D.state disk).reads world
         → (refused : IsUnopened more D.state disk whole limit number back)
-        → IsNoWord (limit_of limit) (D.state disk).reads refused.fault }
+        → IsNoWord (D.state disk).mixes (limit_of limit) (D.state disk).reads refused.fault }
 {
     files_keep_their_world::<D>();
 }

@@ -51,7 +51,7 @@ pub fn newer_programs_open<D: Disk, R>()
         → (world : WorldState) → AreRulesAmong by rules_in_force → AreAmong fewer more
         → IsHonest (D.state disk) → MeansWorldBy by fewer (D.state disk).reads world
         → (refused : IsUnopened more D.state disk whole limit number back)
-        → IsNoWord (limit_of limit) (D.state disk).reads refused.fault }
+        → IsNoWord (D.state disk).mixes (limit_of limit) (D.state disk).reads refused.fault }
 {
     newer_programs_keep_files();
 }

@@ -1,11 +1,12 @@
 -- Zeros behind the half in use are cut, in words of the store, and what that is after other calls.
-use Rattle.std.proofs.Common.{◌≡◌, ℕ, ◌+◌, ◌-◌, ◌<◌, ◌^◌, Bool, true, false, List, [], Option, None, Some, IsSome, is_some, IsTrue, Result, Ok, Err, refl, sym, ap, subst, ◌∙◌, inl, inr}
+use Rattle.std.proofs.Common.{◌≡◌, ◌≢◌, ℕ, ◌+◌, ◌-◌, ◌<◌, ◌^◌, Bool, true, false, List, [], Option, None, Some, IsSome, is_some, IsTrue, Result, Ok, Err, refl, sym, ap, subst, ◌∙◌, inl, inr}
 use Rattle.disk_trait.specs.Half.{opposite_of}
-use Rattle.disk_trait.specs.Disk.{State, IsHonest, IsSoundDisk, Throughout, file_of}
+use Rattle.disk_trait.specs.Disk.{Image, State, IsHonest, IsSoundDisk, Throughout, file_of}
 use Rattle.disk_trait.specs.Moments.{weaker}
+use Rattle.batched_half.specs.Version3.{mark_of_one_sync}
 use Rattle.gate_log.specs.Layout.{Contents, LogRecord}
 use Rattle.gate_log.specs.Log as gated
-use Rattle.gate_log.specs.HalfInUse.{HalvesValue, IsAt, Shows, first_size_of, generation_at, half_of, records_at, size_of, version_at}
+use Rattle.gate_log.specs.HalfInUse.{HalvesValue, IsAt, IsKeptWithOneSync, Shows, first_size_of, generation_at, half_of, mark_in, records_at, size_of, version_at}
 use Rattle.gate_log.specs.Step.{LeavesOther}
 use Rattle.gate_log.specs.Zeros.{LosesZeros}
 use Rattle.gate_log.specs.declared.in_use.HalfInUse.{HalfInUse}
@@ -26,6 +27,12 @@ use Rattle.prevalence_store.proofs.steps.Committing.{kept_contents}
 use Rattle.prevalence_store.proofs.steps.Loading.{describes}
 use Rattle.user_macros.specs.Functions.{Functions}
 
+-- what the file says of the mark is what is kept
+not_of_one : (used : Option HalfInUse) (k : Contents) (image : Image) → Shows used (Some k) image → mark_in (version_at used) (file_of (half_of used) image) ≢ mark_of_one_sync
+    → IsKeptWithOneSync used → ⊥
+not_of_one None k image shown apart one = one
+not_of_one (Some half_in_use) k image shown apart one = apart (sym shown.2.mark ∙ one)
+
 module _ (functions : Functions) {D R : Type 0} (state : D → State) (sound : (d : D) → IsHonest (state d) → IsSoundDisk (state d)) (failed : Bool) (old new : HalvesValue D) (v w : WorldState) (macros : R)
     (now : StoreView D R) (view : store_view_of failed old v macros ≡ now) (known : now.world ≡ Some w) where
   is_open : failed ≡ false
@@ -44,6 +51,7 @@ module _ (functions : Functions) {D R : Type 0} (state : D → State) (sound : (
     file = λ some. absurd (cc);
     other = λ claims. alone_still (opposite_of now.half) (state now.disk) (sound now.disk claims);
     failures = refl;
+    mixes = refl;
     survives = unchanged_survives functions state sound now now w refl;
   }
 
@@ -54,6 +62,7 @@ module _ (functions : Functions) {D R : Type 0} (state : D → State) (sound : (
       record { memory = refl; unchanged = unchanged; survives = unchanged_survives functions state sound now (store_view_of failed new v macros) w unchanged }
 
   module _ (ready : failed ≡ false → IsReady (state old.disk) old) (used : new.used ≡ old.used) (limit : new.limit ≡ old.limit) (honest : (state new.disk).honest ≡ (state old.disk).honest)
+      (mixes : (state new.disk).mixes ≡ (state old.disk).mixes)
       (any_moment : (k : Contents) → IsHonest (state old.disk) → IsAt old.used (state old.disk) (Some k) → Throughout (state old.disk) (state new.disk) (gated.FilesMean (Some k)))
       (other : (k : Contents) → IsHonest (state old.disk) → IsAt old.used (state old.disk) (Some k) → LeavesOther (half_of old.used) (state old.disk) (state new.disk)) where
     abbrev before : StoreView D R
@@ -78,7 +87,7 @@ module _ (functions : Functions) {D R : Type 0} (state : D → State) (sound : (
     -- the zeros are gone
     module _ (calm : (state new.disk).failures ≡ (state old.disk).failures)
         (done : (k : Contents) → IsHonest (state old.disk) → IsAt old.used (state old.disk) (Some k) → IsAt new.used (state new.disk) (Some k))
-        (file : (k : Contents) → IsHonest (state old.disk) → IsAt old.used (state old.disk) (Some k)
+        (file : (k : Contents) → IsHonest (state old.disk) → IsAt old.used (state old.disk) (Some k) → (IsKeptWithOneSync old.used → ⊥)
         → LosesZeros (size_of old.used) (file_of (half_of old.used) (state old.disk).reads) (file_of (half_of old.used) (state new.disk).reads)) where
       abbrev later : StoreView D R
       later = store_view_of false new w macros
@@ -97,11 +106,14 @@ module _ (functions : Functions) {D R : Type 0} (state : D → State) (sound : (
             describes later new.used k (state new.disk).reads refl refl refl refl refl refl
             (subst (λ (c : Contents). Shows new.used (Some c) (state new.disk).reads) same (done holds.0 claims holds.1).shows);
         still = λ none. absurd (cc);
-        file = λ some claims. let holds = is_ready.holds claims in file holds.0 claims holds.1;
+        file = λ some claims apart.
+            let holds = is_ready.holds claims in
+            file holds.0 claims holds.1 (not_of_one old.used holds.0 (state old.disk).reads holds.1.shows apart);
         other = λ claims.
             let holds = is_ready.holds claims in
             alone_beside (half_of old.used) (state old.disk) (state new.disk) (sound old.disk claims) (other holds.0 claims holds.1);
         failures = calm;
+        mixes = mixes;
         survives = λ there claims keeps.
             let holds = is_ready.holds claims in
             renewed_survives functions holds.0 holds.0 w (means claims keeps) (means claims keeps) (state old.disk) (state new.disk) (run claims) honest new.used (done holds.0 claims holds.1) calm;
@@ -133,6 +145,7 @@ module _ (functions : Functions) {D R : Type 0} (state : D → State) (sound : (
               let holds = is_ready.holds claims in
               alone_beside (half_of old.used) (state old.disk) (state new.disk) (sound old.disk claims) (other holds.0 claims holds.1);
           failures = risen;
+          mixes = mixes;
         };
         survives = λ there claims keeps.
             let holds = is_ready.holds claims in

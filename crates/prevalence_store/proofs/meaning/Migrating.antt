@@ -1,10 +1,12 @@
--- What version 1 accepted, and what files meant to it, is accepted and meant as before.
---     form_stays      a form
---     files_stay      files
+-- What versions 1 and 2 accepted, and what files meant to them, is accepted and meant as before.
+--     form_stays      a form, of version 1
+--     files_stay      files, of version 1
+--     later_files_stay    files, of version 2
 use Rattle.std.proofs.Common.{◌≡◌, ℕ, ◌==◌, Bool, true, false, List, [], ◌∷◌, length, Option, None, Some, Result, Ok, Err, refl, sym, ap, subst, ◌∙◌, inl, inr, arith}
 use Rattle.std.specs.Prelude.{if◌then◌else◌}
 use Rattle.disk_trait.specs.Disk.{Image}
 use Rattle.gate_log.specs.Layout.{Contents, LogRecord, form_limit}
+use Rattle.gate_log.specs.Log.{FilesMean}
 use Rattle.lisp_object.specs.Object.{Object}
 use Rattle.lisp_object.specs.declared.refusal.TheConstants.{TEXT_LEFT_OVER}
 use Rattle.lisp_operators.specs.Evaluation.{Evaluation}
@@ -20,6 +22,7 @@ use Rattle.session_words.specs.declared.mode.Mode.{Mode}
 use Rattle.prevalence_store.specs.meaning.Acceptance.{Acceptance, accepted_reading, acceptance_of, accepts, after, between, mode_of, read_by, read_in, rules_in_force, setting_by, transaction_value}
 use Rattle.prevalence_store.specs.meaning.Files.{ContentsMean, IsWorldOf, MeansWorld}
 use Rattle.prevalence_store.specs.meaning.Version1.{ContentsMean1, IsWorldOf1, MeansWorld1, accepts1, after1, rules1}
+use Rattle.prevalence_store.specs.meaning.Version2.{FilesMean2, MeansWorld2}
 use Rattle.prevalence_store.proofs.meaning.Replaying.{stepped}
 use Rattle.prevalence_store.proofs.meaning.Transactions.{no_operator, not_forgetting}
 use Rattle.user_macros.specs.Functions.{Functions}
@@ -105,3 +108,12 @@ module _ (functions : Functions) where
 
   pub files_stay : (image : Image) (w : WorldState) → MeansWorld1 functions image w → MeansWorld functions image w × (w.read_base ≡ 10)
   files_stay image w means = let held = held_stays means.0 w means.2 in ((means.0, means.1, held.0), held.1)
+
+  -- ---- files of version 2
+
+  gated_stay : (k : Option Contents) (image : Image) → FilesMean2 k image → FilesMean k image
+  gated_stay None image meant = meant
+  gated_stay (Some k) image meant = (meant.0, record { used = inl meant.1.used; beside = meant.1.beside })
+
+  pub later_files_stay : (image : Image) (w : WorldState) → MeansWorld2 functions image w → MeansWorld functions image w
+  later_files_stay image w means = (means.0, gated_stay means.0 image means.1, means.2)

@@ -1,9 +1,9 @@
 -- What logging a form did to the store.
-use Rattle.std.proofs.Common.{◌≡◌, ℕ, ◌+◌, Bool, true, false, List, [], ◌∷◌, ◌++◌, length, length-append, Some, Result, Ok, Err, OnOk, refl, ap, ◌∙◌, arith}
-use Rattle.std.specs.List.{AllByRecursion, flat_map}
+use Rattle.std.proofs.Common.{◌≡◌, ℕ, ◌+◌, Bool, true, false, List, [], ◌∷◌, ◌++◌, length, Some, Result, Ok, Err, OnOk, refl, ap, ◌∙◌, arith}
+use Rattle.std.specs.List.{AllByRecursion}
 use Rattle.std.proofs.lemmas.List.{length-map, map-append}
 use Rattle.disk_trait.specs.Disk.{State, IsHonest, IsSoundDisk}
-use Rattle.gate_log.specs.Layout.{IsLogRecord, open_record}
+use Rattle.gate_log.specs.Layout.{IsLogRecord, batch_size, size_of_record}
 use Rattle.lisp_object.specs.Object.{Object}
 use Rattle.lisp_operators.specs.EvaluationAnswers.{done}
 use Rattle.lisp_operators.specs.declared.evaluated.Evaluated.{Evaluated}
@@ -21,8 +21,8 @@ use Rattle.prevalence_store.proofs.steps.Grouping.{of_value}
 use Rattle.user_macros.specs.Functions.{Functions}
 
 -- the bytes of the record of a form
-pub one_size : (mode : Mode) (text : List ℕ) → length (flat_map open_record (accepted_record mode text ∷ [])) ≡ 6 + length text
-one_size mode text = omega (arith, length-append text [])
+pub one_size : (version : ℕ) (mode : Mode) (text : List ℕ) → batch_size version (accepted_record mode text ∷ []) ≡ size_of_record version (length text)
+one_size version mode text = omega arith
 
 -- as many records as forms that wrote
 pub count_entries : (batch : Batch) → length (entries_in batch) ≡ length batch.records.items
@@ -58,7 +58,7 @@ module _ (functions : Functions) where
         version = all.version;
         generation = all.generation;
         record_count = all.record_count;
-        size = all.size ∙ ap (λ n. old.size + n) (one_size mode text);
+        size = all.size ∙ ap (λ n. old.size + n) (one_size old.version mode text);
         first_size = all.first_size;
         fits = all.fits (omega arith);
         limit = all.limit;
@@ -66,5 +66,6 @@ module _ (functions : Functions) where
         described = all.described;
         other = all.other;
         failures = all.failures;
+        mixes = all.mixes;
       }
       stored_one false v all = (all.nothing refl, all.left)

@@ -1,8 +1,8 @@
 -- What became of a turn: of a text that was to be one form, of many, of a form that was read, and of those that stand whole after it.
 use Rattle.std.proofs.Common.{◌≡◌, ℕ, ◌+◌, ◌<◌, ◌≤◌, Bool, true, false, List, [], length, Some, Result, Ok, Err, refl, sym, ap, subst, ◌∙◌, inl, inr, arith, Bor, ◌∷◌}
-use Rattle.std.specs.List.{All, AllByRecursion, flat_map}
+use Rattle.std.specs.List.{All, AllByRecursion}
 use Rattle.disk_trait.specs.Disk.{State, IsHonest, IsSoundDisk}
-use Rattle.gate_log.specs.Layout.{IsLogRecord, LogRecord, open_record}
+use Rattle.gate_log.specs.Layout.{IsLogRecord, LogRecord, batch_size}
 use Rattle.lisp_object.specs.Datum.{object_of}
 use Rattle.lisp_object.specs.Object.{Object}
 use Rattle.plist_state.specs.State.{WorldState}
@@ -104,7 +104,7 @@ module _ (functions : Functions) (mode : Mode) (w : WorldState) (text : List ℕ
     wrote_some given false is some = absurd (omega (arith, some))
 
     had_no_room : (given : Result Acceptance ℕ) → accepts functions w mode text ≡ given → (outcome : Outcome) (left : WorldState) (records : List LogRecord)
-        → IsTurn mode given w left [] records outcome → 0 < length records → old.limit < old.size + length (flat_map open_record records) → new ≡ old
+        → IsTurn mode given w left [] records outcome → 0 < length records → old.limit < old.size + batch_size old.version records → new ≡ old
         → Executes functions state old new w mode text (Refused (failure_number Full))
     had_no_room (Ok given) is outcome left records turn some over same =
         let wrote = wrote_some given given.wrote refl (subst (λ (es : List LogRecord). 0 < length es) turn.entries some) in
@@ -114,7 +114,7 @@ module _ (functions : Functions) (mode : Mode) (w : WorldState) (text : List ℕ
           given = given;
           accepted = is;
           wrote = wrote;
-          over = omega (arith, subst (λ (es : List LogRecord). old.limit < old.size + length (flat_map open_record es)) one over, one_size mode given.text);
+          over = omega (arith, subst (λ (es : List LogRecord). old.limit < old.size + batch_size old.version es) one over, one_size old.version mode given.text);
           unchanged = same;
           survives = unchanged_survives functions state sound old new w same;
         }))
@@ -131,7 +131,7 @@ module _ (functions : Functions) (mode : Mode) (w : WorldState) (text : List ℕ
           given = given;
           accepted = is;
           wrote = wrote;
-          fits = omega (arith, subst (λ (es : List LogRecord). old.size + length (flat_map open_record es) ≤ old.limit) one fails.fits, one_size mode given.text);
+          fits = omega (arith, subst (λ (es : List LogRecord). old.size + batch_size old.version es ≤ old.limit) one fails.fits, one_size old.version mode given.text);
           failed = fails.failed;
           survives = subst (λ (es : List LogRecord). SurvivesAs functions state old new w es 0) one fails.survives;
         })))

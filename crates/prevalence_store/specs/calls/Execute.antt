@@ -3,7 +3,7 @@ use Rattle.std.specs.Prelude.{Bool, true, false, ◌≡◌, ◌⊎◌, ℕ, ◌+
 use Rattle.disk_trait.specs.Disk.{State, IsHonest}
 use Rattle.disk_trait.specs.Half.{opposite_of}
 use Rattle.disk_trait.specs.declared.half.Half.{Half}
-use Rattle.gate_log.specs.Layout.{Contents, LogRecord, with_record}
+use Rattle.gate_log.specs.Layout.{Contents, LogRecord, size_of_record, with_record}
 use Rattle.lisp_object.specs.Object.{Object}
 use Rattle.lisp_object.specs.Datum.{object_of, is_proper}
 use Rattle.lisp_operators.specs.EvaluationAnswers.{IsArgument}
@@ -32,7 +32,7 @@ module _ {D R : Type 0} (state : D → State) (old new : StoreView D R) where
     pub version : new.version ≡ old.version
     pub generation : new.generation ≡ old.generation
     pub record_count : new.record_count ≡ old.record_count + 1
-    pub size : new.size ≡ old.size + (6 + length text)
+    pub size : new.size ≡ old.size + size_of_record old.version (length text)
     pub first_size : new.first_size ≡ old.first_size
     pub fits : new.size ≤ old.limit
     pub limit : new.limit ≡ old.limit
@@ -41,6 +41,7 @@ module _ {D R : Type 0} (state : D → State) (old new : StoreView D R) where
         → Describes new (with_record k (accepted_record mode text)) (state new.disk).reads
     pub other : IsHonest (state old.disk) → LeavesAlone (opposite_of old.half) (state old.disk) (state new.disk)
     pub failures : (state new.disk).failures ≡ (state old.disk).failures
+    pub mixes : (state new.disk).mixes ≡ (state old.disk).mixes
 
   -- A form that wrote was logged. One that wrote nothing left all as it was, the disk too.
   abbrev pub Stores : Bool → Mode → List ℕ → WorldState → Type 0
@@ -61,6 +62,7 @@ module _ {D R : Type 0} (state : D → State) (old new : StoreView D R) where
     -- this half was left alone
     pub other : IsHonest (state old.disk) → LeavesAlone alone (state old.disk) (state new.disk)
     pub failures : (state new.disk).failures ≡ (state old.disk).failures + 1
+    pub mixes : (state new.disk).mixes ≡ (state old.disk).mixes
 
 -- ---- what became of a text, in the world that the store had
 
@@ -94,7 +96,7 @@ module _ (functions : Functions) {D R : Type 0} (state : D → State) (old new :
       pub given : Acceptance
       pub accepted : accepts functions world mode text ≡ Ok given
       pub wrote : given.wrote ≡ true
-      pub over : old.limit < old.size + (6 + length given.text)
+      pub over : old.limit < old.size + size_of_record old.version (length given.text)
       pub unchanged : new ≡ old
       pub survives : SurvivesAs world [] 0
 
@@ -104,7 +106,7 @@ module _ (functions : Functions) {D R : Type 0} (state : D → State) (old new :
       pub given : Acceptance
       pub accepted : accepts functions world mode text ≡ Ok given
       pub wrote : given.wrote ≡ true
-      pub fits : old.size + (6 + length given.text) ≤ old.limit
+      pub fits : old.size + size_of_record old.version (length given.text) ≤ old.limit
       pub failed : DeviceFails state old new (opposite_of old.half)
       pub survives : SurvivesAs world (accepted_record mode given.text ∷ []) 0
 

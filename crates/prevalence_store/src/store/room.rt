@@ -6,7 +6,7 @@ use disk_trait::Disk;
 use user_macros::MacroFunctions;
 
 impl<D: Disk, R: MacroFunctions> Store<D, R> {
-    /// How many bytes more the half in use may take: a record takes 6, and its text. After a device fault, what it was before it.
+    /// How many bytes more the half in use may take: a record takes 6, or 18 in version 3, and its text. After a device fault, what it was before it.
     pub fn room(&self) -> u64
         ensures { result ≡ self.now.limit - self.now.size }
     {

@@ -28,7 +28,7 @@ impl<D: Disk, R: MacroFunctions> Store<D, R> {
 
     /// Cuts the half in use where it ends, if zeros alone stand behind it, as they are written ahead. The store is as it was, and so is what
     /// its files mean, at each moment. Nothing is done where none can have been
-    /// written (`wrote`).
+    /// written (`wrote`), nor where the half is kept with one sync: its zeros are the ground of the next form.
     ///
     /// # Errors
     ///

@@ -1,7 +1,7 @@
 -- What the answer to a form, and to a refusal of the reader, is to a session.
 use Rattle.std.specs.Prelude.{◌≡◌, ◌≢◌, ◌⊎◌, ℕ, ◌+◌, ◌≤◌, Bool, true, false, List, [], ◌∷◌, ◌++◌, length, Option, None, Some, IsSome, Ok, Err, Result}
 use Rattle.disk_trait.specs.Disk.{State}
-use Rattle.gate_log.specs.Layout.{LogRecord}
+use Rattle.gate_log.specs.Layout.{LogRecord, size_of_record}
 use Rattle.lisp_object.specs.Object.{Object, IsSound}
 use Rattle.lisp_object.specs.Datum.{object_of, is_proper}
 use Rattle.form_eval.specs.declared.read_form.ReadForm.{ReadForm}
@@ -60,7 +60,7 @@ LeavesRecord Logged taken fill now wrote =
 
 -- the half had room for this record
 abbrev pub LogsAtOnce : ℕ → (fill now : Fill) → LogRecord → Type 0
-LogsAtOnce limit fill now entry = (fill.size + (6 + length entry.text) ≤ limit) × (now ≡ fill_with_record entry fill)
+LogsAtOnce limit fill now entry = (fill.size + size_of_record fill.version (length entry.text) ≤ limit) × (now ≡ fill_with_record entry fill)
 
 -- what became of a form that has a line: it was accepted, and logged or not, or refused with a number. Of one that failed
 -- without a line nothing is meant.
@@ -140,20 +140,20 @@ module _ (functions : Functions) {D R : Type 0} (state : D → State) (old new :
   -- what is in the half in use of a form in which the session has ended: nothing, or its record if it left one
   abbrev pub EndsTry : (text : List ℕ) (held written : Option (List ℕ)) (number : ℕ) → StopsInForm text held written number → Type 0
   EndsTry text held written number stops =
-      ((number ≡ NO_MEMORY) × (stops.serves.far ≡ first_progress world text) × (fill_of new ≡ fill_of old))
+      ((number ≡ NO_MEMORY) × (stops.serves.far ≡ first_progress world text) × (fill_of state new ≡ fill_of state old))
       ⊎ (((stops.serves.forms ≡ 1) × (number ≡ OUTPUT)
-      × ((wrote : Bool) × LeavesRecord (LogsAtOnce old.limit (fill_of old) (fill_of new)) stops.serves.far.taken (fill_of old) (fill_of new) wrote))
-      ⊎ ((number ≡ DEVICE) × (stops.serves.forms ≡ stops.serves.lines + 1) × (stops.serves.answered ≡ first_progress world text) × (fill_of new ≡ fill_of old)))
+      × ((wrote : Bool) × LeavesRecord (LogsAtOnce old.limit (fill_of state old) (fill_of state new)) stops.serves.far.taken (fill_of state old) (fill_of state new) wrote))
+      ⊎ ((number ≡ DEVICE) × (stops.serves.forms ≡ stops.serves.lines + 1) × (stops.serves.answered ≡ first_progress world text) × (fill_of state new ≡ fill_of state old)))
 
   -- The form that the text begins with was answered; or it has no room, and nothing was done; or the session has ended in it,
   -- with this number.
   abbrev pub TriesForm : List ℕ → Option (List ℕ) → Option (List ℕ) → Result Answered ℕ → Type 0
   TriesForm text held written (Ok answered) =
       (far : Progress) × Advances functions state old new world mode text held written 1 far
-      × LeavesRecord (LogsAtOnce old.limit (fill_of old) (fill_of new)) far.taken (fill_of old) (fill_of new) (was_logged answered)
+      × LeavesRecord (LogsAtOnce old.limit (fill_of state old) (fill_of state new)) far.taken (fill_of state old) (fill_of state new) (was_logged answered)
       × TellsForm functions world mode text far answered
   TriesForm text held written (Err number) =
-      (number ≡ LOG_FULL → IsOver functions old world mode text)
+      (number ≡ LOG_FULL → IsOver functions state old world mode text)
       × (number ≢ LOG_FULL → (stops : StopsInForm text held written number) × EndsTry text held written number stops)
 
   -- The form that the text begins with was answered, if it had no room after a snapshot; or the session has ended in it, with
@@ -161,7 +161,7 @@ module _ (functions : Functions) {D R : Type 0} (state : D → State) (old new :
   abbrev pub FitsForm : List ℕ → Option (List ℕ) → Option (List ℕ) → Result Answered ℕ → Type 0
   FitsForm text held written (Ok answered) =
       (far : Progress) × Advances functions state old new world mode text held written 1 far
-      × LeavesRecord (λ entry. LogsWithRoom old.limit world entry (fill_of old) (fill_of new)) far.taken (fill_of old) (fill_of new) (was_logged answered)
+      × LeavesRecord (λ entry. LogsWithRoom old.limit world entry (fill_of state old) (fill_of state new)) far.taken (fill_of state old) (fill_of state new) (was_logged answered)
       × TellsForm functions world mode text far answered
   FitsForm text held written (Err number) =
       (stops : StopsInForm text held written number)
@@ -172,7 +172,7 @@ module _ (functions : Functions) {D R : Type 0} (state : D → State) (old new :
   abbrev pub AnswersForm : (pace later : Pace) → List ℕ → Option (List ℕ) → Option (List ℕ) → Result Answered ℕ → Type 0
   AnswersForm pace later text held written (Ok answered) =
       (far : Progress) × Advances functions state old new world mode text held written 1 far
-      × PacesForms functions old.limit world far.taken pace later (fill_of old) (fill_of new)
+      × PacesForms functions old.limit world far.taken pace later (fill_of state old) (fill_of state new)
       × TellsForm functions world mode text far answered
   AnswersForm pace later text held written (Err number) =
       (stops : StopsInForm text held written number) × ServesInPace functions state pace old new world mode text held written (Store number) stops.serves
@@ -184,7 +184,7 @@ module _ (functions : Functions) {D R : Type 0} (state : D → State) (course la
   pub record PassesForm (refusals : List ℕ) : Type 0 where
     pub far : Progress
     pub advances : Advances functions state old new world wanted.mode text held written 1 far
-    pub paced : PacesForms functions old.limit world far.taken course.pace later.pace (fill_of old) (fill_of new)
+    pub paced : PacesForms functions old.limit world far.taken course.pace later.pace (fill_of state old) (fill_of state new)
     pub forms : later.forms ≡ course.forms + 1
     pub bytes : later.bytes ≡ course.bytes + next
     pub refused_are : far.refused ≡ refusals

@@ -2,7 +2,7 @@
 use Rattle.std.specs.Prelude.{◌≡◌, ℕ, ◌+◌, ◌<◌, ◌≤◌, Bool, true, false, List, [], ◌∷◌, length, Option, Some, IsSome, Ok, Err, Result, IfErr, IfOk}
 use Rattle.disk_trait.specs.Disk.{State}
 use Rattle.disk_trait.specs.Half.{opposite_of}
-use Rattle.gate_log.specs.Layout.{LogRecord}
+use Rattle.gate_log.specs.Layout.{LogRecord, size_of_record}
 use Rattle.lisp_object.specs.Object.{Object}
 use Rattle.lisp_object.specs.Datum.{object_of}
 use Rattle.form_eval.specs.Laws.{MayEvaluate}
@@ -46,13 +46,13 @@ of_unlogged unlogged.OutOfMemory = OutOfMemory
 abbrev pub EvaluationHasWritten : Evaluation Object → Type 0
 EvaluationHasWritten given = (done : Done Object) × (given ≡ Ok done) × (done.wrote ≡ true)
 
--- Each failure with its cause, of a form whose evaluation gave this, in a half of this size and limit, by a record with a
--- text of this length: evaluation refused it; or the form wrote, and the record does not fit; or it does, and the device failed.
-abbrev pub IsCause : Evaluation Object → (size limit length : ℕ) → Failure → Type 0
-IsCause given size limit length (Refused number) = given ≡ Err number
-IsCause given size limit length Full = EvaluationHasWritten given × (limit < size + (6 + length))
-IsCause given size limit length DeviceFault = EvaluationHasWritten given × (size + (6 + length) ≤ limit)
-IsCause given size limit length OutOfMemory = Unit {0}
+-- Each failure with its cause, of a form whose evaluation gave this, where the half would have this size with its record, and has this
+-- limit: evaluation refused it; or the form wrote, and the record does not fit; or it does, and the device failed.
+abbrev pub IsCause : Evaluation Object → (size limit : ℕ) → Failure → Type 0
+IsCause given size limit (Refused number) = given ≡ Err number
+IsCause given size limit Full = EvaluationHasWritten given × (limit < size)
+IsCause given size limit DeviceFault = EvaluationHasWritten given × (size ≤ limit)
+IsCause given size limit OutOfMemory = Unit {0}
 
 -- ---- the record that it has, and whether that is acknowledged
 
@@ -82,7 +82,8 @@ pub record IsFormIn (functions : Functions) (left : Option WorldState) (mode : M
 pub record TakesForm (functions : Functions) {D R : Type 0} (state : D → State) (old new : StoreView D R) (mode : Mode) (text : List ℕ) (object : Object) (result : Result Evaluated Failure) : Type 0 where
   pub accepted : (world : WorldState) → old.world ≡ Some world → IfOk result (λ evaluated.
       (given : WorldState) × (transaction_value functions.names world object ≡ Ok (done evaluated given)) × Stores state old new evaluated.wrote mode text given)
-  pub cause : (world : WorldState) → old.world ≡ Some world → IfErr result (IsCause (transaction_value functions.names world object) old.size old.limit (length text))
+  pub cause : (world : WorldState) → old.world ≡ Some world → IfErr result
+      (IsCause (transaction_value functions.names world object) (old.size + size_of_record old.version (length text)) old.limit)
   pub unchanged : IfErr result (λ failure. is_device failure ≡ false → new ≡ old)
   pub fault : IfErr result (λ failure. is_device failure ≡ true → DeviceFails state old new (opposite_of old.half))
   pub survives : (world : WorldState) → SurvivesAs functions state old new world (taken_in mode text result) (acknowledged_count mode text result)

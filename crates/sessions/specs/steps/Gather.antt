@@ -3,7 +3,7 @@ use Rattle.std.specs.Prelude.{◌≡◌, ℕ, ◌+◌, ◌<◌, ◌≤◌, ◌^�
 use Rattle.std.specs.List.{AllByRecursion}
 use Rattle.disk_trait.specs.Disk.{State}
 use Rattle.form_eval.specs.Laws.{MayEvaluate}
-use Rattle.gate_log.specs.Layout.{IsLogRecord, LogRecord}
+use Rattle.gate_log.specs.Layout.{IsLogRecord, LogRecord, batch_size, size_of_record}
 use Rattle.lisp_object.specs.Datum.{object_of}
 use Rattle.lisp_object.specs.Object.{Object}
 use Rattle.lisp_operators.specs.Evaluation.{Evaluation}
@@ -20,7 +20,6 @@ use Rattle.sessions.specs.declared.input.Pending.{Pending}
 use Rattle.sessions.specs.declared.group.Grouped.{Grouped}
 use Rattle.sessions.specs.declared.group.Grouped.TheVariants as grouped
 use Rattle.sessions.specs.declared.whole_forms.WholeForms.{WholeForms}
-use Rattle.sessions.specs.Serve.{room_of}
 use Rattle.prevalence_store.specs.calls.Store.{StoreView}
 use Rattle.prevalence_store.specs.meaning.Acceptance.{after, between, read_in, transaction_value}
 use Rattle.sessions.specs.FormAnswers.{Progress, after_forms, form_progress}
@@ -39,9 +38,9 @@ pub record BeginsWhole (functions : Functions) (world : WorldState) (mode : Mode
   pub is_own : own ≡ between start stop text
   pub within : next ≤ length text
 
--- how many bytes the record of a form with this text takes, if it is logged
-abbrev pub record_size : (logged : Bool) → List ℕ → ℕ
-record_size logged own = if logged then 6 + length own else 0
+-- how many bytes the record of a form with this text takes in a half of this version, if it is logged
+abbrev pub size_if_logged : (version : ℕ) (logged : Bool) → List ℕ → ℕ
+size_if_logged version logged own = if logged then size_of_record version (length own) else 0
 
 -- no form is gathered yet
 pub record HoldsNoForm (gathered : GatheredForms) : Type 0 where
@@ -60,6 +59,7 @@ pub record AreWithinLimit (next many : ℕ) (limit : GroupLimit) (gathered : Gat
   pub others : gathered.bytes ≤ next + many
   pub records : gathered.records ≤ limit.forms
   pub record_bytes : gathered.record_bytes ≤ limit.bytes
+  pub limit_is : gathered.limit ≡ limit
 
 -- A turn over whole forms may be taken in a world in which a text begins with its first form, and goes on as its piece.
 pub record MayBeTaken (functions : Functions) (turn : WholeForms) (world : WorldState) : Type 0 where
@@ -83,7 +83,8 @@ module _ (functions : Functions) (wanted : SessionOptions) where
     pub counted : new.records ≡ length (entries_in has)
     pub forms : new.forms ≡ old.forms + 1
     pub bytes_are : new.bytes ≡ old.bytes + bytes
-    pub record_bytes : new.record_bytes ≡ old.record_bytes + room_of (form_progress before wanted.mode own [] given).taken
+    pub record_bytes : new.record_bytes ≡ old.record_bytes + batch_size old.limit.version (form_progress before wanted.mode own [] given).taken
+    pub limit : new.limit ≡ old.limit
 
   -- the form that these bytes begin with was added, which takes so many of them
   pub record AddsNextForm (piece : List ℕ) (before after : WorldState) (had has : Batch) (old new : GatheredForms) (count : ℕ) : Type 0 where
@@ -104,7 +105,7 @@ module _ (functions : Functions) (wanted : SessionOptions) where
     pub taken : records ≡ far.taken
     pub counted : gathered.records ≡ length records
     pub accepted : wanted.strict ≡ true → far.refused ≡ []
-    pub record_bytes : gathered.record_bytes ≡ room_of far.taken
+    pub record_bytes : gathered.record_bytes ≡ batch_size gathered.limit.version far.taken
     pub again : after functions first far.taken ≡ Some far.world
     pub fit : AllByRecursion IsLogRecord far.taken
 

@@ -41,7 +41,7 @@ module _ (functions : Functions) {D R : Type 0} (state : D → State) (old new :
   -- after a form that was logged: if none is due, or there is no half for it, nothing was done; and else it was taken
   abbrev pub RenewsIfDue : Pace → Type 0
   RenewsIfDue pace =
-      ((IsDue pace (fill_of old) → ⊥) × (new ≡ old)) ⊎ (IsDue pace (fill_of old) × ((IsTooLarge old world × (new ≡ old)) ⊎ IsSnapshotted functions state old new world))
+      ((IsDue pace (fill_of state old) → ⊥) × (new ≡ old)) ⊎ (IsDue pace (fill_of state old) × ((IsTooLarge (state old.disk).mixes old world × (new ≡ old)) ⊎ IsSnapshotted functions state old new world))
 
   -- After a form that was answered: one that was logged was counted, and a snapshot was taken if it is due; or it has ended the
   -- session, with this number.
@@ -49,4 +49,4 @@ module _ (functions : Functions) {D R : Type 0} (state : D → State) (old new :
   RenewsAfterForm wrote pace later None =
       ((wrote ≡ false) × (later ≡ pace) × (new ≡ old)) ⊎ ((wrote ≡ true) × CountsLoggedForm pace later × RenewsIfDue pace)
   RenewsAfterForm wrote pace later (Some number) =
-      (wrote ≡ true) × IsDue pace (fill_of old) × (IsSnapshotFault functions state old new world number ⊎ HasNoSnapshotMemory functions state old new world number)
+      (wrote ≡ true) × IsDue pace (fill_of state old) × (IsSnapshotFault functions state old new world number ⊎ HasNoSnapshotMemory functions state old new world number)

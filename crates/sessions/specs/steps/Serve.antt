@@ -39,7 +39,7 @@ pub record SessionGoesOn (functions : Functions) {D R : Type 0} (state : D → S
   pub forms : ℕ
   pub far : Progress
   pub advances : Advances functions state old new world mode text held written forms far
-  pub paced : PacesForms functions old.limit world far.taken course.pace later.pace (fill_of old) (fill_of new)
+  pub paced : PacesForms functions old.limit world far.taken course.pace later.pace (fill_of state old) (fill_of state new)
   pub comes : CourseComesOn course later forms text far.rest
   pub accepted : strict ≡ true → far.refused ≡ []
   pub stays : (more : List ℕ) → after_forms functions forms world mode (text ++ more) ≡ Some (record far { rest = far.rest ++ more })

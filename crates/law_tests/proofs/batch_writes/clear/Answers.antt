@@ -1,6 +1,6 @@
 use Rattle.std.proofs.Common.{List, ℕ, inl, inr, sym, subst}
 use Rattle.disk_trait.specs.Disk.{Image, Mixed}
-use Rattle.gate_log.specs.Version3.{HoldsBatches}
+use Rattle.batched_half.specs.Version3.{HoldsBatches}
 use Rattle.law_tests.proofs.batch_writes.clear.Goals as goal
 
 pub returns-clause-held : goal.returns-clause-held

@@ -2,7 +2,7 @@ use Rattle.std.proofs.Common.{◌≡◌, ◌+◌, List, ℕ, length, inl, inr, s
 use Rattle.std.proofs.lemmas.Result.{on_ok_weaker}
 use Rattle.disk_trait.specs.Disk.{Image, Mixed, written}
 use Rattle.gate_log.specs.Layout.{with_records}
-use Rattle.gate_log.specs.Version3.{EndsInZeros, HoldsBatches}
+use Rattle.batched_half.specs.Version3.{EndsInZeros, HoldsBatches}
 use Rattle.law_tests.proofs.batch_writes.write_batch.Goals as goal
 
 pub returns-clause-left : goal.returns-clause-left

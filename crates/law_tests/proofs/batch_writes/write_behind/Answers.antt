@@ -1,6 +1,6 @@
 use Rattle.std.proofs.Common.{ℕ, length, inl, inr, sym, subst}
 use Rattle.disk_trait.specs.Disk.{Image, Torn}
-use Rattle.gate_log.specs.Version3.{HoldsBatches}
+use Rattle.batched_half.specs.Version3.{HoldsBatches}
 use Rattle.law_tests.proofs.batch_writes.write_behind.Goals as goal
 
 pub returns-clause-held : goal.returns-clause-held

@@ -1,7 +1,7 @@
 use Rattle.std.proofs.Common.{inl, inr, sym, subst}
 use Rattle.std.proofs.lemmas.Result.{on_ok_weaker}
 use Rattle.disk_trait.specs.Disk.{Image}
-use Rattle.gate_log.specs.Version3.{HoldsBatches}
+use Rattle.batched_half.specs.Version3.{HoldsBatches}
 use Rattle.law_tests.proofs.batch_writes.write_mark.Goals as goal
 
 pub returns-clause-left : goal.returns-clause-left

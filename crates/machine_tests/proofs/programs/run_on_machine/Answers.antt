@@ -2,7 +2,7 @@ use Rattle.std.proofs.Common.{◌⊎◌, refl}
 use Rattle.command_words.specs.declared.words.Task.TheVariants.{Run}
 use Rattle.machine_tests.proofs.Machines.{honest_as_opened, opened_so, there_after}
 use Rattle.machine_tests.specs.Machine.{IsThereByThen}
-use Rattle.store_commands.specs.Commands.{DoesAfter, AreStreamsUntouched, TellsUnopened}
+use Rattle.store_commands.specs.Commands.{DoesAfter, AreStreamsUntouched, IsStatusOfUnopenedStore}
 use Rattle.store_commands.specs.Folders.{OpensStore}
 use Rattle.store_commands.specs.Output.{held_by}
 use Rattle.user_macros.specs.Functions.{are_registered}
@@ -28,7 +28,7 @@ returns g c = λ folder existing wanted taken.
       opened_so input left held written (OpensStore state tells opens)
           (DoesAfter functions state macros whole remaining contents input left held written (Run wanted) status given.0)
           (λ disk. IsThereByThen functions wanted state macros (remaining input) (remaining left) (contents held) (contents written) disk
-          ⊎ ((back : _) × TellsUnopened functions state disk back whole status × AreStreamsUntouched input left held written))
+          ⊎ ((back : _) × IsStatusOfUnopenedStore functions state disk back whole status × AreStreamsUntouched input left held written))
           folder existing status given.0
           (λ disk opened does.
           let honest = honest_as_opened state tells opens folder existing disk c.requires.honest opened in

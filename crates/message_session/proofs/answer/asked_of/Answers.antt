@@ -3,16 +3,16 @@ use Rattle.std.proofs.lemmas.List.{length-map, map-append, take_all, take_more}
 use Rattle.client_table.specs.declared.asked.AnyRequest.{AnyRequest}
 use Rattle.message_frames.specs.Frames.{sent_frame}
 use Rattle.message_frames.specs.declared.frame.MessageFrame.{MessageFrame}
-use Rattle.message_session.specs.FrameAnswers.{parts_of_asked}
+use Rattle.message_session.specs.FrameAnswers.{frame_of_request}
 use Rattle.message_session.proofs.Requests.{as_many}
 use Rattle.message_session.proofs.answer.asked_of.Goals as goal
 
 -- one frame more
 one_more : (frames : List MessageFrame) (n : ℕ) (default : MessageFrame) (all later : List AnyRequest) (one : AnyRequest) → n < length frames → later ≡ all ++ one ∷ []
-    → parts_of_asked one ≡ sent_frame (get_or frames n default) → map parts_of_asked all ≡ map sent_frame (take n frames) → map parts_of_asked later ≡ map sent_frame (take (n + 1) frames)
+    → frame_of_request one ≡ sent_frame (get_or frames n default) → map frame_of_request all ≡ map sent_frame (take n frames) → map frame_of_request later ≡ map sent_frame (take (n + 1) frames)
 one_more frames n default all later one within is same pairs =
-    ap (map parts_of_asked) is
-    ∙ map-append parts_of_asked all (one ∷ [])
+    ap (map frame_of_request) is
+    ∙ map-append frame_of_request all (one ∷ [])
     ∙ (λ i. pairs i ++ same i ∷ [])
     ∙ sym (map-append sent_frame (take n frames) (get_or frames n default ∷ []))
     ∙ ap (map sent_frame) (sym (take_more frames n default within))

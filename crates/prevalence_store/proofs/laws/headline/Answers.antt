@@ -12,5 +12,5 @@ pub returns-clause-refused : goal.returns-clause-refused
 returns-clause-refused g c = λ functions start world earlier later image crashed back limit number honest keeps run might reads still refused.
     let all = headline_holds functions g.D.Disk.state g.met.D.Disk.sound start world earlier later honest keeps run in
     let some = all.any_moment image might in
-    subst (λ (i : Image). IsNoWord (limit_of limit) i refused.fault) reads
+    subst (λ (i : Image). IsNoWord (g.D.Disk.state crashed).mixes (limit_of limit) i refused.fault) reads
     (refused.meant some.left still (subst (λ (i : Image). MeansWorld functions i some.left) (sym reads) some.meant))

@@ -36,7 +36,7 @@ returns-in-Err-renew-clause-fits g c = λ w known text next begins.
     let full = c.if-number-ne-LOG_FULL.false in
     let same = c.in-Err.ensures.unchanged full in
     let here = ap (λ (s : StoreView g.row.D.Denot g.row.R.Denot). s.world) same ∙ known in
-    let over = subst (λ (s : StoreView g.row.D.Denot g.row.R.Denot). IsOver functions s w c.args.mode text) (sym same) ((c.in-Err.ensures.tries w known text next begins).0 full) in
+    let over = subst (λ (s : StoreView g.row.D.Denot g.row.R.Denot). IsOver functions g.D.Disk.state s w c.args.mode text) (sym same) ((c.in-Err.ensures.tries w known text next begins).0 full) in
     let held = g.W.Recipient.contents c.try_form.new.writer in
     fits_from functions g.D.Disk.state c.args.store.now c.try_form.new.store c.renew.new.store w c.args.mode text (g.W.Recipient.contents c.args.writer.now) held held (Err c.in-Err-renew.number)
     same (ap (λ v. g.W.Recipient.contents v) (c.in-Err.ensures.quiet full))
@@ -49,7 +49,7 @@ returns-in_default-clause-fits g c = λ w known text next begins.
     let full = c.if-number-ne-LOG_FULL.false in
     let same = c.in-Err.ensures.unchanged full in
     let here = ap (λ (s : StoreView g.row.D.Denot g.row.R.Denot). s.world) same ∙ known in
-    let over = subst (λ (s : StoreView g.row.D.Denot g.row.R.Denot). IsOver functions s w c.args.mode text) (sym same) ((c.in-Err.ensures.tries w known text next begins).0 full) in
+    let over = subst (λ (s : StoreView g.row.D.Denot g.row.R.Denot). IsOver functions g.D.Disk.state s w c.args.mode text) (sym same) ((c.in-Err.ensures.tries w known text next begins).0 full) in
     let held = g.W.Recipient.contents c.try_form.new.writer in
     let again = c.try_form-in-Err in
     let is = c.in_default.ensures.renews w here in

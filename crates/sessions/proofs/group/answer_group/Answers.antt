@@ -2,6 +2,7 @@ use Rattle.std.proofs.Common.{◌≡◌, ◌++◌, ◌-◌, Bool, true, false, n
 use Rattle.prevalence_store.specs.declared.failure.Unlogged.{Unlogged}
 use Rattle.prevalence_store.specs.declared.failure.Unlogged.TheVariants.{DeviceFault}
 use Rattle.sessions.specs.Pace.{Pace}
+use Rattle.sessions.specs.declared.gather.GroupLimit.{GroupLimit}
 use Rattle.sessions.specs.Streams.{Writes, WritesPart}
 use Rattle.sessions.specs.steps.Course.{Course, course_of}
 use Rattle.sessions.specs.steps.Gather.{TakesGroup}
@@ -96,7 +97,7 @@ returns-in-Ok-write_lines-clause-answers g c = λ w known text begins pending.
     (omega (arith, counts.first))
     (subst (λ (p : Pace). CountsAll gathered.records course.pace p) (sym (ap (λ (k : Course). k.pace) passed))
     c.pass.ensures)
-    c.room_before_grown-bytes.result c.room_before_grown-bytes.ensures.grown counts.record_bytes
+    c.room_before_grown-bytes.result c.room_before_grown-bytes.ensures.grown (counts.record_bytes, ap (λ (l : GroupLimit). l.version) counts.limit_is ∙ c.version.ensures.value)
     (ap (λ (k : Course). k.forms) passed) (ap (λ (k : Course). k.bytes) passed)
 
 pub returns-in-Ok-write_lines-clause-hands : goal.returns-in-Ok-write_lines-clause-hands
@@ -118,7 +119,7 @@ returns-clause-answers g c = λ w known text begins pending.
     (grouped c.args.wanted.group c.if-not-wanted.false) gathered counts.some (rw c.in-Some.is at c.in-Ok.ensures.takes w known text begins pending)
     (subst (WritesPart held written) c.as_slice.ensures.value c.in-Err-write_lines.ensures.part)
     (fewer_before_due course.pace gathered.records c.before_due-forms.result counts.records c.before_due-forms.ensures)
-    c.room_before_grown-bytes.result c.room_before_grown-bytes.ensures.grown counts.record_bytes
+    c.room_before_grown-bytes.result c.room_before_grown-bytes.ensures.grown (counts.record_bytes, ap (λ (l : GroupLimit). l.version) counts.limit_is ∙ c.version.ensures.value)
 
 pub returns-then-matches-clause-under_way : goal.returns-then-matches-clause-under_way
 returns-then-matches-clause-under_way g c = λ ended is.

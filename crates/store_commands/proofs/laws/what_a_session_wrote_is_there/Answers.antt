@@ -1,6 +1,6 @@
 use Rattle.std.proofs.Common.{IsTrue, subst, sym}
 use Rattle.sessions.specs.Account.{first_account}
-use Rattle.session_ledger.specs.OutgoingLines.{disk_at}
+use Rattle.session_ledger.specs.OutgoingLines.{disk_after_lines}
 use Rattle.store_laws.proofs.Handings.{are_calls}
 use Rattle.store_commands.proofs.RowCalls.{rows_in_turn}
 use Rattle.store_commands.proofs.laws.what_a_session_wrote_is_there.Goals as goal
@@ -10,7 +10,7 @@ returns-clause-one g c = λ functions wanted disk back macros had has held writt
     let opened = session.is_opened in
     let first = first_account opened.world wanted.mode had session.opened.disk in
     c.what_went_out_is_there.ensures functions first session.closed held written (subst IsTrue (sym opened.honest) honest) (opened.reopens honest).kept session.went k fits image
-    (subst (λ d. (g.D.Disk.state d).left_since (g.D.Disk.state (disk_at first session.went.out.sent k)).moment image) session.disk_is might)
+    (subst (λ d. (g.D.Disk.state d).left_since (g.D.Disk.state (disk_after_lines first session.went.out.sent k)).moment image) session.disk_is might)
 
 pub returns-clause-in_turn : goal.returns-clause-in_turn
 returns-clause-in_turn g c = λ functions wanted disk back macros had has held written ended honest row.

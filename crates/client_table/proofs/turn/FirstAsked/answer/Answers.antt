@@ -2,7 +2,8 @@ use Rattle.std.proofs.Common.{◌≡◌, [], ◌∷◌, Some, length, length-app
 use Rattle.client_table.specs.CallsByName.{KeepsAnswers, RefusesAnyOwn}
 use Rattle.client_table.specs.Named.{all_answered}
 use Rattle.client_table.specs.Turn.{asked_front, first_asked}
-use Rattle.client_table.proofs.Settling.{replied_silent, replied_written, round as round_of}
+use Rattle.client_table.proofs.Settling.{round as round_of}
+use Rattle.messages.proofs.Settling.{replied_silent, replied_written}
 use Rattle.client_table.proofs.turn.FirstAsked.answer.Goals as goal
 use Rattle.messages.specs.MessageAnswers.{Round, first_round}
 use Rattle.messages.specs.Rounds.{IfRefused, MayBeLogged, round_in}
@@ -74,7 +75,7 @@ returns-then-not-wrote-clause-made g c =
     = c.in-Ok.ensures.answered ∙ ap (λ (r : Round). all_answered functions turn.most r (first_asked functions turn.most (Some ANSWER_BYTES) r turn.asked.now)) first_is in
     let made = c.in-Ok.ensures.made w.0 (subst (MayBeLogged functions w.0) (sym first_is) (record { again = refl; fit = tt })) in
     let kept = subst (λ (r : Round). KeepsAnswers functions turn.most r (first_asked functions turn.most (Some ANSWER_BYTES) r turn.asked.now)) first_is c.in-Ok.ensures.kept in (
-      replied_silent functions turn w.0 held v turned made c.into_parts-replies.result.0 c.into_parts-replies.ensures.answers c.into_parts-replies.ensures.last c.args.batch.now
+      replied_silent functions w.0 (round_of functions turn w.0) held v turned made c.into_parts-replies.result.0 c.into_parts-replies.ensures.answers c.into_parts-replies.ensures.last c.args.batch.now
           c.back_to-then-not-wrote.new.self.0 (sym (c.has_written-wrote.ensures v) ∙ c.if-not-wrote.true) (ap (λ (s : Worlds). s.0) back) c.requires.none,
       kept,
     )
@@ -100,7 +101,7 @@ returns-clause-made g c =
     = c.in-Ok.ensures.answered ∙ ap (λ (r : Round). all_answered functions turn.most r (first_asked functions turn.most (Some ANSWER_BYTES) r turn.asked.now)) first_is in
     let made = c.in-Ok.ensures.made w.0 (subst (MayBeLogged functions w.0) (sym first_is) (record { again = refl; fit = tt })) in
     let kept = subst (λ (r : Round). KeepsAnswers functions turn.most r (first_asked functions turn.most (Some ANSWER_BYTES) r turn.asked.now)) first_is c.in-Ok.ensures.kept in (
-      replied_written functions turn w.0 held v turned made c.into_parts-replies.result.0 c.into_parts-replies.ensures.answers c.into_parts-replies.ensures.last c.into_parts-replies.result.1
+      replied_written functions w.0 (round_of functions turn w.0) held v turned made c.into_parts-replies.result.0 c.into_parts-replies.ensures.answers c.into_parts-replies.ensures.last c.into_parts-replies.result.1
           (sym (c.has_written-wrote.ensures v) ∙ c.if-not-wrote.false) c.into_parts-replies.ensures.batch,
       kept,
     )

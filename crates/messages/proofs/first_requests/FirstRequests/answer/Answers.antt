@@ -70,7 +70,7 @@ returns-then-not-wrote-clause-made g c =
     let first : round_in c.new-round.result c.begin.new.world.0 ≡ first_round turn.last w.0 = c.new-round.ensures ∙ ap (λ (s : Worlds). first_round turn.last s.0) c.in_ok-begun.ensures.marked in
     let turned : round_in held v ≡ round_of functions turn w.0 = c.in-Ok.ensures.answered ∙ ap (λ (r : Round). round_after_requests functions r (first_of functions turn.most r turn.requests.now)) first in
     let made = c.in-Ok.ensures.made w.0 (subst (MayBeLogged functions w.0) (sym first) (record { again = refl; fit = tt })) in
-    replied_silent functions turn w.0 held v turned made c.into_parts-replies.result.0 c.into_parts-replies.ensures.answers c.into_parts-replies.ensures.last c.args.batch.now
+    replied_silent functions w.0 (round_of functions turn w.0) held v turned made c.into_parts-replies.result.0 c.into_parts-replies.ensures.answers c.into_parts-replies.ensures.last c.args.batch.now
     c.back_to-then-not-wrote.new.self.0 c.if-not-wrote.true (ap (λ (s : Worlds). s.0) back) c.requires.none
 
 pub returns-then-not-wrote-clause-marks : goal.returns-then-not-wrote-clause-marks
@@ -92,7 +92,7 @@ returns-clause-made g c =
     let first : round_in c.new-round.result c.begin.new.world.0 ≡ first_round turn.last w.0 = c.new-round.ensures ∙ ap (λ (s : Worlds). first_round turn.last s.0) c.in_ok-begun.ensures.marked in
     let turned : round_in held v ≡ round_of functions turn w.0 = c.in-Ok.ensures.answered ∙ ap (λ (r : Round). round_after_requests functions r (first_of functions turn.most r turn.requests.now)) first in
     let made = c.in-Ok.ensures.made w.0 (subst (MayBeLogged functions w.0) (sym first) (record { again = refl; fit = tt })) in
-    replied_written functions turn w.0 held v turned made c.into_parts-replies.result.0 c.into_parts-replies.ensures.answers c.into_parts-replies.ensures.last c.into_parts-replies.result.1 c.if-not-wrote.false c.into_parts-replies.ensures.batch
+    replied_written functions w.0 (round_of functions turn w.0) held v turned made c.into_parts-replies.result.0 c.into_parts-replies.ensures.answers c.into_parts-replies.ensures.last c.into_parts-replies.result.1 c.if-not-wrote.false c.into_parts-replies.ensures.batch
 
 pub returns-clause-marks : goal.returns-clause-marks
 returns-clause-marks g c = λ worlds before.

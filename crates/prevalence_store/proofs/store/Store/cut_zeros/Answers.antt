@@ -23,7 +23,7 @@ invariant_of-self g c =
             (
               0,
               (zeros_gone functions state g.met.D.Disk.sound inside.log.failed inside.log.halves new inside.world.0 inside.world.0 inside.macros
-                  (store_view_of inside.log.failed inside.log.halves inside.world.0 inside.macros) refl here c.self.invariant.1 e.used e.limit e.tells.honest e.any_moment e.other
+                  (store_view_of inside.log.failed inside.log.halves inside.world.0 inside.macros) refl here c.self.invariant.1 e.used e.limit e.tells.honest e.tells.mixes e.any_moment e.other
                   e.tells.failures e.done e.file true refl).survives,
             ),
           ))
@@ -35,7 +35,7 @@ returns-in-Ok-clause-answer g c = λ w known.
     let inside = c.self.inside in
     let e = c.in-Ok.ensures in
     zeros_gone g.R.Meaning.Meaning.functions g.D.Disk.state g.met.D.Disk.sound inside.log.failed inside.log.halves c.cut_zeros.new.self inside.world.0 w inside.macros c.args.self.now
-    c.self.view_is known c.self.invariant.1 e.used e.limit e.tells.honest e.any_moment e.other e.tells.failures e.done e.file c.args.wrote c.if-not-wrote.false
+    c.self.view_is known c.self.invariant.1 e.used e.limit e.tells.honest e.tells.mixes e.any_moment e.other e.tells.failures e.done e.file c.args.wrote c.if-not-wrote.false
 
 pub returns-in-Err-OutOfMemory-clause-answer : goal.returns-in-Err-OutOfMemory-clause-answer
 returns-in-Err-OutOfMemory-clause-answer g c = λ w known.
@@ -66,5 +66,5 @@ returns-in-Err-DeviceFault-clause-answer g c = λ w known.
     let was = c.in-Err-DeviceFault.field-0-is in
     let is : c.in-Err-DeviceFault.field-0 ≡ DeviceFault = cc in
     inl (zeros_fault g.R.Meaning.Meaning.functions g.D.Disk.state g.met.D.Disk.sound inside.log.failed inside.log.halves c.cut_zeros.new.self inside.world.0 w inside.macros c.args.self.now
-    c.self.view_is known c.self.invariant.1 e.used e.limit e.tells.honest e.any_moment e.other
+    c.self.view_is known c.self.invariant.1 e.used e.limit e.tells.honest e.tells.mixes e.any_moment e.other
     (rises_risen (is_read_fault c.in-Err-DeviceFault.field-0) _ _ e.tells.failures (ap is_read_fault is)))

@@ -85,7 +85,7 @@ returns-then-is_full-clause-taken g c =
     let turn = c.args.self.now in
     record {
       gathers = λ text begins left. (so_far.gathers text begins left).0;
-      counts = counted_by turn.first.now.next (length turn.rest.now) turn.limit turn.limit c.forms.gathered refl so_far.some so_far.forms so_far.first (omega (arith, so_far.bytes)) so_far.records so_far.record_bytes;
+      counts = counted_by turn.first.now.next (length turn.rest.now) turn.limit c.forms.gathered so_far.limit so_far.some so_far.forms so_far.first (omega (arith, so_far.bytes)) so_far.records so_far.record_bytes;
       none = λ is. absurd (cc);
     }
 
@@ -103,7 +103,7 @@ returns-in-None-clause-taken g c =
           (subst (λ (b : Batch). AreFormsGathered functions turn.wanted w text c.forms.world.0 (entries_in b) c.add_next.new.self) (sym same.1)
           (subst (λ (x : GatheredForms). AreFormsGathered functions turn.wanted w text c.forms.world.0 (entries_in c.forms.batch) x) (sym same.2) (so_far.gathers text begins left).0));
       counts = subst (AreWithinLimit turn.first.now.next (length turn.rest.now) turn.limit) (sym same.2)
-          (counted_by turn.first.now.next (length turn.rest.now) turn.limit turn.limit c.forms.gathered refl so_far.some so_far.forms so_far.first (omega (arith, so_far.bytes)) so_far.records so_far.record_bytes);
+          (counted_by turn.first.now.next (length turn.rest.now) turn.limit c.forms.gathered so_far.limit so_far.some so_far.forms so_far.first (omega (arith, so_far.bytes)) so_far.records so_far.record_bytes);
       none = λ is. absurd (cc);
     }
 
@@ -114,6 +114,6 @@ returns-clause-taken g c =
     let turn = c.args.self.now in
     record {
       gathers = λ text begins left. (so_far.gathers text begins left).0;
-      counts = counted_by turn.first.now.next (length turn.rest.now) turn.limit turn.limit c.forms.gathered refl so_far.some so_far.forms so_far.first (omega (arith, so_far.bytes)) so_far.records so_far.record_bytes;
+      counts = counted_by turn.first.now.next (length turn.rest.now) turn.limit c.forms.gathered so_far.limit so_far.some so_far.forms so_far.first (omega (arith, so_far.bytes)) so_far.records so_far.record_bytes;
       none = λ is. absurd (cc);
     }
