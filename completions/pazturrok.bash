@@ -11,14 +11,14 @@ _pazturrok() {
         install) words='--all --replace' ;;
         release) kind=-f ;;
         run)
-            words='--existing --rescue --strict --group --snapshot-every --snapshot-ratio --quiet --help --operators --wait --messages'
+            words='--existing --rescue --strict --group --snapshot-every --snapshot-ratio --quiet --one-sync --help --operators --wait --messages'
             case " ${COMP_WORDS[*]} " in
-                *' --messages '*) words='--existing --messages --snapshot-every --help --operators --wait' ;;
-                *' --rescue '* | *' --strict '* | *' --group '* | *' --snapshot-ratio '* | *' --quiet '*) words='--existing --rescue --strict --group --snapshot-every --snapshot-ratio --quiet --help --operators --wait' ;;
+                *' --messages '*) words='--existing --messages --snapshot-every --one-sync --help --operators --wait' ;;
+                *' --rescue '* | *' --strict '* | *' --group '* | *' --snapshot-ratio '* | *' --quiet '*) words='--existing --rescue --strict --group --snapshot-every --snapshot-ratio --quiet --one-sync --help --operators --wait' ;;
             esac
             ;;
-        snapshot) words='--existing --help' ;;
-        upgrade) words='--existing --help' ;;
+        snapshot) words='--existing --one-sync --help' ;;
+        upgrade) words='--existing --one-sync --help' ;;
         export) words='--existing --data --help' ;;
         dump) words='--existing --at --help' ;;
         verify) words='--existing --json --help --sums' ;;

@@ -1,18 +1,16 @@
 /* A link of a client that has a name, to the program or to a node: frames go there and answers come back by a socket, one after the other. */
 #define _GNU_SOURCE
 #include "pazturrok_link.h"
+#include "places.h"
 #include <ctype.h>
 #include <errno.h>
 #include <inttypes.h>
-#include <netdb.h>
 #include <spawn.h>
 #include <stdbool.h>
 #include <stdio.h>
 #include <stdlib.h>
 #include <string.h>
 #include <sys/socket.h>
-#include <sys/time.h>
-#include <sys/un.h>
 #include <sys/wait.h>
 #include <time.h>
 #include <unistd.h>
@@ -20,13 +18,14 @@
 extern char **environ;
 
 enum { NAME_LIMIT = 100, HEAD_LIMIT = 64, PIECE = 65536, RESTARTS = 5, NO_PACKAGE = 11 };
-/* A node that says nothing for so many seconds is left, and so many microseconds are between two tries. */
-enum { PATIENCE = 10, PAUSE = 50000 };
+/* So many microseconds are between two tries of nodes. */
+enum { PAUSE = 50000 };
 /* The greatest text of a frame. */
 #define FRAME_LIMIT 1048576u
 
 struct pazturrok_link {
-    char *program, *folder;     /* the program and its folder; or the place of a node, and NULL */
+    char *program, *folder;     /* the program and its folder; or the places of nodes, with commas between them, and NULL */
+    size_t node;                /* where the place of the node that is asked next begins */
     int seconds;                /* so long a node is looked for */
     char name[NAME_LIMIT + 1];
     bool is_open;               /* whether the socket leads anywhere */
@@ -84,47 +83,6 @@ static int start(struct pazturrok_link *link) {
     (void)close(ends[1]);
     if (error) (void)close(ends[0]);
     else link->socket = ends[0];
-    return error;
-}
-
-/* Nodes */
-
-/* A socket that is connected to a path; an error of the system, or 0. */
-static int connect_to_path(int *found, const char *path) {
-    struct sockaddr_un address = {.sun_family = AF_UNIX};
-    if (strlen(path) >= sizeof address.sun_path) return ENAMETOOLONG;
-    (void)snprintf(address.sun_path, sizeof address.sun_path, "%s", path);
-    *found = socket(AF_UNIX, SOCK_STREAM | SOCK_CLOEXEC, 0);
-    if (*found < 0 || connect(*found, (struct sockaddr *)&address, sizeof address) == 0) return *found < 0 ? errno : 0;
-    int error = errno;
-    (void)close(*found);
-    return error;
-}
-
-/* The same of HOST:PORT. */
-static int connect_to_host(int *found, const char *place) {
-    char host[256];
-    const char *colon = strrchr(place, ':');
-    struct addrinfo hints = {.ai_socktype = SOCK_STREAM}, *all, *one;
-    bool has_brackets = place[0] == '[' && colon && colon[-1] == ']';
-    int length = colon ? (int)(colon - place) - 2 * has_brackets : 0, error = EINVAL;
-    (void)snprintf(host, sizeof host, "%.*s", length, place + has_brackets);
-    if (!colon || getaddrinfo(host, colon + 1, &hints, &all) != 0) return error;
-    for (one = all; one && error != 0; one = one->ai_next) {
-        *found = socket(one->ai_family, one->ai_socktype | SOCK_CLOEXEC, one->ai_protocol);
-        error = *found < 0 || connect(*found, one->ai_addr, one->ai_addrlen) < 0 ? errno : 0;
-        if (error && *found >= 0) (void)close(*found);
-    }
-    freeaddrinfo(all);
-    return error;
-}
-
-static int connect_to_node(struct pazturrok_link *link) {
-    const char *place = link->program;
-    struct timeval patience = {.tv_sec = PATIENCE};
-    bool has_prefix = strncmp(place, "unix:", 5) == 0, is_path = has_prefix || strchr(place, '/');
-    int error = is_path ? connect_to_path(&link->socket, place + 5 * has_prefix) : connect_to_host(&link->socket, place);
-    if (!error) (void)setsockopt(link->socket, SOL_SOCKET, SO_RCVTIMEO, &patience, sizeof patience);
     return error;
 }
 
@@ -209,18 +167,26 @@ struct frame {
     size_t length;
 };
 
-/* A frame of this head, with the name of the client where it has a number, and a text, if it has one. Its bytes are NULL without memory. */
-static struct frame make_frame(const struct pazturrok_link *link, const uint64_t *number, const char *text, size_t length) {
+/* What is to be sent: a message with its number, or a question of a kind, `ask` or `read`, and its text, if it has one. */
+struct request {
+    const uint64_t *number;
+    const char *kind, *text;
+    size_t length;
+};
+
+/* Its frame, with the name of the client where it has a number. Its bytes are NULL without memory. */
+static struct frame make_frame(const struct pazturrok_link *link, const struct request *request) {
     struct frame frame = {"ask ", NULL, 0};
-    const char *name = number ? link->name : "", *space = number && text ? " " : "";
-    size_t whole = strlen(name) + strlen(space) + length;
+    const uint64_t *number = request->number;
+    const char *name = number ? link->name : "", *space = number && request->text ? " " : "";
+    size_t whole = strlen(name) + strlen(space) + request->length;
     if (number) (void)snprintf(frame.wanted, sizeof frame.wanted, "by %" PRIu64 " ", *number);
     frame.bytes = malloc(2 * HEAD_LIMIT + whole + 2);
     if (!frame.bytes) return frame;
-    int head = snprintf(frame.bytes, 2 * HEAD_LIMIT + whole, "%s%zu\n%s%s", frame.wanted, whole, name, space);
+    int head = snprintf(frame.bytes, 2 * HEAD_LIMIT + whole, "%s%zu\n%s%s", number ? frame.wanted : request->kind, whole, name, space);
     frame.length = (size_t)head;
-    if (length > 0) memcpy(frame.bytes + frame.length, text, length);
-    frame.length += length;
+    if (request->length > 0) memcpy(frame.bytes + frame.length, request->text, request->length);
+    frame.length += request->length;
     frame.bytes[frame.length++] = '\n';
     return frame;
 }
@@ -240,14 +206,16 @@ static enum outcome greet(struct pazturrok_link *link) {
     if (!send_whole(link, version, sizeof version - 1) || (link->at == link->end && !receive(link))) return HAS_ENDED;
     bool is_refused = link->held[link->at] == '0';
     enum outcome outcome = read_answer(link, is_refused ? "0 " : "ask ");
-    return outcome == ANSWERED && is_refused ? REFUSED : outcome;
+    if (outcome != ANSWERED || !is_refused) return outcome;
+    /* another node may have room for one more */
+    return refusal_of(link) == PAZTURROK_NO_ROOM && strchr(link->program, ',') ? HAS_ENDED : REFUSED;
 }
 
 /* Starts the program, or connects to the node, where that is not done, and has a frame answered. */
 static enum outcome exchange(struct pazturrok_link *link, const struct frame *frame) {
     enum outcome outcome = ANSWERED;
     if (!link->is_open) {
-        int error = link->folder ? start(link) : connect_to_node(link);
+        int error = link->folder ? start(link) : connect_to_first(&link->socket, link->program + link->node);
         (void)refuse(link, PAZTURROK_DEVICE, error, strerror(error));
         if (error) return HAS_ENDED;
         link->is_open = true;
@@ -273,6 +241,7 @@ static int exchange_again(struct pazturrok_link *link, const struct frame *frame
         if (tries > 0 && !link->folder) (void)usleep(PAUSE);
         outcome = exchange(link, frame);
         if (outcome == HAS_ENDED && leave(link)) outcome = WAS_KILLED;
+        if (outcome == WAS_KILLED && !link->folder) link->node = next_place(link->program, link->node);
     }
     if (outcome == ANSWERED) return 0;
     (void)leave(link);
@@ -292,15 +261,16 @@ static int call_with(struct pazturrok_link *link, struct frame frame) {
     return refuse(link, number, 0, number ? link->answer + 2 : "");
 }
 
-static int call(struct pazturrok_link *link, const uint64_t *number, const char *text, size_t length, const char **answer, size_t *answer_length) {
+static int call(struct pazturrok_link *link, const struct request *request, const char **answer, size_t *answer_length) {
     int found;
+    const uint64_t *number = request->number;
     if (answer) *answer = "";
     if (answer_length) *answer_length = 0;
     if (link->has_failed) return PAZTURROK_REOPEN;
-    if (!text && length > 0) return refuse(link, PAZTURROK_MISUSE, 0, "a text is NULL");
-    if (length > FRAME_LIMIT - (number ? strlen(link->name) + 1 : 0)) return refuse(link, PAZTURROK_TEXT_TOO_LONG, 0, "57 TEXT-TOO-LONG");
+    if (!request->text && request->length > 0) return refuse(link, PAZTURROK_MISUSE, 0, "a text is NULL");
+    if (request->length > FRAME_LIMIT - (number ? strlen(link->name) + 1 : 0)) return refuse(link, PAZTURROK_TEXT_TOO_LONG, 0, "57 TEXT-TOO-LONG");
     if (number && *number > link->last) link->last = *number;
-    found = call_with(link, make_frame(link, number, text, length));
+    found = call_with(link, make_frame(link, request));
     if (found == 0 && answer) *answer = link->answer;
     if (found == 0 && answer_length) *answer_length = link->length;
     return found;
@@ -320,7 +290,7 @@ static int take_last(struct pazturrok_link *link) {
     char text[NAME_LIMIT + 128];
     int length = snprintf(text, sizeof text, "(COMMON-LISP:GET (COMMON-LISP:QUOTE %%CLIENTS::|%s|) (COMMON-LISP:QUOTE %%CLIENTS::%%MESSAGE))", link->name);
     const char *answer;
-    int number = call(link, NULL, text, (size_t)length, &answer, NULL);
+    int number = pazturrok_link_read(link, text, (size_t)length, &answer, NULL);
     if (number == NO_PACKAGE || (number == 0 && (strcmp(answer, "NIL") == 0 || strcmp(answer, "COMMON-LISP:NIL") == 0))) return 0;
     if (number != 0) return number;
     if (answer[0] != '(' || !isdigit((unsigned char)answer[1])) return refuse(link, PAZTURROK_NO_ENTRY, 0, "48 NO-ENTRY");
@@ -328,7 +298,7 @@ static int take_last(struct pazturrok_link *link) {
     return 0;
 }
 
-/* Fills a link that was made, for a program over a folder, or for the place of a node: its number is that of the fault, or 0. */
+/* Fills a link that was made, for a program over a folder, or for the places of nodes: its number is that of the fault, or 0. */
 static void begin(struct pazturrok_link *made, const char *program, const char *folder, const char *name) {
     made->program = strdup(program);
     made->folder = folder ? strdup(folder) : NULL;
@@ -355,10 +325,10 @@ int pazturrok_link_open(const char *program, const char *folder, const char *cli
     return begun(made, link, fault);
 }
 
-int pazturrok_link_connect(const char *place, const char *client_name, int seconds, pazturrok_link **link, pazturrok_fault *fault) {
+int pazturrok_link_connect(const char *places, const char *client_name, int seconds, pazturrok_link **link, pazturrok_fault *fault) {
     struct pazturrok_link *made = link ? calloc(1, sizeof *made) : NULL;
     if (made) made->seconds = seconds;
-    if (made && place && client_name && seconds >= 0) begin(made, place, NULL, client_name);
+    if (made && places && client_name && seconds >= 0) begin(made, places, NULL, client_name);
     else if (made) (void)refuse(made, PAZTURROK_MISUSE, 0, "an argument is NULL, or a time is none");
     return begun(made, link, fault);
 }
@@ -366,19 +336,24 @@ int pazturrok_link_connect(const char *place, const char *client_name, int secon
 uint64_t pazturrok_link_last(const pazturrok_link *link) { return link ? link->last : 0; }
 
 int pazturrok_link_do(pazturrok_link *link, uint64_t number, const char *text, size_t length, const char **answer, size_t *answer_length) {
-    if (!link) return PAZTURROK_MISUSE;
-    return call(link, &number, text ? text : "", text ? length : 0, answer, answer_length);
+    struct request request = {&number, "", text ? text : "", text ? length : 0};
+    return link ? call(link, &request, answer, answer_length) : PAZTURROK_MISUSE;
 }
 
 int pazturrok_link_ask(pazturrok_link *link, const char *text, size_t length, const char **answer, size_t *answer_length) {
-    if (!link) return PAZTURROK_MISUSE;
-    return call(link, NULL, text, length, answer, answer_length);
+    struct request request = {NULL, "ask ", text, length};
+    return link ? call(link, &request, answer, answer_length) : PAZTURROK_MISUSE;
+}
+
+int pazturrok_link_read(pazturrok_link *link, const char *text, size_t length, const char **answer, size_t *answer_length) {
+    struct request request = {NULL, link && link->folder ? "ask " : "read ", text, length};
+    return link ? call(link, &request, answer, answer_length) : PAZTURROK_MISUSE;
 }
 
 int pazturrok_link_unregister(pazturrok_link *link) {
-    if (!link) return PAZTURROK_MISUSE;
-    uint64_t number = link->last;
-    return call(link, &number, NULL, 0, NULL, NULL);
+    uint64_t number = link ? link->last : 0;
+    struct request request = {&number, "", NULL, 0};
+    return link ? call(link, &request, NULL, NULL) : PAZTURROK_MISUSE;
 }
 
 void pazturrok_link_fault_of(const pazturrok_link *link, pazturrok_fault *fault) {

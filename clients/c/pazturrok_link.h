@@ -1,5 +1,5 @@
-/* A link of a client that has a name to the program, which serves a store in a folder (`run DIR --messages`); or to the node of one machine, which
-   serves one to many clients.
+/* A link of a client that has a name to the program, which serves a store in a folder (`run DIR --messages`); or to the node of one machine, or the
+   nodes of several, which serve one to many clients.
 
    The store keeps the number of the client's last message, with its form and its answer. So a message that is sent again under its number
    is answered again, word for word: by a process that was killed between sending and reading, and is started again, or by this one where
@@ -13,7 +13,7 @@
    55 the last message has this number and another form; 56 the name is none; 57 the form is too long. After all of these nothing was done. 60
    the program cannot be started, or has ended by itself, and 61 the link has failed so before: close it, and open it again. Of a node 60 says that
    none answered in time: the same message may be sent again under its number at once, by the same link. 54 is also that the node has no room, and
-   58 that it knows no clients with a name. */
+   58 that it takes no clients with a name. */
 #ifndef PAZTURROK_LINK_H
 #define PAZTURROK_LINK_H
 #include "pazturrok.h"
@@ -36,9 +36,10 @@ enum {
    where the number is not 0, `*fault`, which may be NULL. */
 int pazturrok_link_open(const char *program, const char *folder, const char *client_name, pazturrok_link **link, pazturrok_fault *fault);
 
-/* Connects to a node, `unix:` and the path of its socket or HOST:PORT without TLS, for the client of this name. A call tries for so many seconds to
-   have an answer; a node that says nothing for ten is left, and tried again. */
-int pazturrok_link_connect(const char *place, const char *client_name, int seconds, pazturrok_link **link, pazturrok_fault *fault);
+/* Connects to a node, `unix:` and the path of its socket or HOST:PORT without TLS, for the client of this name; or to one of several of a store, with
+   commas between their places. A call tries for so many seconds to have an answer; a node that says nothing for ten is left, and the next one, or
+   the same again, is asked. */
+int pazturrok_link_connect(const char *places, const char *client_name, int seconds, pazturrok_link **link, pazturrok_fault *fault);
 
 /* The number of the client's last message, as the store had it when the link was opened, or as it was sent since; 0 where there is none. */
 uint64_t pazturrok_link_last(const pazturrok_link *link);
@@ -50,6 +51,9 @@ int pazturrok_link_do(pazturrok_link *link, uint64_t number, const char *text, s
 
 /* Asks for the value of one form, which changes nothing; one that would write is refused with 51. */
 int pazturrok_link_ask(pazturrok_link *link, const char *text, size_t length, const char **answer, size_t *answer_length);
+
+/* The same after all that was answered before, by any node of the store, to anybody. */
+int pazturrok_link_read(pazturrok_link *link, const char *text, size_t length, const char **answer, size_t *answer_length);
 
 /* Has the store forget the client: its number and its answer go, and its numbers begin anew. */
 int pazturrok_link_unregister(pazturrok_link *link);

@@ -165,9 +165,9 @@ messages.")
              (stopped (condition)
                (when (or (not (killed-p condition)) (> stops *restarts*)) (error condition))))))
 
-(defun open-feed (program folder &key (package *package*) intern options existing snapshot-ratio (unicode t) client-name)
+(defun open-feed (program folder &key (package *package*) intern options existing one-sync snapshot-ratio (unicode t) client-name)
   "Starts PROGRAM over FOLDER to feed it messages, and gives the feed when it is open. PROGRAM, PACKAGE, INTERN, OPTIONS,
-EXISTING, SNAPSHOT-RATIO and UNICODE are those of OPEN-STORE. One feed at a time may be open on a store.
+EXISTING, ONE-SYNC, SNAPSHOT-RATIO and UNICODE are those of OPEN-STORE. One feed at a time may be open on a store.
 With CLIENT-NAME the store keeps the number and the answer of the last message under this name. Then each message waits for the
 answer to the one before it, and is sent again where the program was killed: no answer is lost."
   (let* ((folder (folder-word folder))
@@ -176,9 +176,9 @@ answer to the one before it, and is sent again where the program was killed: no 
                    (make-embedded-feed folder (library-path program) existing snapshot-ratio naming)
                    (make-program-feed folder
                                       (append (list (native-word program) "run" folder "--messages") options
-                                              (and existing '("--existing")))
+                                              (flag-words existing one-sync))
                                       naming client-name))))
-    (when (and options (embedded-feed-p feed)) (error "a store in this process has no options"))
+    (when (and (or options one-sync) (embedded-feed-p feed)) (error "a store in this process has no options and two syncs"))
     (when (and client-name (embedded-feed-p feed)) (error "a store in this process knows no names of clients"))
     (check-snapshot-ratio snapshot-ratio (embedded-feed-p feed))
     (open-feed-again feed)

@@ -239,7 +239,7 @@ so many times at most, and for so many seconds after the first time; a try that 
   "A feed whose messages go to NODES, a list of HOST:PORT or of paths of sockets. A request goes to one of them, and to
 the next one where that does not answer within PATIENCE seconds; NO-NODE is signalled where none does within TIME-LIMIT, or
 140 seconds after a message was sent first.
-PACKAGE, INTERN and UNICODE are those of OPEN-STORE, and CLIENT-NAME is that of OPEN-FEED: the node of one machine takes such messages."
+PACKAGE, INTERN and UNICODE are those of OPEN-STORE, and CLIENT-NAME is that of OPEN-FEED; nodes of several machines take such messages once all of them know them."
   (check-type nodes cons)
   (mapc #'check-node nodes)
   (let ((naming (make-naming :package (find-package package) :interns-p intern :unicode-p unicode)))

@@ -164,7 +164,8 @@ another way leaves it broken."
     (:closed (error 'closed))))
 
 (defun open-store (program folder
-                   &key (package *package*) intern time-limit opening-time-limit options existing snapshot-ratio (unicode t))
+                   &key (package *package*) intern time-limit opening-time-limit options existing one-sync snapshot-ratio
+                     (unicode t))
   "Starts PROGRAM over FOLDER, and gives the store when it is open. Where PROGRAM is :LIBRARY, or a list of it and the
 path of libpazturrok.so, the store is in this process, and has no time limits and no options; EXISTING refuses a
 folder that holds none. A store in this process takes a snapshot by itself once its file has 1 MiB and is SNAPSHOT-RATIO
@@ -174,7 +175,8 @@ PACKAGE stands for the store's COMMON-LISP-USER: symbols without a prefix are th
 an answer that the image has no symbol for becomes a symbol of a package of the client's own, as
 PAZTURROK/COMMON-LISP-USER; with INTERN true it becomes one of PACKAGE, as READ would make it.
 TIME-LIMIT is how many seconds an answer may take, OPENING-TIME-LIMIT how many the opening, NIL for any time.
-OPTIONS are further words of the command line, as (\"--snapshot-every\" \"1000\").
+With ONE-SYNC halves that are begun are kept with one sync, on a disk whose writes mix; a store that is kept so wants it each
+time. OPTIONS are further words of the command line, as (\"--snapshot-every\" \"1000\").
 Without UNICODE texts are ASCII alone."
   (let* ((folder (folder-word folder))
          (naming (make-naming :package (find-package package) :interns-p intern :unicode-p unicode))
@@ -183,13 +185,17 @@ Without UNICODE texts are ASCII alone."
          (store (if (library-word-p program)
                     (make-embedded-store folder (library-path program) existing snapshot-ratio naming)
                     (make-store folder
-                                (append (list (native-word program) "run" folder) own further (and existing '("--existing")))
+                                (append (list (native-word program) "run" folder) own further (flag-words existing one-sync))
                                 naming time-limit opening-time-limit))))
-    (when (and (embedded-store-p store) (or time-limit opening-time-limit options))
-      (error "a store in this process has no time limits and no options"))
+    (when (and (embedded-store-p store) (or time-limit opening-time-limit options one-sync))
+      (error "a store in this process has no time limits and no options, and two syncs"))
     (check-snapshot-ratio snapshot-ratio (embedded-store-p store))
     (open-program store)
     store))
+
+(defun flag-words (existing one-sync)
+  "The words of the command line for what is asked for."
+  (append (and existing '("--existing")) (and one-sync '("--one-sync"))))
 
 (defun check-snapshot-ratio (ratio embedded-p)
   (check-type ratio (or null (unsigned-byte 64)))

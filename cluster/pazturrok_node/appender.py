@@ -10,7 +10,7 @@ from collections.abc import Callable, Sequence
 from typing import NamedTuple
 
 from .frames import NO_ROOM
-from .log import BusyError, FullError, Placed, Refused
+from .log import BusyError, FullError, Placed, Refused, is_named
 from .node import Node
 
 logger = logging.getLogger(__name__)
@@ -124,15 +124,21 @@ class Appender:
         """Lets go of those that came before entries which are deleted now: the client may have sent them to another
         node since."""
         trimmed = await self._log.trimmed()
-        stay = [one for one in some if self._log.place(max(one.position, self._first)) > trimmed]
+        stay = [one for one in some if self._log.place(self._floor_of(one)) > trimmed]
         for one in some:
             if one not in stay:
                 one.take(None)
-        logger.warning("%d requests waited for longer than entries are kept, and are left", len(some) - len(stay))
+        if len(stay) < len(some):
+            logger.warning("%d requests waited for longer than entries are kept, and are left", len(some) - len(stay))
         return stay
 
+    def _floor_of(self, one: Unplaced) -> int:
+        """No entry after this number may be deleted, or one of that name may have been. A message of a client with a name may be put again: the store
+        knows whether it was carried out."""
+        return max(self._node.position if is_named(one.name) else one.position, self._first)
+
     async def _put(self, some: Sequence[Unplaced]) -> list[Placed] | None:
-        floor = max(min(one.position for one in some), self._first)
+        floor = min(map(self._floor_of, some))
         while True:
             try:
                 return list(await self._log.append([(one.name, one.text) for one in some], floor) or ()) or None

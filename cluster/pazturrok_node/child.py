@@ -16,10 +16,11 @@ from .frames import POSITION, NoFrameError
 logger = logging.getLogger(__name__)
 
 PIECE = 1 << 16
-"""At most so many bytes of answers are taken at once."""
+"""So many bytes of answers are read at once."""
 
 PIPE = 1 << 20
-"""As many bytes may be in the pipe to a program, where the system allows it."""
+"""As many bytes may be in each pipe, to a program and from it, where the system allows it: the answer to a form with a long text is as long. On a busy
+machine each end waits for its turn whenever a pipe is full, or empty."""
 
 SET_PIPE_SIZE = 1031
 """F_SETPIPE_SZ of Linux, which Python has a name for since 3.10."""
@@ -56,9 +57,10 @@ class Child:
         finally:
             os.close(its_end)
         assert process.stdin
-        # a program that has ended already has no pipe: ValueError
-        with contextlib.suppress(OSError, ValueError):
-            fcntl.fcntl(process.stdin.get_extra_info("pipe"), SET_PIPE_SIZE, PIPE)
+        for end in (process.stdin.get_extra_info("pipe"), answers):
+            # a program that has ended already has no pipe: ValueError
+            with contextlib.suppress(OSError, ValueError):
+                fcntl.fcntl(end, SET_PIPE_SIZE, PIPE)
         child = cls(process, answers)
         try:
             await asyncio.wait([child.is_over, child._has_begun], return_when=asyncio.FIRST_COMPLETED)
@@ -89,16 +91,26 @@ class Child:
             self._begun = b""
 
     def _read(self) -> None:
-        try:
-            data = os.read(self._answers, PIECE)
-        except BlockingIOError:
-            return
-        except OSError as error:
-            logger.error("what the store answers cannot be read: %s", error)
-            data = b""
-        if data:
-            self._hand_on(data)
-        else:
+        """Reads what is there, at most what a pipe may have."""
+        pieces: list[bytes] = []
+        is_over = False
+        while len(pieces) * PIECE < PIPE:
+            try:
+                data = os.read(self._answers, PIECE)
+            except BlockingIOError:
+                break
+            except OSError as error:
+                logger.error("what the store answers cannot be read: %s", error)
+                data = b""
+            if not data:
+                is_over = True
+                break
+            pieces.append(data)
+            if len(data) < PIECE:
+                break
+        if pieces:
+            self._hand_on(pieces[0] if len(pieces) == 1 else b"".join(pieces))
+        if is_over:
             self._close()
 
     def _hand_on(self, data: bytes) -> None:

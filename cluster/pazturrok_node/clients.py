@@ -16,8 +16,6 @@ from .appender import Appender
 from .etcd import EtcdError, PutBackError
 from .frames import (
     LIMIT,
-    LOST,
-    NO_FRAME,
     NO_ROOM,
     NO_SUCH_ENTRY,
     OTHER_VERSION,
@@ -28,11 +26,11 @@ from .frames import (
     Request,
     answer,
     answer_at,
-    named_answer,
     request_of,
 )
 from .frames import VERSION as VERSION_OF_FRAMES
-from .log import Placed, Refused, name_of_message
+from .log import Placed, Refused
+from .named import Message, NamedMessages
 from .node import Node, Told
 from .seed import Giver
 
@@ -60,20 +58,24 @@ PROBES = ((socket.TCP_KEEPIDLE, 60), (socket.TCP_KEEPINTVL, 20), (socket.TCP_KEE
 class Clients:
     def __init__(self, node: Node, appender: Appender, giver: Giver, most: int = MOST_CLIENTS) -> None:
         self.node, self.appender, self.giver, self._most = node, appender, giver, most
-        self.version = VERSION_OF_FRAMES if node.log.takes_named else VERSION_WITHOUT_NAMES
-        """The greatest one of frames that this node knows."""
-        self.greeting = f'(:VERSION {self.version} :NODE "{VERSION}" :NAME "{giver.name}")'.encode("ascii")
-        """The answer to a client of this version, or of an older one."""
         self._connected: collections.OrderedDict[Client, None] = collections.OrderedDict()
         """Those that are connected, by their last request."""
         self.requests: collections.Counter[str] = collections.Counter()
-        self.under_way: dict[bytes, tuple[int, bytes]] = {}
-        """Messages of clients with a name that have no answer: the number and the text of the entry. Who sends one again waits for that: each entry of a
-        message for which there is no memory would end the store twice."""
+        self.named = NamedMessages(node, appender)
         self._due: list[Client] = []
         """Those that have answers to send."""
         self._own, self._count = uuid.uuid4().hex, itertools.count()
         node.have_heard = self._send_all
+
+    @property
+    def version(self) -> int:
+        """The greatest one of frames that this node knows now."""
+        return VERSION_OF_FRAMES if self.node.log.takes_named else VERSION_WITHOUT_NAMES
+
+    @property
+    def greeting(self) -> bytes:
+        """The answer to a client of this version, or of an older one."""
+        return f'(:VERSION {self.version} :NODE "{VERSION}" :NAME "{self.giver.name}")'.encode("ascii")
 
     def new_name(self) -> bytes:
         """A name for a form that has none: no other node has it, and no other run of this one."""
@@ -265,7 +267,7 @@ class Client(asyncio.Protocol):
 
     def _take_place(self, slot: Slot, placed: Placed | None) -> None:
         """A form has come into the log, or will not."""
-        self._unplaced -= len(slot.request.text)
+        self._count_placed(slot.request)
         if placed is None:
             self.let_go()
         elif isinstance(placed, Refused):
@@ -275,40 +277,21 @@ class Client(asyncio.Protocol):
             self._node.answers.answer_to(number, lambda text: self._answer(slot, answer(number, text)))
 
     def _take_named(self, slot: Slot, request: Request) -> None:
-        """A message of a client with a name. The store says whether it was carried out before, and has its answer."""
-        number = request.number or 0
-        if request.name is None:
-            self._answer(slot, named_answer(number, NO_FRAME))
-            return
-        name = name_of_message(request.name, number)
-        placed, text = self._clients.under_way.get(name, (0, b""))
-        if placed and text == request.text:
-            self._wait_for_named(slot, name, placed)
-            return
+        """A message of a client with a name is put into the log."""
+
+        def take(text: bytes | None) -> None:
+            if text is None:
+                self.let_go()
+            else:
+                self._answer(slot, text)
+
         self._unplaced += len(request.text)
-        self._appender.append(self, name, request.text, lambda placed: self._take_place_of_named(slot, name, placed))
+        message = Message(self, request, take, lambda: self._count_placed(request), lambda: self._transport is not None)
+        self._clients.named.append(message)
 
-    def _take_place_of_named(self, slot: Slot, name: bytes, placed: Placed | None) -> None:
-        self._unplaced -= len(slot.request.text)
-        if placed is None:
-            self.let_go()
-        elif isinstance(placed, Refused):
-            self._answer(slot, named_answer(slot.request.number or 0, placed.answer))
-        else:
-            self._clients.under_way[name] = placed, slot.request.text
-            self._wait_for_named(slot, name, placed)
-
-    def _wait_for_named(self, slot: Slot, name: bytes, placed: int) -> None:
-        self._node.answers.answer_to(placed, lambda text: self._take_answer_of_named(slot, name, placed, text))
-
-    def _take_answer_of_named(self, slot: Slot, name: bytes, placed: int, text: bytes) -> None:
-        if self._clients.under_way.get(name, (0, b""))[0] == placed:
-            del self._clients.under_way[name]
-        if text is LOST and self._transport is not None:
-            # it was carried out as the store ended, which is asked for its answer by the same message
-            self._take_named(slot, slot.request)
-        else:
-            self._answer(slot, named_answer(slot.request.number or 0, text))
+    def _count_placed(self, request: Request) -> None:
+        """It waits for the log no more."""
+        self._unplaced -= len(request.text)
 
     def _begin_first(self) -> None:
         """A question is asked once all before it is answered: so it sees what the same client has sent before."""

@@ -28,11 +28,24 @@ QUICKEST = 0.5
 TYPICAL = 10.0
 """Between them a short call may take so many times as long as those before it took."""
 
+MOST_TRIES = 4
+"""So many tries of one call may be under way at once."""
+
 PAUSE = 0.1
-"""Seconds after a call that no member answered."""
+"""Seconds after a try that failed."""
+
+MOST_DOUBLINGS = 3
+"""A watch that told nothing in time is begun anew, and waited for twice as long, so often at most: a member that seeks all that a node has missed says
+nothing meanwhile, and where it was left it would begin to seek again."""
 
 SILENCE = 5.0
 """After so many seconds in which no member answers that is told; again after twice as many, and so on."""
+
+UNABLE = (4, 10, 13, 14)
+"""The codes by which a member says that it could not do a call, as one that has no leader does: another one is asked."""
+
+BY_A_MEMBER = "/v3/cluster/member/list"
+"""The one call that a member may answer by itself: each other one wants a leader, and a majority of the members."""
 
 
 class EtcdError(Exception):
@@ -118,6 +131,7 @@ class Etcd:
         self._urls, self._context = sorted(urls, key=is_elsewhere), context
         self._at = self._watched = 0
         self._silent_since: float | None = None
+        self._without_leader_since: float | None = None
         self._told = SILENCE
         self._free: list[tuple[int, Connection]] = []
         self._revision = 0
@@ -127,37 +141,64 @@ class Etcd:
         self._silent: set[int] = set()
         """The members that did not answer the last call to them."""
         self._watch: Connection | None = None
+        self._doublings = 0
+        """How many watches, one after the other, told nothing in time."""
 
     async def call(self, path: str, body: dict[str, Any], patience: float = TIMEOUT) -> dict[str, Any]:
-        """The answer of a call, which is made until a member answers it. So it has to be one that may be made twice."""
-        while True:
-            at, connection = self._take()
-            before, began = self._revision, time.monotonic()
-            try:
-                found = await asyncio.wait_for(self._ask(connection, path, body), patience)
-            except (OSError, asyncio.TimeoutError, asyncio.IncompleteReadError, ValueError) as error:
-                connection.close()
-                self._tell_silence(at, error)
-                self._silent.add(at)
-                self._leave(at)
-                await asyncio.sleep(PAUSE)
-                continue
-            except BaseException:
-                connection.close()
-                raise
-            self._silent_since, self._told = None, SILENCE
-            self._free.append((at, connection))
-            self._took += (time.monotonic() - began - self._took) / TYPICAL
-            self._heed_answer(at)
-            if "error" not in found:
-                self._look_back(path, found, before)
-                return found
-            if "compacted" in found["error"]:
-                raise CompactedError(found["error"])
-            if found.get("code") not in (4, 10, 13, 14):
-                raise EtcdError(found["error"])
-            self._leave(at)
-            await asyncio.sleep(PAUSE)
+        """The answer of a call, which is made until a member answers it: where none does in so many seconds the next one is asked too. So it has to
+        be one that may be made twice."""
+        tries: dict[asyncio.Task[dict[str, Any] | None], int] = {}
+        try:
+            while True:
+                if len(tries) == MOST_TRIES:
+                    oldest = next(iter(tries))
+                    del tries[oldest]
+                    oldest.cancel()
+                at, connection = self._take()
+                one = asyncio.ensure_future(self._try(at, connection, path, body))
+                # where another try has its answer first, nobody looks at this one
+                one.add_done_callback(lambda done: done.cancelled() or done.exception())
+                tries[one] = at
+                done, _ = await asyncio.wait(tries, timeout=patience, return_when=asyncio.FIRST_COMPLETED)
+                for one in done:
+                    del tries[one]
+                    found = one.result()
+                    if found is not None:
+                        return found
+                if done:
+                    await asyncio.sleep(PAUSE)
+                else:
+                    self._heed_silence(at, "it has not answered yet")
+        finally:
+            for one in tries:
+                one.cancel()
+
+    async def _try(self, at: int, connection: Connection, path: str, body: dict[str, Any]) -> dict[str, Any] | None:
+        """What one member answers; None where it does not, or where another one, or the same again, is to be asked."""
+        before, began = self._revision, time.monotonic()
+        try:
+            found = await asyncio.wait_for(self._ask(connection, path, body), MOST_TRIES * TIMEOUT)
+        except (OSError, asyncio.TimeoutError, asyncio.IncompleteReadError, ValueError) as error:
+            connection.close()
+            self._heed_silence(at, str(error) or type(error).__name__)
+            return None
+        except BaseException:
+            connection.close()
+            raise
+        self._heed_leader(path, found, began)
+        self._silent_since, self._told = None, SILENCE
+        self._free.append((at, connection))
+        self._took += (min(time.monotonic() - began, QUICK) - self._took) / TYPICAL
+        self._heed_answer(at)
+        if "error" not in found:
+            self._look_back(path, found, before)
+            return found
+        if "compacted" in found["error"]:
+            raise CompactedError(found["error"])
+        if found.get("code") not in UNABLE:
+            raise EtcdError(found["error"])
+        self._leave(at)
+        return None
 
     @property
     def quick(self) -> float:
@@ -171,6 +212,15 @@ class Etcd:
             self._watched = at
             if self._watch:
                 self._watch.cut()
+
+    def _heed_leader(self, path: str, found: dict[str, Any], began: float) -> None:
+        """A member has answered a call. Where it could not do that, etcd has no leader, until a call that wants one is done; it had none either while no
+        member answered just before."""
+        if "error" not in found:
+            if path != BY_A_MEMBER:
+                self._without_leader_since = None
+        elif is_unable(found):
+            self._without_leader_since = self._without_leader_since or self._silent_since or began
 
     def _leave(self, at: int) -> None:
         """The next member is asked, unless another call has seen to that."""
@@ -202,13 +252,14 @@ class Etcd:
             raise PutBackError
         self._revision = max(self._revision, revision)
 
-    def _tell_silence(self, at: int, error: BaseException) -> None:
-        """Tells an operator what keeps this node from etcd, now and then."""
+    def _heed_silence(self, at: int, why: str) -> None:
+        """A member does not answer, and the next one is asked. Tells an operator what keeps this node from etcd, now and then."""
+        self._silent.add(at)
+        self._leave(at)
         now = time.monotonic()
         self._silent_since = self._silent_since or now
         silent = now - self._silent_since
         if silent > self._told:
-            why = str(error) or type(error).__name__
             logger.warning("no member of etcd answers for %.0f s; %s: %s", silent, self._urls[at], why)
             self._told = 2 * silent
 
@@ -217,9 +268,14 @@ class Etcd:
         """For how long no member has answered what was asked."""
         return 0.0 if self._silent_since is None else time.monotonic() - self._silent_since
 
+    @property
+    def without_leader_seconds(self) -> float:
+        """For how long etcd has done nothing that wants a leader, though a member has answered."""
+        return 0.0 if self._without_leader_since is None else time.monotonic() - self._without_leader_since
+
     async def look_at_members(self) -> None:
         """Tells an operator where etcd has more members than this node was given."""
-        count = len((await self.call("/v3/cluster/member/list", {})).get("members", []))
+        count = len((await self.call(BY_A_MEMBER, {})).get("members", []))
         if count > len(self._urls):
             logger.warning("--etcd names %d of %d members: where they stop, this node answers nothing", len(self._urls), count)
 
@@ -240,25 +296,38 @@ class Etcd:
         return found
 
     async def watch(self, ranged: dict[str, Any], revision: int, pause: float) -> AsyncIterator[dict[str, Any]]:
-        """The results of a watch from a revision on, one after the other, until its member is silent for so long."""
-        at = self._watched
+        """The results of a watch from a revision on, one after the other, until its member is silent for so long; or for longer, where those before it
+        told nothing at all."""
+        at, patience, has_told = self._watched, 2**self._doublings, False
         self._watch = connection = Connection(self._urls[at], self._context)
         try:
             # results are cut to the size of a request: a member does not make one of all that a node has missed
             request = {**ranged, "start_revision": str(revision), "fragment": True}
-            await asyncio.wait_for(connection.post("/v3/watch", {"create_request": request}), TIMEOUT)
+            await asyncio.wait_for(connection.post("/v3/watch", {"create_request": request}), TIMEOUT * patience)
             text, chunks = b"", connection.chunks()
             while True:
-                *lines, text = (text + await asyncio.wait_for(chunks.__anext__(), pause)).split(b"\n")
+                *lines, text = (text + await asyncio.wait_for(chunks.__anext__(), pause * patience)).split(b"\n")
                 for line in lines:
-                    yield watched(json.loads(line))
-        except (OSError, asyncio.TimeoutError, asyncio.IncompleteReadError, ValueError, StopAsyncIteration):
+                    result = watched(json.loads(line))
+                    if "events" in result:
+                        self._doublings, patience, has_told = 0, 1, True
+                    yield result
+        except asyncio.TimeoutError:
+            if not has_told:
+                self._doublings = min(self._doublings + 1, MOST_DOUBLINGS)
+        except (OSError, asyncio.IncompleteReadError, ValueError, StopAsyncIteration):
             pass
         finally:
             connection.close()
         if self._watched == at:
             self._watched = (at + 1) % len(self._urls)
         await asyncio.sleep(PAUSE)
+
+
+def is_unable(found: dict[str, Any]) -> bool:
+    """Whether an error says that a member could not do a call. That of a stream, as of a lease's keepalive, has its code within."""
+    error = found["error"]
+    return (error.get("grpc_code", error.get("code")) if isinstance(error, dict) else found.get("code")) in UNABLE
 
 
 def is_elsewhere(url: str) -> bool:

@@ -24,7 +24,11 @@ OF_ROOM = frozenset({errno.ENOSPC, errno.EDQUOT, errno.EFBIG})
 NO_STORE = "there is no store in this folder"
 """The cause that the program tells, behind the path of the folder, where it is not to make what is missing."""
 
+ONE_SYNC = "the store is kept with one sync: open it with --one-sync"
+"""The cause that it tells behind 66 where a word is missing."""
+
 DEVICE = b"! 60 "
+VERSION = b"! 66 "
 SYSTEM_ERROR = re.compile(r".*\(os error ([0-9]+)\)")
 
 
@@ -33,7 +37,7 @@ class DeviceError(OSError):
 
 
 class Fault(NamedTuple):
-    """What a program told as it ended: its last refusal, and after 60 the cause; both empty where it told nothing."""
+    """What a program told as it ended: its last refusal, and after 60 and 66 the cause; both empty where it told nothing."""
 
     refusal: bytes = b""
     cause: str = ""
@@ -42,7 +46,7 @@ class Fault(NamedTuple):
         """The fault after one more line of standard error."""
         if line.startswith(b"! "):
             return Fault(line.strip())
-        if self.refusal.startswith(DEVICE) and not self.cause:
+        if self.refusal.startswith((DEVICE, VERSION)) and not self.cause:
             return Fault(self.refusal, line.strip().decode("utf-8", "replace"))
         return self
 
@@ -58,12 +62,14 @@ class Fault(NamedTuple):
 
     def look(self, was_open: bool) -> None:
         """DeviceError where the device of the store has failed: while it was open by any error but that there is no room, and as it was opened
-        by one that is of a device. FileNotFoundError where there is no store, and none was to be made."""
+        by one that is of a device. FileNotFoundError where there is no store, and none was to be made; OSError where it lacks a word."""
         number = self.system_error
         if number in OF_A_DEVICE or (was_open and number and number not in OF_ROOM):
             raise DeviceError(number, str(self))
         if self.refusal.startswith(DEVICE) and self.cause.endswith(NO_STORE):
             raise FileNotFoundError(errno.ENOENT, NO_STORE)
+        if self.refusal.startswith(VERSION) and self.cause == ONE_SYNC:
+            raise OSError(errno.EINVAL, ONE_SYNC)
 
 
 def is_of_device(error: OSError) -> bool:

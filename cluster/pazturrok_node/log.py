@@ -4,6 +4,7 @@ from __future__ import annotations
 
 import abc
 import enum
+import uuid
 from collections.abc import AsyncIterator, Callable, Sequence
 from typing import NamedTuple, Union
 
@@ -65,13 +66,21 @@ class Entry(NamedTuple):
     @property
     def client(self) -> tuple[bytes, int]:
         """Of a message of a client with a name: that name, and its number."""
-        client, _, number = self.name.partition(b":")
+        client, number, *_ = self.name.split(b":")
         return client, int(number)
 
 
 def name_of_message(client: bytes, number: int) -> bytes:
     """The name of an entry that is a message of a client with a name."""
     return b"%s:%d" % (client, number)
+
+
+MARKED = b"!"
+"""What the name of a mark begins with in a log that is shared. No name of a client has it."""
+
+
+def name_of_mark() -> bytes:
+    return MARKED + uuid.uuid4().hex.encode("ascii")
 
 
 def is_named(name: bytes) -> bool:
@@ -132,6 +141,9 @@ class Log(abc.ABC):
 
     takes_named = False
     """Whether it takes messages of clients with a name."""
+
+    is_shared = False
+    """Whether stores of other nodes carry out its entries too."""
 
     def want_mark(self) -> None:
         """Has a mark stand before the next message of a client with a name."""

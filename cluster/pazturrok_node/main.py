@@ -231,12 +231,15 @@ async def serve_alone(asked: argparse.Namespace) -> int:
 async def serve_log(asked: argparse.Namespace, log: EtcdLog, replica: Replica) -> int:
     """A replica of a store, by a log in etcd."""
     name, stop = Name(log, asked.name, replica), until_signal()
+    await replica.look_at_program()
+    reports = Reports(log, place_for_nodes(asked), replica.takes_named)
     if not await has_name(name, stop):
         return 0
+    await reports.look_at_names(await reports.all())
     node = Node(log, replica, program_of(asked), asked.store_silence)
     appender = Appender(node)
     marker = Marker(node, appender, asked.program, asked.order[1])
-    trimmer = Trimmer(log, name, node, marker, asked.keep, Reports(log, place_for_nodes(asked)))
+    trimmer = Trimmer(log, name, node, marker, asked.keep, reports)
     comparer = Comparer(log, name, node, trimmer, asked.compare_every)
     try:
         await serve(asked, stop, node, appender, name.run(), trimmer.run(), comparer.run(marker, asked.program, asked.order[1]))
@@ -248,7 +251,8 @@ async def serve_log(asked: argparse.Namespace, log: EtcdLog, replica: Replica) -
 def program_of(asked: argparse.Namespace) -> list[str]:
     """The words of the program over the store."""
     further = ["--snapshot-every", asked.snapshot_every] if asked.snapshot_every else []
-    return [asked.program, "run", asked.order[1], "--messages", *further, *(["--existing"] if asked.existing else [])]
+    flags = [word for word, is_given in (("--existing", asked.existing), ("--one-sync", asked.one_sync)) if is_given]
+    return [asked.program, "run", asked.order[1], "--messages", *further, *flags]
 
 
 async def follow(asked: argparse.Namespace) -> int:

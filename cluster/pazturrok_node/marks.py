@@ -7,7 +7,7 @@ import logging
 import uuid
 
 from .appender import Appender
-from .log import COMPARED, MARK
+from .log import COMPARED, MARK, name_of_mark
 from .looks import position_of
 from .node import Node
 
@@ -25,7 +25,8 @@ class Marker:
 
     def mark(self, compares: bool = False) -> None:
         """Puts such a form into the log, for all stores of it."""
-        self._appender.append(self, uuid.uuid4().hex.encode("ascii"), COMPARED if compares else MARK, lambda _: None)
+        name = name_of_mark() if self._node.log.is_shared else uuid.uuid4().hex.encode("ascii")
+        self._appender.append(self, name, COMPARED if compares else MARK, lambda _: None)
 
     def heed(self) -> None:
         """Has the files looked at, where this store could not read a mark since."""

@@ -5,6 +5,7 @@ from __future__ import annotations
 import asyncio
 import contextlib
 import json
+import time
 
 from . import VERSION
 from .clients import Clients
@@ -21,6 +22,12 @@ MOST_BYTES = 8192
 
 SILENCE = 5.0
 """A node is not well where no member of etcd answers for so many seconds."""
+
+WITHOUT_LEADER = 2.0
+"""And where etcd has had no leader for so many seconds: a new one comes within a second or two."""
+
+LATE = 30.0
+"""And where its store is so many seconds behind that of another node."""
 
 REASONS = {200: "OK", 400: "Bad Request", 404: "Not Found", 405: "Method Not Allowed", 503: "Service Unavailable"}
 
@@ -71,6 +78,10 @@ class Monitor:
         found += [trouble for trouble in (self._node.log.trouble, self._node.difference) if trouble]
         if silent > SILENCE:
             found.append(f"no member of etcd answers for {silent:.0f} s")
+        if (without := without_leader_seconds(self._node.log)) > WITHOUT_LEADER:
+            found.append(f"etcd has had no leader for {without:.0f} s")
+        if (late := behind_seconds(self._node.log)) > LATE:
+            found.append(f"the store is {late:.0f} s behind that of another node")
         return found
 
     def metrics(self) -> str:
@@ -107,8 +118,19 @@ def figures_of(log: Log) -> list[tuple[str, str, str, list[Sample]]]:
     assert isinstance(log, EtcdLog)
     return [
         ("etcd_silent_seconds", "gauge", "For how long no member of etcd has answered.", [("", log.silent_seconds)]),
+        ("etcd_without_leader_seconds", "gauge", "For how long etcd has done nothing that wants a leader.", [("", without_leader_seconds(log))]),
+        ("behind_seconds", "gauge", "For how long another store has had what this one has not.", [("", behind_seconds(log))]),
         ("etcd_used_ratio", "gauge", "Which part of its quota a member of etcd uses.", [("", log.room.part)]),
     ]
+
+
+def without_leader_seconds(log: Log) -> float:
+    return log.etcd.without_leader_seconds if isinstance(log, EtcdLog) else 0.0
+
+
+def behind_seconds(log: Log) -> float:
+    """For how long the store of another node has had what this one has not carried out."""
+    return time.monotonic() - log.behind_since if isinstance(log, EtcdLog) and log.behind_since is not None else 0.0
 
 
 def figure(name: str, kind: str, about: str, samples: list[Sample]) -> str:

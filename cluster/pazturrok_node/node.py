@@ -218,7 +218,7 @@ class Node:
     def _settle(self, position: int) -> None:
         """The store has carried out the entries up to this number: nobody has the answers that were not read."""
         for entry in self._sent:
-            if entry.number <= position:
+            if entry.number <= position and entry.name:
                 self.answers.resolve(entry.number, self._skipped.get(entry.number, LOST))
         self._sent.clear()
         # a store that another node gave has more than this node has sent it
@@ -335,12 +335,20 @@ class Node:
         if not entries:
             return
         self._will_send()
-        self._sent.extend(entries)
         skipped = self._skipped
         for entry in entries if skipped else ():
             if entry.number in skipped:
                 self._keeper.will_skip(entry.number)
+        if self.log.is_shared:
+            entries = [one for entry in entries for one in self._with_number(entry)]
+        self._sent.extend(entries)
         child.send(b"".join([message(entry.number, NOTHING) if entry.number in skipped else frame_of(entry) for entry in entries]))
+
+    def _with_number(self, entry: Entry) -> tuple[Entry, ...]:
+        """An entry, and after a message of a client with a name one without a form, which takes its number in the store: what comes next is written with
+        that as the position. So none is fed again over what came after it."""
+        takes_none = is_named(entry.name) and entry.number not in self._skipped
+        return (entry, Entry(entry.number, b"", b"")) if takes_none else (entry,)
 
     # What it answers
 
@@ -360,18 +368,20 @@ class Node:
     def _take_answer(self, is_of_client: bool, told: int, text: bytes) -> None:
         if not self._sent:
             raise NoFrameError(f"an answer to {told}, and no entry waits for one")
-        self._last = self._sent.popleft()
-        self.count_of_entries += 1
-        number = self._last.number
-        wanted = self._last.client[1] if is_of_client and is_named(self._last.name) else number
+        entry = self._sent.popleft()
+        number = entry.number
+        wanted = entry.client[1] if is_of_client and is_named(entry.name) else number
         if told != wanted:
             raise NoFrameError(f"an answer to {told}, and not to {wanted}")
         if is_of_client and text.startswith(UNKEPT):
             self.log.want_mark()
-        if self._last.text in MARKS:
-            self._take_mark(self._last, text)
-        self._move(number)
-        self.answers.resolve(number, self._skipped.get(number, text))
+        if entry.text in MARKS:
+            self._take_mark(entry, text)
+        if entry.name:
+            self._last = entry
+            self.count_of_entries += 1
+            self._move(number)
+            self.answers.resolve(number, self._skipped.get(number, text))
 
     def _take_mark(self, entry: Entry, text: bytes) -> None:
         """The store has read a mark, and so has written its position; or it reads no such form."""

@@ -8,10 +8,14 @@ from collections.abc import Sequence
 from .child import Child
 from .etcd_log import EPOCH, EtcdLog
 from .faults import Fault
+from .names import BEAT
 from .replica import Replica
 from .reports import Reports
 from .seed import BEFORE, NoSeedError
 from .sources import Sources
+
+MOST_SILENT = 2 * BEAT
+"""A node of which nothing is heard for more seconds than this may be none any more."""
 
 
 async def begin(log: EtcdLog, replica: Replica, words: Sequence[str], is_again: bool) -> int:
@@ -66,10 +70,14 @@ async def tell_nodes(log: EtcdLog) -> int:
     """Tells of each node that runs what it tells of itself."""
     if await log.identify() is None:
         return refused("etcd has no log of this name")
-    reports = await Reports(log).all()
+    of_nodes = Reports(log)
+    reports = await of_nodes.all()
     for name, told in sorted(reports.items()):
-        stuck = f", ends again and again at {told['stuck']}" if told["stuck"] else ""
-        print(f"{name} {told['at'] or '-'} version {told['version'] or '-'} at {told['answered']}{stuck}")
+        notes = [f", ends again and again at {told['stuck']}" if told["stuck"] else "", "" if told["open"] else ", its store is not open yet"]
+        silent = await of_nodes.silence(told["lease"])
+        if silent > MOST_SILENT:
+            notes.append(f", not heard of for {silent} s: it was killed, or is cut off from etcd")
+        print(f"{name} {told['at'] or '-'} version {told['version'] or '-'} at {told['answered']}{''.join(notes)}")
     return 0 if reports else refused("no node runs")
 
 

@@ -16,6 +16,7 @@ from typing import Any
 from .child import Child
 from .etcd_log import EPOCH, LAST_EPOCH, EtcdLog, Identity
 from .log import BehindError, Entry, Keeper, RefusedStoreError
+from .looks import takes_named
 from .seed import NoSeedError, put_in_place
 from .sources import Sources
 
@@ -47,6 +48,7 @@ CHANGED = "the files have changed since the node was ended, at {}. If they are c
 AHEAD = "this store has come to {}, and the log ends before that: etcd is another one, or was put back to an older state"
 OTHER_ENTRY = "the log has another entry {} than this store carried out: etcd is another one, or was put back to an older state"
 SKIPPED = "the other stores skip entry {}, and this one may have carried it out"
+NO_NAMES = "messages of clients with a name are in the log, and {} takes none: a newer program goes on with it"
 
 
 class Replica(Keeper):
@@ -60,6 +62,8 @@ class Replica(Keeper):
         self.lease: int = self._noted.get("lease", 0)
         """By which the node of this store has its name, or had it in its earlier life."""
         self._is_foreign = self._is_changed = False
+        self.takes_named = False
+        """Whether the program takes messages of clients with a name."""
         self._caught_up: list[float] = []
         """When stores were taken from other nodes."""
 
@@ -87,8 +91,14 @@ class Replica(Keeper):
         ended = self._noted.get("ended")
         self._is_changed = ended is not None and await self._figures() != figures_of(ended.split("; "))
 
+    async def look_at_program(self) -> None:
+        """Finds out what the program takes."""
+        self.takes_named = await takes_named(self._program, self._folder)
+
     async def admit(self, position: int) -> None:
         identity = await self._log.identify()
+        if self._log.has_named and not self.takes_named:
+            raise RefusedStoreError(NO_NAMES.format(self._program))
         if identity is None:
             if position:
                 raise RefusedStoreError(NO_LOG.format(position))

@@ -10,8 +10,9 @@ import time
 from typing import Any
 
 from . import room
-from .etcd import CompactedError, EtcdError, among, decoded, encoded
-from .etcd_log import EtcdLog
+from .etcd import CompactedError, EtcdError, among, among_end, decoded, encoded
+from .etcd_log import NAMED, EtcdLog
+from .log import MARKED
 from .marks import Marker
 from .names import Name
 from .node import Node
@@ -77,9 +78,12 @@ class Trimmer:
         """Reports this node, and gives the reports of all."""
         await self._reports.put(self._name, self._node)
         reports, now = await self._reports.all(), time.monotonic()
+        await self._reports.look_at_names(reports)
         self._answered.append((now, max((told["answered"] for told in reports.values()), default=0)))
         while len(self._answered) > 1 and self._answered[1][0] < now - max(self._keep, room.LEAST):
             self._answered.popleft()
+        ahead = (seen for seen, position in self._answered if position > self._node.position)
+        self._log.behind_since = next(ahead, None) if self._node.is_admitted.is_set() else None
         return reports
 
     async def _is_holder(self, may_be: bool) -> bool:
@@ -100,11 +104,8 @@ class Trimmer:
     async def _trim(self, reports: dict[str, dict[str, Any]]) -> None:
         self._mark()
         is_crowded = self._log.room.is_crowded
-        keep = min(self._keep, room.LEAST) if is_crowded else self._keep
-        least = self._least(reports)
         self._trimmed = self._trimmed or await self._log.trimmed()
-        # what comes after a position may have its revision, so that one stays
-        upto = self._log.place(min(least, self._position_before(keep))) - 1
+        upto = await self._last_old(self._least(reports), is_crowded)
         if upto <= self._trimmed:
             return
         await self._log.will_trim(upto)
@@ -119,6 +120,27 @@ class Trimmer:
                         await self._compact(int(found["header"]["revision"]))
         self._trimmed = upto
         await self._compact(upto)
+
+    async def _last_old(self, least: int, is_crowded: bool) -> int:
+        """The last revision whose entries may be deleted, as all stores have those up to a position for good. Forms stay as long as a client may send them
+        again under their names. A message of a client with a name needs none in the log: where there is little room it goes at once."""
+        keep = min(self._keep, room.LEAST) if is_crowded else self._keep
+        old = self._log.place(min(least, self._position_before(keep)))
+        if is_crowded:
+            first = await self._first_of_forms(old)
+            old = max(old, min(self._log.place(least), first or self._log.place(least)))
+        # what comes after a position may have its revision, so that one stays
+        return old - 1
+
+    async def _first_of_forms(self, revision: int) -> int:
+        """The revision of the first entry since this one that is a form, and neither a mark nor a message of a client with a name; 0 where there is none."""
+        entries, tail = self._log.entries, self._log.tail
+        bounds = ((among_end(entries + MARKED), entries + NAMED), (among_end(entries + NAMED), tail))
+        first: dict[str, Any] = {"min_create_revision": str(revision), "limit": "1", "sort_order": "ASCEND", "sort_target": "CREATE", "keys_only": True}
+        reads = [{"request_range": {"key": encoded(begin), "range_end": encoded(end), **first}} for begin, end in bounds]
+        found = await self._etcd.call("/v3/kv/txn", {"success": reads})
+        keys = [kv for response in found["responses"] for kv in response["response_range"].get("kvs", [])]
+        return min((int(kv["create_revision"]) for kv in keys), default=0)
 
     async def _compact(self, revision: int) -> None:
         with contextlib.suppress(CompactedError):

@@ -62,6 +62,7 @@ def parser_of_words() -> argparse.ArgumentParser:
     parser.add_argument("--name", default=socket.gethostname(), help="the name of this node, which no other of the log may have")
     parser.add_argument("--program", default=program_beside(sys.argv[0]), help="the program of the store; the one beside this, or else in PATH")
     parser.add_argument("--existing", action="store_true", help="a folder that holds no store is refused")
+    parser.add_argument("--one-sync", action="store_true", help="as the program has it: one sync for a form that writes, on a disk whose writes mix")
     parser.add_argument("--snapshot-every", metavar="N", help="as the program has it")
     parser.add_argument("--keep", type=float, default=600, metavar="SECONDS", help="a name stays so long at least, 600")
     parser.add_argument("--compare-every", type=float, default=3600, metavar="SECONDS", help="the worlds of the stores are compared so often, 3600; 0: never")

@@ -26,7 +26,7 @@ from .named import (
 )
 from .naming import NAMING_QUESTION, Naming, until_naming
 from .printer import FORM_LIMIT, check_characters, printed
-from .program import Program
+from .program import Program, flags_of
 from .properties import Properties
 from .store import Form, Outcome, changes_naming, texts_of, value_of
 from .values import Value
@@ -103,8 +103,8 @@ class MessageStore(Shared, Properties):
     those of the client: `position` is the last one, also of an earlier process, and `do` takes a number of one's own.
 
     One MessageStore at a time may feed a store. `time_limit` is how many seconds the answers of what is sent
-    at once may take. With `existing` a folder that holds no store is refused. `options` are further words of
-    the command line, as ("--snapshot-every", "1000"). Without `unicode` texts are ASCII alone.
+    at once may take. With `existing` a folder that holds no store is refused. `one_sync` is that of Store. `options` are
+    further words of the command line, as ("--snapshot-every", "1000"). Without `unicode` texts are ASCII alone.
     """
 
     def __init__(
@@ -114,12 +114,13 @@ class MessageStore(Shared, Properties):
         *,
         time_limit: float | None = None,
         existing: bool = False,
+        one_sync: bool = False,
         options: Sequence[str] = (),
         unicode: bool = True,
         client_name: str | None = None,
     ) -> None:
         self._client_name = None if client_name is None else checked_name(client_name)
-        own = ["--messages", *(["--existing"] if existing else [])]
+        own = ["--messages", *flags_of(existing, one_sync)]
         self._folder = os.fspath(folder)
         self._words = [os.fspath(program), "run", self._folder, *own, *(word for word in options if word not in own)]
         self._time_limit = time_limit

@@ -76,7 +76,7 @@ class NodeStore(Shared, Properties):
 
     With `client_name` the store itself keeps the number and the answer of the last message under this name, for as long as
     nobody takes them away. `do` is that of MessageStore then, and so is `unregister`; one process at a time may have a name.
-    The node of one machine takes such messages.
+    Nodes of several machines take such messages once all of them know them.
 
     After a fork the child has a connection and names of its own, so both may go on; but a client with a name stays with the parent.
     """

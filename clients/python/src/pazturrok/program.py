@@ -35,6 +35,11 @@ NOT_PROVED = "pazturrok: compiled, not proved"
 """So begins the line of standard error with which the script `pazturrok` starts a program that is not proved."""
 
 
+def flags_of(existing: bool, one_sync: bool) -> list[str]:
+    """The words of the command line for what is asked for."""
+    return [word for word, is_asked in (("--existing", existing), ("--one-sync", one_sync)) if is_asked]
+
+
 def is_beside_fault(line: str) -> bool:
     """Whether a line of standard error says nothing of why the program has ended."""
     return line.startswith(NOT_PROVED) or REFUSED.fullmatch(line) is not None

@@ -25,7 +25,7 @@ from .errors import (
     telling,
 )
 from .printer import FORM_LIMIT, check_characters, packages_of, printed, string_text
-from .program import REFUSED, Program
+from .program import REFUSED, Program, flags_of
 from .properties import Properties
 from .texts import is_one_form, without_texts
 from .values import FUNCTIONS, LISP, OPERATORS, Symbol, Value
@@ -68,8 +68,9 @@ class Store(Shared, Properties):
     """A program over a folder. Threads may share it: each waits until the one before it has its answers.
 
     `time_limit` is how many seconds an answer may take, `opening_time_limit` how many the opening, None for
-    any time. With `existing` a folder that holds no store is refused. `options` are further words of the
-    command line, as ("--snapshot-every", "1000"). Without `unicode` texts are ASCII alone.
+    any time. With `existing` a folder that holds no store is refused. With `one_sync` halves that are begun are kept
+    with one sync, on a disk whose writes mix; a store that is kept so wants it each time. `options` are further words of
+    the command line, as ("--snapshot-every", "1000"). Without `unicode` texts are ASCII alone.
 
     After a fork the child has no store: its calls raise BrokenStoreError.
     """
@@ -82,10 +83,11 @@ class Store(Shared, Properties):
         time_limit: float | None = None,
         opening_time_limit: float | None = None,
         existing: bool = False,
+        one_sync: bool = False,
         options: Sequence[str] = (),
         unicode: bool = True,
     ) -> None:
-        own = ["--rescue", "--group", *(["--existing"] if existing else [])]
+        own = ["--rescue", "--group", *flags_of(existing, one_sync)]
         unanswered = {"--quiet", "--messages", "--help"}.intersection(options)
         if unanswered:
             raise ValueError(f"{min(unanswered)} of options: a store reads the answer to each form")
