@@ -105,10 +105,14 @@ def placed(groups, below):
 
 def arrows(boxes, near):
     """A line from below each group to above each that it stands on, apart from one another where several meet."""
+
+    def place(group):
+        return boxes[group].left, boxes[group].top
+
     for group, others in near.items():
-        lower = sorted(others, key=lambda it: boxes[it].left)
+        lower = sorted(others, key=place)
         for at, other in enumerate(lower):
-            upper = sorted((it for it in near if other in near[it]), key=lambda it: boxes[it].left)
+            upper = sorted((it for it in near if other in near[it]), key=place)
             start, end = boxes[group], boxes[other]
             x1 = start.left + start.width * (at + 1) / (len(lower) + 1)
             x2 = end.left + end.width * (upper.index(group) + 1) / (len(upper) + 1)

@@ -211,7 +211,7 @@ help_of_command() {
 answer_from_texts() {
     case $1 in
         -V | --version)
-            sed -n 's/^const PROGRAM_VERSION: .*"\(.*\)";/pazturrok \1/p' "$top/crates/command_words/src/words.rt"
+            sed -n 's/^const PROGRAM_VERSION: .*"\(.*\)";/pazturrok \1/p' "$top/crates/command_words/src/task_lines.rt"
             echo "of the sources: no program of them is compiled or proved yet"
             exit
             ;;

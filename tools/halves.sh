@@ -3,8 +3,10 @@
 
 # The first byte of an open half and of a record.
 OPEN_GATE=165
-# A new store has so many bytes, so what a crash leaves of one that never began has no more.
-NEW_STORE=154
+# The latest version of a half that the program reads.
+KNOWN_VERSION=3
+# A new store has so many bytes, and one of version 3 so many; so what a crash leaves of one that never began has no more.
+NEW_STORE=154 NEW_STORE_3=180
 # Halves of at most so many bytes are looked at before the program is started: that takes some milliseconds.
 SOON_LOOKED_AT=1048576
 
@@ -13,6 +15,14 @@ first_byte() {
     [ -f "$1" ] || return 0
     byte=$(od -An -v -t u1 -N 1 "$1" 2>/dev/null) || :
     echo "${byte##* }"
+}
+
+# How many bytes a half has at most in a store that never began. Of version 3 a crash may have left the number, or not yet.
+most_of_new() {
+    case $(od -An -v -t x1 -j 1 -N 2 "$1" 2>/dev/null) in
+        ' 00 03' | ' 00 00') echo "$NEW_STORE_3" ;;
+        *) echo "$NEW_STORE" ;;
+    esac
 }
 
 # Whether neither half of a folder begins as that of a store, though one has more than what a crash leaves of a store that never began. Sets `longest`,
@@ -28,7 +38,7 @@ seem_damaged() {
             if [ "$bytes" -gt "$longest" ]; then longest=$bytes longest_half=$half; fi
         fi
     done
-    [ "$longest" -gt "$NEW_STORE" ]
+    [ -n "$longest_half" ] && [ "$longest" -gt "$(most_of_new "$longest_half")" ]
 }
 
 # Sets `missing` and `beside` where a folder has one of the halves and not the other. A half-a without a byte is what a first start leaves.
@@ -141,7 +151,5 @@ tell_version() {
         set -- $(head_of "$half")
         if [ "${1:-0}" -gt "$latest" ]; then latest=$1 version=$2 in_use=$half; fi
     done
-    case $version in '' | 1 | 2) return 0 ;; esac
-    known=$("$program" --version | sed -n '1s/.* \([0-9]*\)$/\1/p')
-    [ "$version" -le "${known:-$version}" ] || say "$in_use is of version $version, and this program knows versions up to $known: use a newer one"
+    [ "${version:-0}" -le "$KNOWN_VERSION" ] || say "$in_use is of version $version, and this program knows versions up to $KNOWN_VERSION: use a newer one"
 }

@@ -120,7 +120,8 @@ leave_round() {
     exec 8<&-
 }
 
-# The operators whose plain names are those of other symbols of COMMON-LISP-USER, each after a space.
+# The operators whose plain names are those of other symbols of COMMON-LISP-USER, each after a space. The words are those of the next function.
+# shellcheck disable=SC2086 # a word each
 clashing_names() {
     sed 's/;.*//' "$operators" | tr ' ()' '\n\n\n' | sed -n 's/^PAZTURROK:://p' | awk '
         BEGIN { print "(LIST" }
@@ -128,17 +129,17 @@ clashing_names() {
             found = "(PAZTURROK::FIND-SYMBOL \"" $0 "\" \"COMMON-LISP-USER\")"
             print "(PAZTURROK::AND " found " (PAZTURROK::NOT (PAZTURROK::EQL " found " (QUOTE PAZTURROK::" $0 "))) \"" $0 "\")"
         }
-        END { print ")" }' | "$program" run "$1" --rescue 2>/dev/null | tr ' ' '\n' | sed -n 's/^(*"\(.*\)")*$/ \1/p' | tr -d '\n'
+        END { print ")" }' | "$program" run "$1" --rescue $2 2>/dev/null | tr ' ' '\n' | sed -n 's/^(*"\(.*\)")*$/ \1/p' | tr -d '\n'
 }
 
-# Makes the functions of the package PAZTURROK known to the store in a folder, where they are not. The second word is --existing, or empty. The forms
-# are read in Rescue mode, whatever readtable and package the store has.
+# Makes the functions of the package PAZTURROK known to the store in a folder, where they are not. The second word has --existing and --one-sync, as far
+# as they are given. The forms are read in Rescue mode, whatever readtable and package the store has.
 feed_operators() {
     operators=$top/lisp/operators.lisp
     [ -n "$is_clone" ] || operators=${top%/bin}/share/pazturrok/operators.lisp
     [ -r "$operators" ] || refuse "$operators cannot be read, and has the names of the functions"
     status=0
-    # shellcheck disable=SC2086 # none, or --existing
+    # shellcheck disable=SC2086 # a word each
     lines=$("$program" run "$1" --rescue --quiet $2 <"$operators" 2>&1) || status=$?
     if [ "$status" -ne 0 ]; then
         tell_no_store run "$1" "$2"
@@ -149,7 +150,7 @@ feed_operators() {
     printf '%s\n' "$lines" | while read -r line; do
         case $line in
             '! 35 '*) ;;
-            '! 37 '*) say "not all plain names of the operators are known to $1, as a symbol of such a name is there already (${line#! }):$(clashing_names "$1"). Write an operator with its package, as PAZTURROK::CAR, or import those that do not clash, as with (IMPORT 'PAZTURROK::CAR)" ;;
+            '! 37 '*) say "not all plain names of the operators are known to $1, as a symbol of such a name is there already (${line#! }):$(clashing_names "$1" "$2"). Write an operator with its package, as PAZTURROK::CAR, or import those that do not clash, as with (IMPORT 'PAZTURROK::CAR)" ;;
             '! '*) say "the plain names of the functions were not made known to $1: ${line#! }" ;;
         esac
     done
@@ -169,7 +170,7 @@ look_at_seconds() {
 # Does what the words of `run` ask for that are the script's, and starts the program without them. Where the time was not enough the program says so.
 start_session() {
     find_folder "$@"
-    seconds='' is_waiting='' is_round='' has_operators='' existing='' is_end='' before=''
+    seconds='' is_waiting='' is_round='' has_operators='' words='' is_end='' before=''
     for word in "$@"; do
         shift
         case $is_end:$before,$word in
@@ -180,7 +181,10 @@ start_session() {
             *,--operators) has_operators=1 ;;
             *) set -- "$@" "$word" ;;
         esac
-        case $word in --) is_end=end ;; --existing) existing=--existing ;; esac
+        case $is_end$word in
+            --) is_end=end ;;
+            --existing | --one-sync) words="$words $word" ;;
+        esac
         before=$word
     done
     [ -n "$is_clone" ] || try_words "$@"
@@ -189,7 +193,7 @@ start_session() {
         [ -z "$folder" ] || wait_for_store "$folder"
     fi
     if [ -n "$has_operators" ] && [ -n "$folder" ] && { [ -n "$is_end" ] || "$program" "$@" --help >/dev/null 2>&1; }; then
-        feed_operators "$folder" "$existing"
+        feed_operators "$folder" "$words"
         # who waits for a new store has the lock on the folder round it until now
         [ -z "$is_round" ] || wait_in_folder "$folder"
     fi

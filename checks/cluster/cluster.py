@@ -19,7 +19,7 @@ QUICK_NODE = """
 import sys
 sys.path.insert(0, sys.argv.pop(1))
 from pazturrok_node import main, room
-room.LEAST = 5.0
+room.LEAST = float(sys.argv.pop(1))
 sys.exit(main.main())
 """
 OWN = f"127.{64 + (os.getpid() >> 16 & 63)}.{os.getpid() >> 8 & 255}.{os.getpid() & 255}"
@@ -57,7 +57,7 @@ class Process:
             self.child = subprocess.Popen(self.words, stdin=subprocess.DEVNULL, stdout=log, stderr=log, env=self.environment)
 
     def signal(self, number):
-        if self.child.poll() is None:
+        if self.child and self.child.poll() is None:
             self.child.send_signal(number)
 
     def kill(self):
@@ -71,16 +71,18 @@ class Process:
         return self.child.wait(LONG)
 
     def told(self):
-        with open(self.log, errors="replace") as log:
+        """What it has written; nothing where it was never started."""
+        with contextlib.suppress(FileNotFoundError), open(self.log, errors="replace", encoding="utf-8") as log:
             return log.read()
+        return ""
 
 
 class Cluster:
     """Members m0, m1, .. and nodes n0, n1, ..; `apart` are namespaces, one for each place, `secrets` are certificates for all ways between."""
 
-    def __init__(self, folder, program, members=3, nodes=3, keep=600, options=(), apart=None, secrets=None, quota=None, programs=()):
+    def __init__(self, folder, program, members=3, nodes=3, keep=600, options=(), apart=None, secrets=None, quota=None, least=5.0, programs=()):
         self.folder, self.program, self.apart, self.secrets, self.blows = folder, program, apart, secrets, 0
-        self.quota, self.programs = quota, programs
+        self.quota, self.least, self.programs = quota, least, programs
         options = [*options, *(["--quota", str(quota)] if quota else [])]
         self.context = secrets.context() if secrets else None
         ports = [2379] * members + [2380] * members + [7411] * nodes if apart else free_ports(2 * members + nodes)
@@ -125,8 +127,8 @@ class Cluster:
         return [sys.executable, *self.script(), *further, "--etcd", urls, "--program", program]
 
     def script(self):
-        """The node's own; where it has a quota one in which seconds are few."""
-        return ["-c", QUICK_NODE, os.path.dirname(NODE)] if self.quota else [NODE]
+        """The node's own; where it has a quota one in which forms stay so many seconds where there is little room."""
+        return ["-c", QUICK_NODE, os.path.dirname(NODE), str(self.least)] if self.quota else [NODE]
 
     def order(self, *words):
         """Carries out an order; gives its status and what it told."""
@@ -162,6 +164,11 @@ class Cluster:
         ends = text[:-1] + bytes([text[-1] + 1])
         found = self.call("/v3/kv/range", {"key": base64.b64encode(text).decode(), "range_end": base64.b64encode(ends).decode()}).get("kvs", [])
         return {base64.b64decode(one["key"])[len(text) :].decode(): base64.b64decode(one.get("value", "")) for one in found}
+
+    def version(self):
+        """That of the log."""
+        found = self.call("/v3/kv/range", {"key": base64.b64encode(b"pazturrok/store/log").decode()})
+        return json.loads(base64.b64decode(found["kvs"][0]["value"]))["version"]
 
     def end(self):
         for one in [*self.nodes, *self.members]:

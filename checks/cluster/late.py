@@ -151,6 +151,35 @@ def caught_up(folder, program):
         cluster.end()
 
 
+MISSED, MOST_MIB = 100, 250
+"""So many forms of a megabyte a node has missed, and so many MiB it takes at most for them."""
+
+
+def missed(folder, program):
+    """A node that was away has missed 100 MB: it takes them a piece at a time, and never has all of them in memory."""
+    cluster = begun(folder, program, nodes=2)
+    try:
+        cluster.nodes[1].finish()
+        client, text = Client(cluster.places[:1], patience=LONG), b"(SETF (GET 'BIG 'KY) \"%s\")" % (1_040_000 * b"x")
+        for number in range(MISSED):
+            client.request(b"do big-%d" % number, text)
+        add(cluster, 0, b"last")
+        cluster.nodes[1].start()
+        began, seen = time.monotonic(), value(cluster, 1)
+        took, most = time.monotonic() - began, most_memory(cluster.nodes[1].child.pid)
+        print(f"cluster: {MISSED} forms of a megabyte that a node had missed took it {took:.0f} s and {most} MiB", flush=True)
+        faults = [] if seen == "6" else [f"a node that missed much has {seen}"]
+        return faults + ([] if most <= MOST_MIB else [f"a node that missed {MISSED} megabytes took {most} MiB for them"])
+    finally:
+        cluster.end()
+
+
+def most_memory(process):
+    """How many MiB it had at most."""
+    with open(f"/proc/{process}/status", encoding="ascii") as file:
+        return next(int(line.split()[1]) >> 10 for line in file if line.startswith("VmHWM:"))
+
+
 def lagging(folder, program):
     """A node that lives, and whose store has stopped, is waited for: nothing is deleted that it has not carried out."""
     cluster = begun(folder, program, nodes=2, keep=0)
@@ -272,8 +301,8 @@ def leavers(_folder, _program):
     return faults + ([f"{count} tasks go on after their clients"] if count else [])
 
 
-LONG_ONES = ("waited", "lagging", "skipped away")
+LONG_ONES = ("waited", "lagging", "missed", "skipped away")
 PARTS = {
-    "put back": put_back, "anew": anew, "waited": waited, "twice": twice, "caught up": caught_up, "lagging": lagging, "newer": newer,
+    "put back": put_back, "anew": anew, "waited": waited, "twice": twice, "caught up": caught_up, "missed": missed, "lagging": lagging, "newer": newer,
     "skipped away": skipped_away, "leavers": leavers,
 }  # fmt: skip

@@ -7,6 +7,7 @@ import signal
 import time
 
 from cluster import Client, free_ports, has_readtables
+from questions import exchange
 from refusals import ADD, LOOK, ask_long, begun, trimmed, value
 from waits import LONG, Worker, until
 from watched import figures, until_health
@@ -14,6 +15,9 @@ from watched import figures, until_health
 QUOTA = 48 << 20
 NO_ROOM, LOST = "! 54 NO-ROOM", "! 50 OLD-NUMBER"
 BIG = b"(SETF (GET 'BIG 'KY) \"" + 50_000 * b"x" + b'")'
+AT_ONCE = 20
+"""So many of them are sent at once where they are to come faster than they are deleted."""
+
 CLOSES = b"(SET-MACRO-CHARACTER #\\: :CLOSE)"
 """After this form no name with a package can be read."""
 
@@ -30,11 +34,12 @@ def alarms(cluster):
 def full(folder, program):
     """Forms come faster than they are deleted: they are refused well before the quota, and taken again later. What was answered stays so."""
     path = os.path.join(folder, "monitor")
-    cluster = begun(folder, program, nodes=1, quota=QUOTA, options=("--monitor", path))
+    cluster = begun(folder, program, nodes=1, quota=QUOTA, least=LONG, options=("--monitor", path))
     try:
         client, answers = Client(cluster.places), []
         while NO_ROOM not in answers and len(answers) < 1200:
-            answers.append(client.request(b"do big-%d" % len(answers), BIG)[1])
+            some = [(b"do big-%d" % (len(answers) + number), BIG) for number in range(AT_ONCE)]
+            answers += [text.decode() for _, text in exchange(cluster.places[0], *some)]
         faults = [] if NO_ROOM in answers else ["forms are taken up to the quota"]
         faults += [] if client.request(b"do add-4", ADD)[1] in ("5", NO_ROOM) else ["a form that was answered is answered otherwise"]
         faults += [] if not alarms(cluster) else ["etcd has come to its quota"]
@@ -42,7 +47,7 @@ def full(folder, program):
         cluster.nodes[0].kill()
         cluster.nodes[0].start()
         faults += [] if value(cluster, 0) == "5" else ["a node does not start beside an etcd that has little room"]
-        until(lambda: client.request(b"do later", ADD)[1] != NO_ROOM, "forms are taken again")
+        until(lambda: client.request(b"do later", ADD)[1] != NO_ROOM, "forms are taken again", 3 * LONG)
         faults += [] if value(cluster, 0) == "6" else ["forms are not taken again"]
         return faults + ([] if until_health(path, 200)[0] == 200 else ["the node is not well again"])
     finally:

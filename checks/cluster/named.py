@@ -19,12 +19,13 @@ ADDS = "(LIST (INCF (GET 'COUNTER 'KY)) (INCF (GET '{} 'KY)) \"a\nb\")"
 
 WORK = """
 import sys
+import time
 from pazturrok import NodeStore
 place, name, number, count, form = sys.argv[1:]
 number, last = int(number), int(number) + int(count)
-with NodeStore([place], client_name=name, patience=3.0) as store:
+with NodeStore(place.split(","), client_name=name, patience=3.0) as store:
     while number < last:
-        print(number, *store.do(form.replace("{}", name.upper()), number=number)[:2], flush=True)
+        print(number, *store.do(form.replace("{}", name.upper()), number=number)[:2], int(time.monotonic() * 1e6), flush=True)
         number += 1
 """
 OLDER = """
@@ -48,7 +49,8 @@ KILLS = 40
 
 def client_of(node, name, number, count):
     """A process that has messages from a number on carried out."""
-    words = [sys.executable, "-c", WORK, node.places[0], name, str(number), str(count), ADDS]
+    places = ",".join(place if isinstance(place, str) else f"{place[0]}:{place[1]}" for place in node.places)
+    words = [sys.executable, "-c", WORK, places, name, str(number), str(count), ADDS]
     return subprocess.Popen(words, stdout=subprocess.PIPE, env={**os.environ, "PYTHONPATH": PYTHON})
 
 
@@ -168,7 +170,7 @@ def thirty(folder, program):
 
 
 def lines_of(processes):
-    return [[[int(word) for word in line.split()] for line in one.communicate(timeout=2 * LONG)[0].splitlines()] for one in processes]
+    return [[[int(word) for word in line.split()[:3]] for line in one.communicate(timeout=2 * LONG)[0].splitlines()] for one in processes]
 
 
 def kills(folder, program):
@@ -185,7 +187,7 @@ def kills(folder, program):
     try:
         for worker in workers:
             worker.start()
-        deadline = time.monotonic() + LONG
+        deadline = time.monotonic() + max(LONG, 2 * KILLS)
         while killed[0] < KILLS and time.monotonic() < deadline and all(worker.is_alive() for worker in workers):
             time.sleep(chance.random() * 2)
             if chance.random() < 0.5:
@@ -222,10 +224,11 @@ def be_killed(node, name, chance, ended, calls, killed):
         killer = threading.Timer(LONG, process.kill)
         killer.start()
         for line in process.stdout:
-            told, counter, own = map(int, line.split())
+            told, counter, own, when = map(int, line.split())
             assert told == own == number + 1, f"message {number + 1} of {name} is answered {line!r}"
             calls.append(linear.Call(begin, time.monotonic(), "add", counter))
-            begin, number = time.monotonic(), told
+            # (the client says when that was: its line may be read late)
+            begin, number = when / 1e6, told
             if not is_last and chance.random() < 0.5:
                 time.sleep(chance.random() * 0.02)
                 process.kill()

@@ -1,5 +1,6 @@
 """Questions by which a store ends, for which it has no memory: they are answered, and no entry is blamed for them. Each part gives what is
 wrong."""
+import json
 import os
 import socket
 import sys
@@ -13,7 +14,8 @@ from waits import LONG, Worker, all_ended, until
 sys.path.append(os.path.join(os.path.dirname(os.path.abspath(__file__)), "..", "..", "clients", "python", "src"))
 
 REFUSED = "! 90 NO-MEMORY"
-PATIENCE = LONG
+PATIENCE = 4 * LONG
+"""A store may take long to end by a question without memory, and ends four times here."""
 SLOWLY = 3
 """As many seconds a slow store takes to end."""
 
@@ -33,7 +35,7 @@ def ends(cluster, place):
 
 def reports(cluster):
     """The entries that the nodes blame."""
-    return [int(report.split(b'"stuck": ')[1].rstrip(b"}")) for report in cluster.keys("nodes/").values()]
+    return [json.loads(report)["stuck"] for report in cluster.keys("nodes/").values()]
 
 
 def without_memory(folder, program):

@@ -1,4 +1,5 @@
 """Stores that are no replicas of the log, an entry that no store can carry out, and clients that are none. Each part gives what is wrong."""
+import json
 import os
 import shutil
 import socket
@@ -259,7 +260,7 @@ def stuck_at(cluster):
 
     def are_stuck():
         seen.clear()
-        seen.update(int(report.split(b'"stuck": ')[1].rstrip(b"}")) for report in cluster.keys("nodes/").values())
+        seen.update(json.loads(report)["stuck"] for report in cluster.keys("nodes/").values())
         return len(seen) == 1 and 0 not in seen
 
     until(are_stuck, "all nodes report the entry at which their stores end", 2 * LONG)

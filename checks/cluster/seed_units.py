@@ -143,17 +143,19 @@ class ToldTest(unittest.TestCase):
         self.assertEqual((taken[2:], answers.settled), ([(9, b"nine")], 5))
 
     def test_reports(self):
-        told = {"answered": 7, "lasting": 5, "stuck": 0, "at": "a:1", "version": "0.1.0"}
-        nothing = {"answered": 0, "lasting": 0, "stuck": 0, "at": "", "version": ""}
-        self.assertEqual(report_of(b'{"answered": 7, "lasting": 5, "at": "a:1", "version": "0.1.0", "new": [1]}'), told)
+        told = {"answered": 7, "lasting": 5, "stuck": 0, "at": "a:1", "version": "0.1.0", "named": True, "open": True}
+        nothing = {"answered": 0, "lasting": 0, "stuck": 0, "at": "", "version": "", "named": False, "open": True}
+        self.assertEqual(report_of(b'{"answered": 7, "lasting": 5, "at": "a:1", "version": "0.1.0", "named": true, "new": [1]}'), told)
         for text in (b"", b"\xff", b"[]", b'"x"', b'{"answered": "7", "lasting": null}'):
             self.assertEqual(report_of(text), nothing, text)
+        self.assertFalse(report_of(b'{"open": false}')["open"])
 
     def test_what_a_log_says_of_itself(self):
         one = Identity(3, 17, "ab")
-        self.assertEqual([identity_of(written(one)), identity_of(b'[3, 17, "ab"]')], [one, one])
+        texts = [written(one), b'[3, 17, "ab"]', written(one, 2)]
+        self.assertEqual([identity_of(text) for text in texts], [(1, one), (1, one), (2, one)])
         older = b'{"version": 0, "epoch": 3, "first": 17, "world": "ab"}'
-        for text in (b'{"version": 2}', older, b'{"epoch": 3}', b'"x"', b"7", b"no JSON", b"[1]"):
+        for text in (b'{"version": 2}', b'{"version": 3, "epoch": 3, "first": 17, "world": "ab"}', older, b'{"epoch": 3}', b'"x"', b"7", b"no JSON", b"[1]"):
             with self.assertRaises(RefusedStoreError, msg=text):
                 identity_of(text)
 

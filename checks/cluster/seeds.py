@@ -201,8 +201,8 @@ def versions(folder, program):
     try:
         node.finish()
         faults, told = [], json.loads(cluster.keys("log")[""])
-        put(cluster, key, {**told, "version": 2})
-        faults += refused(cluster, 0, "is of version 2, and this node knows version 1")
+        put(cluster, key, {**told, "version": 3})
+        faults += refused(cluster, 0, "is of version 3, and this node knows versions 1 and 2")
         put(cluster, key, [told["epoch"], told["first"], told["world"]])
         put(cluster, base64.b64encode(b"pazturrok/store/nodes/n9").decode(), "no report")
         node.start()

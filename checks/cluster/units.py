@@ -1,5 +1,5 @@
 """The parts of a node by themselves: frames, answers, how requests come into a log, the program of a store; journal_units.py has the
-journal, and seed_units.py what comes from other nodes and versions."""
+journal, named_units.py the messages of clients with a name, and seed_units.py what comes from other nodes and versions."""
 import asyncio
 import contextlib
 import errno
@@ -15,6 +15,7 @@ import unittest
 from unittest import mock
 
 import journal_units
+import named_units
 import seed_units
 from waits import LONG, settled
 
@@ -25,8 +26,7 @@ from pazturrok_node import etcd as etcds  # noqa: E402
 from pazturrok_node.answers import Answers  # noqa: E402
 from pazturrok_node.appender import Appender  # noqa: E402
 from pazturrok_node.child import Child  # noqa: E402
-from pazturrok_node.clients import Clients  # noqa: E402
-from pazturrok_node.etcd import Etcd  # noqa: E402
+from pazturrok_node.etcd import BY_A_MEMBER, Etcd, EtcdError  # noqa: E402
 from pazturrok_node.faults import DeviceError, Fault  # noqa: E402
 from pazturrok_node.frames import ANSWER, LIMIT, LOST, NO_ROOM, REQUEST, Frames, NoFrameError, request_of  # noqa: E402
 from pazturrok_node.log import BusyError, FullError, Refused  # noqa: E402
@@ -82,63 +82,6 @@ class FramesTest(unittest.TestCase):
         self.assertEqual(self.requests([sent[place : place + 60_000] for place in range(0, len(sent), 60_000)])[0].text, text)
         heads = [head.groups()[:2] for head, _ in Frames(ANSWER).split(b"7 1\nA\nask 1\nB\nby 8 1\nC\n")]
         self.assertEqual(heads, [(None, b"7"), (None, None), (b"by ", b"8")])
-
-
-class NamedTest(unittest.IsolatedAsyncioTestCase):
-    """Messages of clients with a name, by themselves."""
-
-    def begun(self, takes_named):
-        """A client of a node whose log takes such messages, or does not; what it is answered, and what it has appended."""
-        node, appender, told = mock.Mock(), mock.Mock(), []
-        node.log.takes_named, node.is_hearing, node.answers = takes_named, False, Answers()
-        transport = mock.Mock(spec=asyncio.Transport)
-        transport.write.side_effect = told.append
-        transport.get_write_buffer_size.return_value = 0
-        transport.get_extra_info.return_value = None
-        one = Clients(node, appender, mock.Mock()).serve()
-        one.connection_made(transport)
-        return one, node, appender, told
-
-    async def test_a_log_that_takes_none(self):
-        for sent, refusal in ((b"version 2 0\n\n", b"! 58 OTHER-VERSION"), (b"by 1 3\na b\n", b"! 56 NO-FRAME")):
-            one, _, appender, told = self.begun(False)
-            one.data_received(b"version 1 0\n\n" + sent)
-            await settled()
-            self.assertIn(b"(:VERSION 1 ", b"".join(told))
-            self.assertTrue(b"".join(told).endswith(b"0 %d\n%s\n" % (len(refusal), refusal)), told)
-            appender.append.assert_not_called()
-
-    async def test_one_whose_answer_was_lost_is_asked_for_again(self):
-        """Where the store ended and nobody read its answer, the store is sent the same message, and has it."""
-        one, node, appender, told = self.begun(True)
-        one.data_received(b"version 2 0\n\nby 7 5\na (X)\n")
-        for number in (3, 4):
-            sender, name, text, take = appender.append.call_args.args
-            self.assertEqual((sender, name, text), (one, b"a:7", b" (X)"))
-            take(number)
-            if number == 3:
-                node.answers.settle(3)
-        self.assertEqual(appender.append.call_count, 2)
-        node.answers.resolve(4, bytes(bytearray(LOST)))
-        await settled()
-        self.assertTrue(b"".join(told).endswith(b"by 7 15\n! 50 OLD-NUMBER\n"), "what the store says itself is its answer")
-        self.assertEqual(appender.append.call_count, 2)
-
-    async def test_one_that_is_sent_again_waits_for_the_same_answer(self):
-        one, node, appender, told = self.begun(True)
-        one.data_received(b"by 7 5\na (X)\n")
-        appender.append.call_args.args[3](3)
-        one.data_received(b"by 7 5\na (X)\n")
-        self.assertEqual(appender.append.call_count, 1)
-        one.data_received(b"by 7 5\na (Y)\n")
-        self.assertEqual(appender.append.call_count, 2)
-        appender.append.call_args.args[3](4)
-        node.answers.resolve(3, b"X")
-        node.answers.resolve(4, b"! 55 OTHER-TEXT")
-        await settled()
-        self.assertEqual(b"".join(told), b"by 7 1\nX\nby 7 1\nX\nby 7 15\n! 55 OTHER-TEXT\n")
-        one.data_received(b"by 7 5\na (X)\n")
-        self.assertEqual(appender.append.call_count, 3)
 
 
 class AnswersTest(unittest.TestCase):
@@ -258,6 +201,7 @@ class AppenderTest(unittest.IsolatedAsyncioTestCase):
 CAUSES = (b"cannot sync /s/half-a: Input/output error (os error 5)", b"cannot write /s/half-b: No space left on device (os error 28)",
           b"/s: locked by another process", b"/s: there is no store in this folder")
 SPEAKS = "import os, sys; os.write(1, {!r}); os.write(2, {!r}); sys.stdin.read()"
+LONG_ANSWER = "import os, sys; os.write(1, b'at 1\\n'); os.read(0, 1); assert os.write(1, b'x' * 1_000_000) == 1_000_000"
 
 
 class ChildTest(unittest.IsolatedAsyncioTestCase):
@@ -279,6 +223,21 @@ class ChildTest(unittest.IsolatedAsyncioTestCase):
             await asyncio.sleep(0.01)
         self.assertEqual((one.position, one.is_over.done(), await one.end(), one.fault), (17, False, 0, Fault(b"! 64 LOG-FULL")))
         self.assertTrue(one.is_over.done())
+
+    async def test_long_answer(self):
+        """It is in the pipe whole, whenever it is read: the program does not wait for who reads it."""
+        heard = []
+        one = await Child.start([sys.executable, "-c", LONG_ANSWER])
+        one.hear(heard.append)
+        asyncio.get_running_loop().remove_reader(one._answers)
+        one.send(b"\n")
+        # with a pipe of 65,536 bytes it would not end
+        with contextlib.suppress(asyncio.TimeoutError):
+            await asyncio.wait_for(one.process.wait(), LONG / 12)
+        status = one.process.returncode
+        one._read()
+        await one.end()
+        self.assertEqual((status, [len(data) for data in heard]), (0, [1_000_000]))
 
     async def test_what_is_no_position(self):
         for told in (b"at x\n", b"at 017\n", b"\n", b"17\n"):
@@ -341,6 +300,71 @@ class EtcdTest(unittest.IsolatedAsyncioTestCase):
             await asyncio.wait_for(told, LONG)
         self.assertEqual(await asyncio.wait_for(one.watch({}, 1, 2 * LONG).__anext__(), LONG), {"header": {"revision": "7"}})
 
+    async def test_member_that_seeks(self):
+        """One that says nothing while it seeks what a node has missed is waited for longer from watch to watch, until it tells."""
+        told, count = b'{"result": {"events": [{}]}}\n', 0
+
+        async def serve(reader, writer):
+            nonlocal count
+            count += 1
+            await reader.readuntil(b"\r\n\r\n")
+            created = b'{"result": {"created": true}}\n'
+            writer.write(b"HTTP/1.1 200 OK\r\nTransfer-Encoding: chunked\r\n\r\n%x\r\n%s\r\n" % (len(created), created))
+            await asyncio.sleep(0.7)
+            writer.write(b"%x\r\n%s\r\n" % (len(told), told))
+
+        server = await asyncio.start_server(serve, "127.0.0.1", 0)
+        self.addCleanup(server.close)
+        one, found = Etcd([f"http://127.0.0.1:{server.sockets[0].getsockname()[1]}"]), []
+        while count < 10 and {"events": [{}]} not in found:
+            found = [result async for result in one.watch({}, 1, 0.2)]
+        self.assertIn({"events": [{}]}, found)
+        self.assertEqual(one._doublings, 0)
+
+    async def test_tries(self):
+        """A call that has no answer in time is made at the next member too, and the first answer is taken: also that of the earlier try. Of those under way
+        only some are kept."""
+        one, let, asked = Etcd(["http://a", "http://b"]), {}, []
+
+        async def ask(connection, _path, _body):
+            asked.append(connection._parts.netloc)
+            let[len(asked)] = asyncio.get_running_loop().create_future()
+            return await let[len(asked)]
+
+        with mock.patch.object(one, "_ask", ask):
+            call = asyncio.ensure_future(one.call("/v3/kv/range", {}, 0.01))
+            while len(asked) < 6:
+                await asyncio.sleep(0.01)
+            self.assertEqual((asked[:6], let[1].cancelled(), let[2].cancelled()), (["a", "b"] * 3, True, True))
+            let[4].set_result({"header": {"revision": "7"}})
+            self.assertEqual(await asyncio.wait_for(call, LONG), {"header": {"revision": "7"}})
+            await settled()
+            self.assertTrue(all(future.done() for future in let.values()))
+
+    async def test_without_leader(self):
+        """A member that says that it could not do a call is no sign of a leader, and none that tells its members; one that does a call that wants it is."""
+        one, told = Etcd(["http://a"]), []
+        unable = {"error": "etcdserver: no leader", "code": 14}
+        in_stream = {"error": {"grpc_code": 14, "message": "etcdserver: no leader"}}
+        done = {"header": {"revision": "7"}}
+
+        async def ask(_connection, _path, _body):
+            told.append(one.without_leader_seconds > 0)
+            return answers.pop(0)
+
+        with mock.patch.object(one, "_ask", ask), mock.patch.object(etcds, "PAUSE", 0):
+            answers = [unable, unable, done]
+            await one.call("/v3/kv/range", {})
+            self.assertEqual((told, one.without_leader_seconds), ([False, True, True], 0))
+            answers = [in_stream, done]
+            with self.assertRaises(EtcdError):
+                await one.call("/v3/lease/keepalive", {})
+            await one.call(BY_A_MEMBER, {})
+            self.assertGreater(one.without_leader_seconds, 0)
+            answers = [done]
+            await one.call("/v3/lease/grant", {})
+            self.assertEqual(one.without_leader_seconds, 0)
+
     async def test_quick(self):
         """Where calls are answered soon, a member is left soon; and never sooner than in half a second."""
         one = Etcd([await self.member(True)])
@@ -372,7 +396,7 @@ class SocketTest(unittest.TestCase):
 
 def units(_folder, _program):
     load = unittest.defaultTestLoader.loadTestsFromModule
-    tests = unittest.TestSuite(map(load, (sys.modules[__name__], journal_units, seed_units)))
+    tests = unittest.TestSuite(map(load, (sys.modules[__name__], journal_units, named_units, seed_units)))
     logging.disable(logging.CRITICAL)
     try:
         with open(os.devnull, "w", encoding="ascii") as nowhere:

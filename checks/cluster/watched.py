@@ -11,9 +11,9 @@ import subprocess
 import sys
 import time
 
-from cluster import NODE
-from refusals import LOOK, begun, value
-from waits import LONG, Late, until
+from cluster import NODE, Client
+from refusals import ADD, LOOK, begun, value
+from waits import LONG, Late, Worker, until
 
 LINE = re.compile(r"[0-9]{4}-[0-9]{2}-[0-9]{2}T[0-9]{2}:[0-9]{2}:[0-9]{2}[+-][0-9]{4} (INFO|WARNING|ERROR) .+")
 FIGURE = re.compile(r'(pazturrok_node_[a-z_]+)((?:\{[a-z]+="[^"]*"(?:,[a-z]+="[^"]*")*\})?) ([0-9.e+-]+)')
@@ -123,4 +123,114 @@ def idle_clients(folder, program):
         cluster.end()
 
 
-PARTS = {"monitored": monitored, "idle clients": idle_clients}
+def behind(folder, program):
+    """A node whose store has stopped says that it is behind, and is well again once the store goes on."""
+    cluster, path = begun(folder, program, nodes=2), os.path.join(folder, "monitor")
+    try:
+        cluster.nodes[1].finish()
+        cluster.nodes[1].words += ["--monitor", path]
+        cluster.nodes[1].start()
+        value(cluster, 1)
+        faults = [] if until_health(path, 200)[0] == 200 else ["a node that is not behind is not well"]
+        store = cluster.store_process(1)
+        os.kill(store, signal.SIGSTOP)
+        Client(cluster.places[:1]).request(b"do after", ADD)
+        told = until_health(path, 503)[1]["troubles"]
+        faults += [] if "behind that of another node" in told[0] and figures(path)["pazturrok_node_behind_seconds"] > 30 else [f"a node that is behind says {told}"]
+        os.kill(store, signal.SIGCONT)
+        faults += [] if until_health(path, 200)[0] == 200 and value(cluster, 1) == "6" else ["a node that was behind is not well again"]
+        return faults
+    finally:
+        cluster.end()
+
+
+SLOW = """#!/bin/sh
+[ "$1" = run ] && sleep 8
+exec {} "$@"
+"""
+"""A program that takes its time to open a store."""
+
+
+def told_of(cluster, name):
+    """What `nodes` writes of a node; nothing where it does not list it."""
+    lines = cluster.order("nodes")[1].splitlines()
+    return next((line for line in lines if line.startswith(name + " ")), "")
+
+
+def killed(folder, program):
+    """`nodes` says of a node that was killed that nothing is heard of it, until it is listed no more; and of one that has started that its store is
+    not open yet."""
+    cluster, slow = begun(folder, program, nodes=2), os.path.join(folder, os.path.basename(program))
+    try:
+        faults = [] if told_of(cluster, "n1").split(" at ")[1].isdigit() else [f"of a node that runs: {told_of(cluster, 'n1')}"]
+        cluster.nodes[1].kill()
+        until(lambda: ", not heard of for " in told_of(cluster, "n1"), "`nodes` tells of the node that was killed")
+        faults += [] if told_of(cluster, "n0").split(" at ")[1].isdigit() else [f"of the other node: {told_of(cluster, 'n0')}"]
+        until(lambda: told_of(cluster, "n1") == "", "the node that was killed is listed no more")
+        with open(slow, "w", encoding="utf-8") as file:
+            file.write(SLOW.format(program))
+        os.chmod(slow, 0o755)
+        words = cluster.nodes[1].words
+        words[words.index("--program") + 1] = slow
+        cluster.nodes[1].start()
+        until(lambda: told_of(cluster, "n1").endswith(" at 0, its store is not open yet"), "`nodes` tells of a store that is not open yet")
+        faults += [] if value(cluster, 1) == "5" else ["the node has another counter"]
+        until(lambda: told_of(cluster, "n1").split(" at ")[1] == told_of(cluster, "n0").split(" at ")[1], "both nodes are at one number")
+        return faults
+    finally:
+        cluster.end()
+
+
+SOON, STEADY = 10.0, 20.0
+"""Within so many seconds each node says that etcd has no majority, and it says so for so long without a break."""
+
+
+def without_majority(folder, program):
+    """Two of three members of etcd are stopped, and then killed: each node says so soon, without a break, and is well again once they are back. In
+    one case a form waits meanwhile."""
+    cluster, paths = begun(folder, program, members=3, nodes=3), [os.path.join(folder, f"monitor-{place}") for place in range(3)]
+    faults = []
+    try:
+        for node, path in zip(cluster.nodes, paths):
+            node.finish()
+            node.words += ["--monitor", path]
+            node.start()
+        for gone, has_form in ((lambda one: one.signal(signal.SIGSTOP), True), (lambda one: one.kill(), False)):
+            until(lambda: all(until_health(path, 200) for path in paths), "all nodes are well")
+            for member in cluster.members[1:]:
+                gone(member)
+            form = Worker(Client(cluster.places[:1], patience=LONG).request, b"do waits", ADD)
+            if has_form:
+                form.start()
+            faults += faults_without_majority(paths)
+            for member in cluster.members[1:]:
+                member.signal(signal.SIGCONT)
+                if member.child.poll() is not None:
+                    member.start()
+            faults += [f"node {place} is not well again" for place, path in enumerate(paths) if until_health(path, 200)[0] != 200]
+            if has_form:
+                form.join()
+        faults += [f"{name} is {count} at a node that is well" for path in paths for name, count in figures(path).items() if "without_leader" in name and count]
+        return faults + ([] if value(cluster, 2) == "6" else ["the form that waited was not carried out once"])
+    finally:
+        cluster.end()
+
+
+def faults_without_majority(paths):
+    """What a node says that it should not, from the moment on at which etcd lost its majority."""
+    began, last = time.monotonic(), {}
+    for place, path in enumerate(paths):
+        until(lambda path=path: got(path, "GET", "/health")[0] == 503, f"node {place} says that etcd has no majority", SOON)
+    print(f"cluster: without a majority of etcd each node says so after {time.monotonic() - began:.1f} s, load {os.getloadavg()[0]:.0f}", flush=True)
+    ended = time.monotonic() + STEADY
+    while time.monotonic() < ended:
+        for place, path in enumerate(paths):
+            status, last[place] = got(path, "GET", "/health")
+            if status != 503:
+                return [f"node {place} is well again after {time.monotonic() - began:.1f} s, without a majority of etcd"]
+        time.sleep(0.1)
+    return [f"node {place} says {told}" for place, told in last.items() if "etcd has had no leader for " not in told]
+
+
+LONG_ONES = ("behind another", "without majority", "killed")
+PARTS = {"monitored": monitored, "behind another": behind, "idle clients": idle_clients, "without majority": without_majority, "killed": killed}

@@ -1,7 +1,7 @@
 """Each growth of memory refused in turn: that one alone, and it and all after it."""
 import collections
 
-from hostile.store import check, courses, has_messages, library, logged
+from hostile.store import are_alike, check, courses, has_messages, library, logged
 from lib.room import NO_MEMORY
 from lib.wanted import want
 
@@ -42,7 +42,7 @@ def disturbed(room, one, loaded, log, number, goes_on, kinds):
     want(got.out in (b"", one.ample.out) or got.out.endswith(b"\n"), where, "a part of a line:", got)
     if got == one.ample:
         # messages that were answered one by one have a position each in the log
-        want(left == one.after or has_messages(one.session), where, "other files")
+        want(are_alike(left, one.after) or has_messages(one.session), where, "other files")
         kinds["absorbed"] += 1
     else:
         kinds[got.err.decode().strip()] += 1

@@ -1,10 +1,9 @@
 """Hostile texts under a limit of memory and of processor time: the program ends by itself, with an answer, a refusal of
 the reader or want of memory, and what it answered is in a store that opens."""
-import os
-import resource
 import subprocess
 
-from lib.room import NO_MEMORY, PLACE
+from lib import measured
+from lib.room import NO_MEMORY, PLACE, without_cause
 from lib.wanted import want
 
 MEMORY = 2 << 30
@@ -73,12 +72,6 @@ TEXTS = {
 }
 
 
-def limited():
-    resource.setrlimit(resource.RLIMIT_AS, (MEMORY, MEMORY))
-    resource.setrlimit(resource.RLIMIT_CPU, (SECONDS, SECONDS))
-    resource.setrlimit(resource.RLIMIT_CORE, (0, 0))
-
-
 def tried(room, text):
     """What a session of this text ended with, and how much memory and processor time it took."""
     room.put(None)
@@ -86,12 +79,11 @@ def tried(room, text):
         file.write(text)
     with open(room.path("input"), "rb") as given, open(room.path("output"),
                                                        "wb") as answers, open(room.path("faults"), "wb") as faults:
-        child = subprocess.Popen([room.program, "run", room.store], stdin=given, stdout=answers, stderr=faults,
-                                 preexec_fn=limited)
-        _, status, used = os.wait4(child.pid, 0)
-        child.returncode = os.waitstatus_to_exitcode(status)
+        asked = measured.words(room.path("taken"), (MEMORY, SECONDS), [room.program, "run", room.store])
+        subprocess.run(asked, stdin=given, stdout=answers, stderr=faults, check=True)
+    took = measured.taken(room.path("taken"))
     with open(room.path("faults"), "rb") as file:
-        return child.returncode, file.read(), used.ru_maxrss // 1024, used.ru_utime + used.ru_stime
+        return took.status, file.read(), round(took.megabytes), took.seconds
 
 
 def run(room, names_of=()):
@@ -101,7 +93,7 @@ def run(room, names_of=()):
         if names_of and name not in names_of:
             continue
         status, faults, memory, seconds = tried(room, text)
-        is_told = {0: not faults, 1: PLACE.fullmatch(faults), 3: faults == NO_MEMORY}
+        is_told = {0: not without_cause(faults), 1: PLACE.match(faults), 3: faults == NO_MEMORY}
         want(is_told.get(status), name, "ended with", status, faults)
         opened = room.run(["verify"])
         want(opened.status == 0, name, "left a store that does not open:", opened)

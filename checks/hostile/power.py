@@ -4,13 +4,13 @@ import random
 import shutil
 import subprocess
 
-from hostile.store import answers, check_world, courses, library
+from hostile.store import answers, are_alike, check_world, courses, library, one_sync_of
 from lib.places import PATIENCE
 from lib.wanted import want
 
 NAMES = ("property", "brackets", "snapshots", "together", "more snapshots", "a closed half", "operators", "messages",
-         "more messages", "snapshot", "version 1",
-         "upgrade")
+         "more messages", "snapshot", "version 1", "version 3", "batches", "after version 3", "upgrade", "one sync",
+         "batches with one sync", "more with one sync", "to one sync", "messages with one sync", "upgrade to one sync")
 
 
 class File:
@@ -21,11 +21,11 @@ class File:
         self.pending = []
 
     def write(self, place, held):
-        self.pending.append((place, place + len(held), False))
+        self.pending.append((place, place + len(held), held))
         self.now = self.now[:place] + held + self.now[place + len(held):]
 
     def cut(self, length):
-        self.pending.append((length, length, True))
+        self.pending.append((length, length, None))
         self.now = self.now[:length].ljust(length, b"\0")
 
     def sync(self):
@@ -38,10 +38,12 @@ class File:
             return self.now
         if kind == "lost":
             return self.synced
+        if kind == "scattered":
+            return self.scattered(dice)
         shortest = longest = length = len(self.synced)
         touched = []
-        for start, end, is_cut in self.pending:
-            if is_cut:
+        for start, end, held in self.pending:
+            if held is None:
                 touched.append((start, length))
                 shortest, length = min(shortest, start), start
             else:
@@ -54,6 +56,25 @@ class File:
             end = min(end, count)
             if start < end:
                 found[start:end] = self.mixed(kind, start, end, dice)
+        return bytes(found)
+
+    def scattered(self, dice):
+        """What a crash leaves on a disk whose writes mix: of each write some of its bytes, and past the old end 0 in place of
+        the others; of a cut what it leaves on every disk."""
+        found = bytearray(self.synced)
+        for start, end, held in self.pending:
+            length = len(found)
+            if held is None:
+                found[start:] = dice.randbytes(dice.randint(0, max(0, length - start)))
+                continue
+            # few, half or nearly all of the bytes are written; or those of the front, or of the end
+            odds, front, back = dice.choice([(0.03, 0, 0), (0.5, 0, 0), (0.97, 0, 0), (0, 1, 0), (0, 0, 1)])
+            some, middle = dice.randint(0, len(held)), bytearray(found[start:end].ljust(len(held), b"\0"))
+            for at, byte in enumerate(held):
+                if front and at < some or back and at >= some or dice.random() < odds:
+                    middle[at] = byte
+            found[start:end] = middle
+            del found[dice.randint(length, max(length, len(found))) :]
         return bytes(found)
 
     def mixed(self, kind, start, end, dice):
@@ -147,12 +168,12 @@ def images_of(room, one, loaded, times, dice):
             if target not in halves:
                 lasting = set(opened.values())
             images += crashed(room, one, halves, answered, times, dice, f"call {number}")
-    want([half.now for half in halves] == one.after, one.session.name, "the trace is not that of the files")
+    want(are_alike([half.now for half in halves], one.after), one.session.name, "the trace is not that of the files")
     return images
 
 
 def crashed(room, one, files, answered, times, dice, moment):
-    kinds = ["kept", "lost", 0xA5, 0] + ["mixed", "any"] * times
+    kinds = ["kept", "lost"] + (["scattered"] * (2 * times) if one_sync_of(one.session) else [0xA5, 0] + ["mixed", "any"] * times)
     for kind in kinds:
         room.put([file.left(kind, dice) for file in files])
         try:

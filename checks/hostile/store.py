@@ -5,7 +5,7 @@ import re
 import subprocess
 
 from hostile.undisturbed import WANTED
-from lib import kit
+from lib import halves, kit
 from lib.frames import framed, message, question
 from lib.room import Answer
 from lib.wanted import Deviation, want
@@ -67,14 +67,13 @@ MESSAGES = b"".join([
 # Files of old bytes behind a closed gate, which are cut before a half is started.
 CLOSED = [bytes(10), bytes(200)]
 
-# A store of version 1 with a property, and no half B in use.
-VERSION_1 = [
-    b"\xa5\0\x01\0\0\0\0\0\0\0\x01\0\0\0\x87"
-    b'(("COMMON-LISP-USER" ("COMMON-LISP") NIL NIL NIL) ("KEYWORD" NIL NIL NIL NIL))\nNIL\n'
-    b'("COMMON-LISP-USER" "USER" (("USER" "UPCASE" NIL)))\n'
-    b"\xa5\0\0\0\0\x14(SETF (GET 'A 'B) 7)\0",
-    b"",
-]
+# Stores of version 1 and of version 3 with a property, and no half B in use; one of the latter is kept with one sync.
+PACKAGES = b'(("COMMON-LISP-USER" ("COMMON-LISP") NIL NIL NIL) ("KEYWORD" NIL NIL NIL NIL))\nNIL\n'
+SEVEN = halves.Record(False, b"(SETF (GET 'A 'B) 7)")
+VERSION_1 = [halves.gated(1, 1, PACKAGES + b'("COMMON-LISP-USER" "USER" (("USER" "UPCASE" NIL)))\n', [SEVEN]), b""]
+WORLD = PACKAGES + b'("COMMON-LISP-USER" "USER" 10 (("USER" "UPCASE" NIL)))\n'
+VERSION_3 = [halves.batched(1, WORLD, [[SEVEN]]), b""]
+ONE_SYNC = [halves.batched(1, WORLD, [[SEVEN]], halves.ONE_SYNC), b""]
 
 SESSIONS = [
     Session("property", ["run"], b"(SETF (GET 'A 'B) 7)\n(GET 'A 'B)\n", None),
@@ -111,7 +110,23 @@ SESSIONS = [
             b"(SETF (GET 'A 'B) 7)\n(SETF (GET 'A 'B) 8)\n(FROB)\n(SETF (GET 'A 'B) 9)\n", None),
     Session("version 1", ["run", "--snapshot-every", "2"],
             b"(SETF (GET 'A 'B) 8)\n(SETF (GET 'A 'B) 17)\n(SETF (GET 'A 'B) 18)\n", VERSION_1),
+    Session("version 3", ["run"],
+            b"(SETF (GET 'A 'B) 8)\n(GET 'A 'B)\n(SETF (GET 'A 'C) \"t\")\n(FROB)\n(INCF (GET 'A 'B))\n", VERSION_3),
+    Session("batches", ["run", "--group"],
+            b"(SETF (GET 'A 'B) 7)\n(SETF (GET 'A 'B) 8)\n(CAR 'A)\n(GET 'A 'B)\n(SETF (GET 'A 'C) \"t\")\n", VERSION_3),
+    Session("after version 3", ["run", "--snapshot-every", "2"],
+            b"(SETF (GET 'A 'B) 8)\n(SETF (GET 'A 'B) 17)\n(SETF (GET 'A 'B) 18)\n", VERSION_3),
     Session("upgrade", ["upgrade"], b"", VERSION_1),
+    Session("one sync", ["run", "--one-sync"],
+            b"(SETF (GET 'A 'B) 8)\n(GET 'A 'B)\n(SETF (GET 'A 'C) \"t\")\n(FROB)\n(INCF (GET 'A 'B))\n", ONE_SYNC),
+    Session("batches with one sync", ["run", "--group", "--one-sync"],
+            b"(SETF (GET 'A 'B) 7)\n(SETF (GET 'A 'B) 8)\n(CAR 'A)\n(GET 'A 'B)\n(SETF (GET 'A 'C) \"t\")\n", None),
+    Session("more with one sync", ["run", "--one-sync"], b"(SETF (GET 'A 'B) 9)\n(GET 'A 'C)\n(INCF (GET 'A 'B))\n",
+            "batches with one sync"),
+    Session("to one sync", ["run", "--snapshot-every", "2", "--one-sync"],
+            b"(SETF (GET 'A 'B) 8)\n(SETF (GET 'A 'B) 17)\n(SETF (GET 'A 'B) 18)\n", VERSION_1),
+    Session("messages with one sync", ["run", "--messages", "--one-sync"], MESSAGES, None),
+    Session("upgrade to one sync", ["upgrade", "--one-sync"], b"", VERSION_1),
     Session("export", ["export"], b"", "operators"),
     Session("export of data", ["export", "--data"], b"", "operators"),
 ]
@@ -152,10 +167,24 @@ def course(room, session, before):
     for count in range(len(parts) + 1):
         room.put(before)
         # before the first of its parts a session of messages has not begun
-        words = ["run"] if session.words[0] != "run" or has_messages(session) and not count else session.words
+        words = ["run", *one_sync_of(session)] if session.words[0] != "run" or has_messages(session) and not count else session.words
         answer = room.run(words, b"".join(parts[:count]))
-        dumps.append((answered_in(session, answer.out), room.run(["dump"]).out))
+        dumps.append((answered_in(session, answer.out), told(room, session, "dump").out))
     return Course(session, before, ample, after, dumps, set())
+
+
+def one_sync_of(session):
+    """The word by which a session opens a store that is kept with one sync, if it has it."""
+    return [word for word in session.words if word == "--one-sync"]
+
+
+def told(room, session, command):
+    """What a command tells of the store, once it is opened. One that may be kept with one sync is opened by a session first, as such a
+    command only looks into it."""
+    if not one_sync_of(session):
+        return room.run([command])
+    opened = room.run(["run", "--one-sync"])
+    return room.run([command, "--existing"]) if opened.status == 0 else opened
 
 
 def has_messages(session):
@@ -177,6 +206,13 @@ def courses(room, names=()):
         after[session.name] = one.after
         if not names or session.name in names:
             yield one
+
+
+def are_alike(files, others):
+    """Whether both halves hold the same in the same bytes, however their records came together: a group ends at a form
+    that is refused only where reasons are asked for, and is carried out form by form where memory runs out. The identity
+    of a store is drawn anew in each run, and so is its sum."""
+    return [halves.without_identity(file or b"") for file in files] == [halves.without_identity(file or b"") for file in others]
 
 
 def check(room, one, got):
@@ -218,16 +254,15 @@ def check_world(room, one, answered, apart=True):
     if left in one.looked:
         return
     one.looked.add(left)
-    dump = room.run(["dump"])
+    dump = told(room, one.session, "dump")
     want(dump.status == 0, one.session.name, "no dump:", dump)
     prefixes = [count for count, text in one.dumps if text == dump.out]
     may = may_be_there(one, answered, apart)
     want(may & set(prefixes), one.session.name, answered, "answered, and the world is that after", prefixes)
-    verified = room.run(["verify"])
+    verified = told(room, one.session, "verify")
     want(verified.status == 0, one.session.name, "not verified:", verified)
     if one.session.words[0] == "upgrade":
-        again = room.run(["upgrade"])
-        want(again == Answer(0, b"version 2\n", b"") and room.run(["dump"]).out == dump.out, one.session.name,
-             "not made whole:", again)
-    more = room.run(["run", "--rescue"], ONE_MORE)
+        again = room.run(one.session.words)
+        want(again == one.ample and told(room, one.session, "dump").out == dump.out, one.session.name, "not made whole:", again)
+    more = room.run(["run", "--rescue", *one_sync_of(one.session)], ONE_MORE)
     want(more == Answer(0, b"9\n", b""), one.session.name, "one more form:", more)

@@ -105,7 +105,25 @@ WANTED = {
     "a further snapshot": (0, b'half A generation 9 records 0\n'),
     "strict": (1, b'7\n8\n! 31 UNKNOWN-OPERATOR\n'),
     "version 1": (0, b'8\n17\n18\n'),
+    "version 3": (0, b'8\n8\n"t"\n! 31 UNKNOWN-OPERATOR\n9\n'),
+    "batches": (0, b'7\n8\n! 31 UNKNOWN-OPERATOR\n8\n"t"\n'),
+    "after version 3": (0, b'8\n17\n18\n'),
     "upgrade": (0, b'version 2\n'),
+    "one sync": (0, b'8\n8\n"t"\n! 31 UNKNOWN-OPERATOR\n9\n'),
+    "batches with one sync": (0, b"7\n8\n! 31 UNKNOWN-OPERATOR\n8\n\"t\"\n"),
+    "more with one sync": (0, b'9\n"t"\n10\n'),
+    "to one sync": (0, b'8\n17\n18\n'),
+    "messages with one sync": (0, (
+        b'at 0\n'
+        b'1 1\n7\n'
+        b'ask 1\n7\n'
+        b'ask 20\n! 51 QUESTION-WRITES\n'
+        b'1 15\n! 50 OLD-NUMBER\n'
+        b'4 1\n8\n'
+        b'ask 15\n! 4 STRAY-CLOSE\n'
+        b'8 4\n"t\n"\n'
+    )),
+    "upgrade to one sync": (0, b'version 3\n'),
     "export": (0, (
         b'(IN-READTABLE :STANDARD)\n'
         b'(MAKE-PACKAGE "P")\n'

@@ -44,10 +44,14 @@ PLACE = re.compile(
 OF_OUTPUT = re.compile(rb"\A" + OUTPUT + rb"standard output: .*\n")
 
 
+# What to do about a half that is kept with one sync.
+OF_SYNCS = re.compile(rb"^the store is kept with one sync: .*\n", re.M)
+
+
 def without_cause(faults: bytes) -> bytes:
     """What was told of a fault without the line with its cause, and of a refusal without its lines, which want of
     memory may hide; nor the lines on forms that were refused in a session which goes on."""
-    faults = REFUSED.sub(b"", faults)
+    faults = OF_SYNCS.sub(b"", REFUSED.sub(b"", faults))
     faults = OF_OUTPUT.sub(OUTPUT, faults)
     if faults.startswith(DEVICE) and faults.count(b"\n") == 2:
         return DEVICE

@@ -3,7 +3,10 @@
 from __future__ import annotations
 
 import re
+from collections.abc import Iterable
 
+from lib import halves
+from lib.halves import Record
 from objects import Object, Refused, Symbol, Text, listed, printed
 from packages import KEYWORD, LISP, OF_KEYWORD, USER
 from reader import Form, Reader
@@ -35,7 +38,7 @@ class Store:
     def __init__(self) -> None:
         self.world = World()
         self.snapshot = self.text()
-        self.records: list[tuple[bool, bytes]] = []
+        self.records: list[Record] = []
         # whether no session was of messages, whose records are not known here
         self.has_records = True
 
@@ -52,7 +55,7 @@ class Store:
                 form = self.read(text, at, is_rescue)
                 if form is None:
                     return 0, output.encode("latin-1")
-                answer = self.answered(form.it, (is_rescue, text[form.start : form.end]))
+                answer = self.answered(form.it, Record(is_rescue, text[form.start : form.end]))
             except Refused as why:
                 output += refusal(why.number) + "\n"
                 if why.number < 26 or is_strict:
@@ -69,7 +72,7 @@ class Store:
             table, base, package = STANDARD, 10, USER
         return Reader(text, table, base, world.packages, package).form(at)
 
-    def answered(self, form: Object, record: tuple[bool, bytes]) -> str:
+    def answered(self, form: Object, record: Record) -> str:
         """The answer to a form, which is logged if it writes."""
         value, world = self.world.carried_out(form)
         self.world = world
@@ -136,11 +139,17 @@ class Store:
         tables = [listed([Text(name), Text(table.case), entries(table)]) for name, table in sorted(world.readtables.items()) if name != "STANDARD"]
         return listed([Text(world.package), Text(world.readtable), world.base, listed(list(tables))])
 
-    def half(self) -> bytes:
-        """The bytes of the first half, which is in use as long as no snapshot is taken."""
+    def half(self, version: int = 2, sizes: Iterable[int] = ()) -> bytes:
+        """The bytes of the first half, which is in use as long as no snapshot is taken; in version 3 the records came in
+        batches of these sizes, and then one by one."""
         snapshot = self.snapshot.encode("latin-1")
-        records = b"".join(b"\xa5%c%s%s" % (is_rescue, len(text).to_bytes(4, "big"), text) for is_rescue, text in self.records)
-        return b"\xa5\x00\x02" + (1).to_bytes(8, "big") + len(snapshot).to_bytes(4, "big") + snapshot + records + b"\x00"
+        if version < 3:
+            return halves.gated(version, 1, snapshot, self.records)
+        batches, left = [], self.records
+        for size in sizes:
+            batches.append(left[:size])
+            left = left[size:]
+        return halves.batched(1, snapshot, [*batches, *([record] for record in left)])
 
 
 def texts(names: list[str] | set[str]) -> Object:

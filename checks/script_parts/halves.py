@@ -5,6 +5,7 @@ import subprocess
 from typing import Tuple
 
 from calls import PROGRAM, called, check, write
+from lib.halves import Record, batched
 
 LOOKS = ("show", "info", "log", "verify", "run")
 # So long a call may take that once had no end.
@@ -80,9 +81,27 @@ def check_file(script: str, room: str) -> None:
         check("a file and no folder", refused_by_program(script, folder, "show"), (True, f"pazturrok: {file} is a file and no folder\n".encode()))
 
 
+def check_version_3(script: str, room: str) -> None:
+    """Of a half of version 3 the shell tells nothing, nor of what a crash leaves of one that never began."""
+    folder = os.path.join(room, "version 3")
+    os.makedirs(folder)
+    snapshot = subprocess.run([PROGRAM, "dump", os.path.join(room, "no store yet")], stdin=subprocess.DEVNULL, capture_output=True, check=True).stdout
+    with open(os.path.join(folder, "half-a"), "wb") as file:
+        file.write(batched(1, snapshot, [[Record(False, b"(SETF (GET 'A 'B) 7)")]]))
+    write(os.path.join(folder, "half-b"), "")
+    check("a half of version 3", called(script, "show", folder), (0, b"A B 7\n", b""))
+    check("a session over it", called(script, "run", folder, stdin=b"(GET 'A 'B)"), (0, b"7\n", b""))
+    begun = os.path.join(room, "begun in version 3")
+    os.makedirs(begun)
+    for name, held in (("half-a", b"\0" + batched(1, snapshot)[1:]), ("half-b", b"")):
+        with open(os.path.join(begun, name), "wb") as file:
+            file.write(held)
+    check("a store of version 3 that never began", called(script, "run", begun, stdin=b"(LIST 1)"), (0, b"(1)\n", b""))
+
+
 def check_all(script: str, room: str) -> None:
     """Checks all of it."""
     room = os.path.join(room, "halves")
     os.mkdir(room)
-    for part in (check_no_files, check_missing, check_damaged, check_file):
+    for part in (check_no_files, check_missing, check_damaged, check_version_3, check_file):
         part(script, room)

@@ -31,7 +31,7 @@ def check_words(script, room):
         is_refused("a form in the place of a word", script, "run", none, *words, "(GET 'A 'B)", says=f'from standard input: echo "FORM" | ./pazturrok run {none}')
     for word, meant in (("SEFT", "SETF"), ("INTRN", "INTERN"), ("UNKNOWN-OPERATR", "UNKNOWN-OPERATOR")):
         is_refused("an operator that is meant", script, "help", word, says=f"no operator and no command '{word}'; did you mean {meant}?")
-    for words in (["run", none, "--exsting"], ["run", none, "--oooo"], ["check", none, "--hello"]):
+    for words in (["run", none, "--exsting"], ["run", none, "--oooo"], ["run", none, "--one-sink"], ["run", none, "--one"], ["check", none, "--hello"]):
         wanted = subprocess.run([PROGRAM, *words], stdin=subprocess.DEVNULL, capture_output=True, check=False)
         check(f"words of the program: {words}", called(script, *words), (wanted.returncode, wanted.stdout, wanted.stderr))
     check("what is made by them", os.path.exists(none), False)

@@ -114,6 +114,10 @@ def with_operators(script: str, room: str) -> None:
     called(script, "run", none + "2", stdin=b"'(COND < A)")
     err = called(script, "run", none + "2", "--operators")[2]
     check("several of such names", b"is there already (37 NAME-CONFLICT): < COND. Write" in err, True)
+    check("a store with one sync", called(script, "run", none + "3", "--one-sync", "--operators", stdin=form), (0, b"1\n", b""))
+    check("it is kept so", called(script, "info", none + "3", "--files")[1].splitlines()[1:3], [b"version 3", b"syncs 1"])
+    status, out, err = called(script, "run", none + "3", "--operators")
+    check("without the word", (status, out, err), (3, b"", b"! 66 VERSION\nthe store is kept with one sync: open it with --one-sync\n"))
     running = begun(script, none, "--operators")
     answered(running, b"(LIST 1)")
     status, out, err = called(script, "run", none, "--operators")
