@@ -4,7 +4,7 @@ import re
 import shutil
 import tempfile
 
-from lib import played
+from lib import halves, played
 from lib.places import MEMORY, files_of
 
 # What `run` takes that is no matter of the command line.
@@ -12,6 +12,8 @@ OWN = ("--rescue", "--strict", "--existing", "--snapshot-every", "--snapshot-rat
 UNSPLIT = 77
 # What the program tells of a fault of the device before its cause, and the library does not: the call and the path.
 PATH = re.compile(rb"(! 60 DEVICE\n)(?:cannot [a-z ]+ )?DIR[^:\n]*: ")
+# What the program says of a store that another word would open. The library has no words.
+WORD = re.compile(rb"(! 66 VERSION\n)the store is kept with one sync: [^\n]*\n?")
 
 
 class Unplayable(Exception):
@@ -43,11 +45,12 @@ def answered(step, player, folder):
 
 
 def are_same(files, others):
-    """Whether the library left these files as the program left its own, but for zeros at their end: a session of the
-    program cuts those that stand behind the half in use."""
+    """Whether the library left these files as the program left its own, but for the identities of stores, and for zeros
+    at their end: a session of the program cuts those that stand behind the half in use."""
     if files.keys() != others.keys():
         return False
-    return all(file.startswith(others[name]) and not file[len(others[name]) :].strip(b"\0") for name, file in files.items())
+    pairs = [(halves.without_identity(file), halves.without_identity(others[name])) for name, file in files.items()]
+    return all(file.startswith(other) and not file[len(other) :].strip(b"\0") for file, other in pairs)
 
 
 def difference(step, player, program, folder, other):
@@ -64,7 +67,7 @@ def difference(step, player, program, folder, other):
         found = played.text_of(*step.answer(program, folder))
         return None if found == by_program.replace(other.encode(), folder.encode()) else f"{step.words}: {found!r}"
     found = answered(step, player, folder)
-    wanted = PATH.sub(rb"\1", played.joined(step.wanted))
+    wanted = WORD.sub(rb"\1", PATH.sub(rb"\1", played.joined(step.wanted)))
     if found != wanted and not (step.is_open and found.startswith(wanted)):
         return f"{step.words}: wanted {wanted[:300]!r}, found {found[:300]!r}"
     if not are_same(files_of(folder), files_of(other)):
