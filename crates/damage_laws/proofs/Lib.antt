@@ -1,0 +1,3 @@
+pub mod Parting
+mod NearRecords
+mod NearHalves
