@@ -1,5 +1,5 @@
 //! What a byte that has changed in a half of version 3 comes to. It is a law: the contract of a function that does nothing, so that who
-//! calls it has it in his own proof.
+//! calls it has it in his own proof. Module `altered` calls it: it reads halves of which each bit is turned.
 //!
 //! Lemmas in `proofs`: `Parting`, where the byte stands, and what it does to a sum; `NearRecords`, the records; `NearHalves`, the head and the snapshot.
 #![tactic(auto)]
