@@ -51,6 +51,7 @@ CHECKS = [
     Check("the readings", f"checks/readings/run {PROGRAM}", "", 30),
     Check("the replays over version 3", f"checks/replays {PROGRAM} --version 3 --sessions 100 --seed 301", "", 5),
     Check("the altered bytes", f"checks/altered {PROGRAM}", "", 15),
+    Check("the torn stores", f"checks/torn {PROGRAM} --images 600", "", 15),
     Check("the messages", f"checks/messages/run {PROGRAM}", "", 8),
     Check("the clients with a name", f"checks/client_table/run {PROGRAM}", "", 30),
     Check("the groups", f"checks/groups --program {PROGRAM} --sessions --kills 25", "", 35),
