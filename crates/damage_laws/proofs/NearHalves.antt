@@ -1,7 +1,7 @@
 -- Two halves that differ in one byte agree.
-use Rattle.std.proofs.Common.{◌≡◌, ◌≢◌, ◌⊎◌, inl, inr, ℕ, ◌+◌, ◌^◌, ◌<◌, ◌≤◌, List, [], ◌∷◌, ◌++◌, length, get_or, take, drop, refl, sym, ◌∙◌, ap, subst, arith, append_assoc, length-append}
+use Rattle.std.proofs.Common.{◌≡◌, ◌⊎◌, inl, inr, ℕ, ◌+◌, ◌<◌, List, ◌∷◌, ◌++◌, length, get_or, take, drop, refl, sym, ◌∙◌, ap, subst, arith, append_assoc, length-append}
 use Rattle.std.specs.List.{AllByRecursion, flat_map}
-use Rattle.std.specs.Int.{from_be_bytes, to_be_bytes, w16, w32, w64}
+use Rattle.std.specs.Int.{from_be_bytes, to_be_bytes, w32, w64}
 use Rattle.std.proofs.lemmas.Nat.{from_be_bytes-to_be_bytes_4, from_be_bytes-to_be_bytes_8}
 use Rattle.crc32c.specs.Register.{crc32c}
 use Rattle.crc32c.proofs.Bits.{sum_fits}
@@ -10,7 +10,7 @@ use Rattle.batch_bytes.proofs.Records.{same_pieces}
 use Rattle.batched_half.specs.Contents.{Contents}
 use Rattle.batched_half.proofs.OneVersion3.{batches_same}
 use Rattle.batched_half.specs.PlaceReading.{records_size}
-use Rattle.batched_half.specs.Version3.{BeginsWithNoMark, HoldsBatches, IsBehind, IsManner, Manner, batch_entries, batches_front, half_head, head_fields, mark_of_one_sync, mark_of_two_syncs}
+use Rattle.batched_half.specs.Version3.{BeginsWithNoMark, HoldsBatches, IsBehind, IsManner, Manner, batch_entries, batches_front, half_head, head_fields, mark_of_two_syncs}
 use Rattle.damage_laws.specs.Damage.{AgreeAsFarAsBothGo, BeginWith, DifferInOneByte, IsMarkAt}
 use Rattle.damage_laws.proofs.Parting.{first_or_later, moved, not_itself, parted, sum_changes}
 use Rattle.damage_laws.proofs.NearRecords.{AreNear, all_near, hidden}

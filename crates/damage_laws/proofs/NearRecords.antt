@@ -1,11 +1,11 @@
 -- Records in bytes that are the same, or the same but for one byte: they are the same records.
-use Rattle.std.proofs.Common.{◌≡◌, ◌≢◌, ◌⊎◌, inl, inr, ℕ, ◌+◌, ◌*◌, ◌^◌, ◌<◌, ◌≤◌, List, [], ◌∷◌, ◌++◌, length, length-append, get_or, take, drop, refl, sym, ◌∙◌, ap, subst, arith, append_assoc}
+use Rattle.std.proofs.Common.{◌≡◌, ◌⊎◌, inl, inr, ℕ, ◌+◌, ◌<◌, ◌≤◌, List, [], ◌∷◌, ◌++◌, length, length-append, get_or, take, drop, refl, sym, ◌∙◌, ap, arith, append_assoc}
 use Rattle.std.proofs.lemmas.List.{append_cancel_left, length-map}
 use Rattle.std.specs.List.{AllByRecursion, flat_map}
 use Rattle.crc32c.specs.Register.{crc32c}
 use Rattle.crc32c.proofs.Bits.{sum_fits}
 use Rattle.batch_bytes.specs.Digits.{digits}
-use Rattle.batch_bytes.specs.Batch.{LogRecord, IsLogRecord, form_limit, stored_byte, stored_bytes, head_digits, record_head, record_bytes, goes_on, next_mark, batch_bytes}
+use Rattle.batch_bytes.specs.Batch.{LogRecord, IsLogRecord, stored_byte, stored_bytes, head_digits, record_head, record_bytes, goes_on, next_mark, batch_bytes}
 use Rattle.batch_bytes.proofs.Numbers.{same_number}
 use Rattle.batch_bytes.proofs.Records.{length-head, same_heads, same_pieces, same_text}
 use Rattle.batch_bytes.proofs.Whole.{batch_first, goes_either, one_record}
