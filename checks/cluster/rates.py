@@ -1,4 +1,6 @@
-"""Answers a second that many clients have of something, each of which waits for an answer before it sends again; and medians of rounds.
+"""Answers a second that many clients have of something, and medians of rounds.
+
+Each client waits for an answer before it sends again.
 
 The clients are in processes of their own, lean ones: what is measured has the rest of the machine.
 """
@@ -163,7 +165,8 @@ def measured(kind: str, places: Sequence[Place], count: int, seconds: float, run
     for place in range(min(PROCESSES, count)):
         mine, its = multiprocessing.Pipe()
         ways.append(mine)
-        processes.append(multiprocessing.Process(target=load, args=(kind, places, names[place::PROCESSES], seconds, its)))
+        job = (kind, places, names[place::PROCESSES], seconds, its)
+        processes.append(multiprocessing.Process(target=load, args=job))
         processes[-1].start()
     times = sorted(one for way in ways for one in way.recv())
     for process in processes:
@@ -187,7 +190,7 @@ def words(about: str | None) -> argparse.ArgumentParser:
     parser.add_argument("--rounds", type=int, default=3)
     parser.add_argument("--counts", default=",".join(map(str, COUNTS)))
     parser.add_argument("--room")
-    parser.add_argument("--under", default="", help="a command by which the measuring process is started, once all is up")
+    parser.add_argument("--under", default="", help="a command that starts the measuring process, once all is up")
     return parser
 
 

@@ -36,8 +36,11 @@ class AloneKeeper(Keeper):
     async def heed_skips(self, position: int) -> None:
         """Nothing: it is this node itself that skips."""
 
+    def passes(self, refusal: bytes) -> bool:
+        return refusal.startswith(PASSED)
+
     async def ended_at(self, number: int, refusal: bytes) -> None:
-        if not refusal.startswith(PASSED):
+        if not self.passes(refusal):
             return
         told = refusal.decode("ascii", "replace")
         try:

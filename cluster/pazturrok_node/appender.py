@@ -150,13 +150,14 @@ class Appender:
 
     def _refused(self, some: Sequence[Unplaced], error: FullError) -> list[Placed]:
         """What those have for whom there is no room, beside those that the log has already."""
-        self._tell_full(error)
+        self.tell_full(str(error))
         return [error.placed.get(one.name, Refused(NO_ROOM)) for one in some]
 
-    def _tell_full(self, error: FullError) -> None:
+    def tell_full(self, reason: str) -> None:
+        """Tells an operator now and then that there is no room."""
         now = time.monotonic()
         if now > self._told + BETWEEN:
-            logger.error("%s", error)
+            logger.error("%s", reason)
             self._told = now
 
     def _take(self) -> list[Unplaced]:
