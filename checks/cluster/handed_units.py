@@ -110,6 +110,26 @@ class HandedTest(unittest.IsolatedAsyncioTestCase):
         self.assertEqual(b"".join(told), b"by 7 14\n! 90 NO-MEMORY\n")
         self.assertIsNone(self.node.stuck_message)
 
+    async def test_a_question_ends_the_store(self):
+        """One that waits, and by which stores have ended, is not answered for that; it is handed on again."""
+        one, told = self.client()
+        one.data_received(b"by 7 5\na (X)\n")
+        await self.sent()
+        for _ in range(2):
+            self.node._count_end()
+            self.node._may_hand = False
+            self.node._settle(0)
+            self.assertEqual(await self.sent(), [])
+            work = asyncio.ensure_future(self.node._begin_to_hand(self.child))
+            self.assertEqual(await self.sent(), [b"by 7 5\na (X)\n"])
+            work.cancel()
+        self.node._count_end()
+        self.node._settle(0)
+        self.assertIsNotNone(self.node.stuck_message)
+        self.node._pass(b"! 90 NO-MEMORY")
+        await settled()
+        self.assertEqual((told, len(self.node._held)), ([], 1))
+
     async def test_no_room(self):
         """Nothing is handed on, and the store is asked whether it has carried that out."""
         one, told = self.client()
@@ -122,17 +142,34 @@ class HandedTest(unittest.IsolatedAsyncioTestCase):
 
 
 class GroundTest(unittest.IsolatedAsyncioTestCase):
+    async def test_what_a_read_waits_for(self):
+        """A journal has no last entry before it was read, which is once the store was opened."""
+        node = Node(mock.Mock(is_shared=False), mock.Mock(), [])
+        node.log.last = mock.AsyncMock(return_value=0)
+        reading = asyncio.ensure_future(node.reach_last())
+        await settled()
+        node.log.last.assert_not_called()
+        node._settle(0)
+        await asyncio.wait_for(reading, 10)
+        node.log.last.assert_called_once()
+
     async def test_what_a_journal_wants(self):
-        """A message is an entry where a mark has to come before it."""
+        """A message is an entry where a mark has to come before it, and where an entry waits that the store was not sent."""
         with tempfile.TemporaryDirectory() as folder:
             journal = Journal(folder, 600)
             journal.open(0)
+            fed = journal._hand = mock.Mock(return_value=True)
             wanted = [journal.wants_named]
             for name, text in ((b"a:1", b" (X)"), (b"a:2", b""), (b"b:1", b" (X)"), (b"own", b"(X)")):
                 await journal.append([(name, text)], 0)
                 wanted.append(journal.wants_named)
+            fed.return_value = False
+            await journal.append([(b"other", b"(X)")], 0)
+            wanted.append(journal.wants_named)
+            journal._queue.clear()
+            wanted.append(journal.wants_named)
             journal.want_mark()
-            self.assertEqual([*wanted, journal.wants_named], [False, False, True, False, False, True])
+            self.assertEqual([*wanted, journal.wants_named], [False, False, True, False, False, True, False, True])
             journal.close()
 
     def test_who_takes_an_answer(self):

@@ -115,6 +115,8 @@ class Node:
 
     async def reach_last(self) -> None:
         """Waits until it has carried out all entries that were in the log when this was called."""
+        # a journal is read once the store was opened
+        await self.is_admitted.wait()
         last = await self.log.last()
         await self._moved.until(lambda: self._reached[0] >= last)
         await self.reach(self._reached[1])
@@ -205,7 +207,8 @@ class Node:
     def _pass(self, refusal: bytes) -> None:
         """A message that was handed on, and at which the store has ended again, is answered with its refusal."""
         one = self.stuck_message
-        if one:
+        # where it was not sent to this store, that has ended by something else
+        if one and self._sent:
             told = refusal.decode("ascii", "replace")
             logger.warning("message %d of the client %s is answered with %s, and is not tried again", one.number, one.client.decode("ascii"), told)
             self._sent.popleft()
