@@ -227,6 +227,9 @@ def own_member(folder, program):
 MOST_SILENT = 3.0
 """Seconds without an answer, after the leader of etcd has stopped, in one case and the other; of several stops most have to be shorter."""
 
+LONGEST_SILENT = 10.0
+"""And all than this, on a busy machine too: a watch of a member that has stopped, and which nobody left, would be left after 15."""
+
 
 def stopped_leader(folder, program):
     """The leader of etcd is stopped: each node answers forms again after three seconds, also the one whose own member it is."""
@@ -249,7 +252,8 @@ def stopped_leader(folder, program):
         for case, times in told.items():
             print(f"cluster: the leader of etcd, {case} of a node, is stopped: no answer for {' '.join(f'{one:.1f}' for one in times)} s, "
                   f"load {os.getloadavg()[0]:.0f}", flush=True)
-        return [f"{case} stops: no answer for {times[len(times) // 2]:.1f} s" for case, times in told.items() if times[len(times) // 2] > MOST_SILENT]
+        faults = [f"{case} stops: no answer for {times[len(times) // 2]:.1f} s" for case, times in told.items() if times[len(times) // 2] > MOST_SILENT]
+        return faults + [f"{case} stops: once there was no answer for {times[-1]:.1f} s" for case, times in told.items() if times[-1] > LONGEST_SILENT]
     finally:
         cluster.end()
 

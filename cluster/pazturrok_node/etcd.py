@@ -141,6 +141,9 @@ class Etcd:
         self._silent: set[int] = set()
         """The members that did not answer the last call to them."""
         self._watch: Connection | None = None
+        self._is_in_doubt = False
+        """Whether a member was silent, and the watch has told nothing since: it may be that of another one which has
+        stopped, and which no call goes to."""
         self._doublings = 0
         """How many watches, one after the other, told nothing in time."""
 
@@ -206,12 +209,13 @@ class Etcd:
         return min(max(TYPICAL * self._took, QUICKEST), QUICK)
 
     def _heed_answer(self, at: int) -> None:
-        """A member has answered. Where the one that is watched did not, this one is watched from now on."""
+        """A member has answered. Where the one that is watched did not, or may not, this one is watched from now on."""
         self._silent.discard(at)
-        if self._watched in self._silent:
+        if self._watched in self._silent or (self._is_in_doubt and self._watched != at):
             self._watched = at
             if self._watch:
                 self._watch.cut()
+        self._is_in_doubt = False
 
     def _heed_leader(self, path: str, found: dict[str, Any], began: float) -> None:
         """A member has answered a call. Where it could not do that, etcd has no leader, until a call that wants one is done; it had none either while no
@@ -255,6 +259,7 @@ class Etcd:
     def _heed_silence(self, at: int, why: str) -> None:
         """A member does not answer, and the next one is asked. Tells an operator what keeps this node from etcd, now and then."""
         self._silent.add(at)
+        self._is_in_doubt = True
         self._leave(at)
         now = time.monotonic()
         self._silent_since = self._silent_since or now
@@ -307,6 +312,7 @@ class Etcd:
             text, chunks = b"", connection.chunks()
             while True:
                 *lines, text = (text + await asyncio.wait_for(chunks.__anext__(), pause * patience)).split(b"\n")
+                self._is_in_doubt = False
                 for line in lines:
                     result = watched(json.loads(line))
                     if "events" in result:
