@@ -157,15 +157,20 @@ def told_of(cluster, name):
     return next((line for line in lines if line.startswith(name + " ")), "")
 
 
+def is_at_a_number(cluster, name):
+    return told_of(cluster, name).split(" at ")[1].isdigit()
+
+
 def killed(folder, program):
     """`nodes` says of a node that was killed that nothing is heard of it, until it is listed no more; and of one that has started that its store is
     not open yet."""
     cluster, slow = begun(folder, program, nodes=2), os.path.join(folder, os.path.basename(program))
     try:
-        faults = [] if told_of(cluster, "n1").split(" at ")[1].isdigit() else [f"of a node that runs: {told_of(cluster, 'n1')}"]
+        faults = []
+        until(lambda: is_at_a_number(cluster, "n1"), "`nodes` tells of a node that runs")
         cluster.nodes[1].kill()
         until(lambda: ", not heard of for " in told_of(cluster, "n1"), "`nodes` tells of the node that was killed")
-        faults += [] if told_of(cluster, "n0").split(" at ")[1].isdigit() else [f"of the other node: {told_of(cluster, 'n0')}"]
+        faults += [] if is_at_a_number(cluster, "n0") else [f"of the other node: {told_of(cluster, 'n0')}"]
         until(lambda: told_of(cluster, "n1") == "", "the node that was killed is listed no more")
         with open(slow, "w", encoding="utf-8") as file:
             file.write(SLOW.format(program))
