@@ -228,7 +228,8 @@ MOST_SILENT = 3.0
 """Seconds without an answer, after the leader of etcd has stopped, in one case and the other; of several stops most have to be shorter."""
 
 LONGEST_SILENT = 10.0
-"""And all than this, on a busy machine too: a watch of a member that has stopped, and which nobody left, would be left after 15."""
+"""And all than this, on a busy machine too: a watch of a member that has stopped, and which nobody left, would be left
+after 15."""
 
 
 def stopped_leader(folder, program):
@@ -252,8 +253,12 @@ def stopped_leader(folder, program):
         for case, times in told.items():
             print(f"cluster: the leader of etcd, {case} of a node, is stopped: no answer for {' '.join(f'{one:.1f}' for one in times)} s, "
                   f"load {os.getloadavg()[0]:.0f}", flush=True)
-        faults = [f"{case} stops: no answer for {times[len(times) // 2]:.1f} s" for case, times in told.items() if times[len(times) // 2] > MOST_SILENT]
-        return faults + [f"{case} stops: once there was no answer for {times[-1]:.1f} s" for case, times in told.items() if times[-1] > LONGEST_SILENT]
+        faults = []
+        for case, times in told.items():
+            middle, most = times[len(times) // 2], times[-1]
+            if middle > MOST_SILENT or most > LONGEST_SILENT:
+                faults.append(f"{case} stops: no answer for {middle:.1f} s, and once for {most:.1f} s")
+        return faults
     finally:
         cluster.end()
 

@@ -154,7 +154,7 @@ class GroundTest(unittest.IsolatedAsyncioTestCase):
         node.log.last.assert_called_once()
 
     async def test_what_a_journal_wants(self):
-        """A message is an entry where a mark has to come before it, and where an entry waits that the store was not sent."""
+        """A message is an entry where a mark has to come before it, and where an entry waits that was not sent."""
         with tempfile.TemporaryDirectory() as folder:
             journal = Journal(folder, 600)
             journal.open(0)

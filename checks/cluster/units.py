@@ -302,8 +302,8 @@ class EtcdTest(unittest.IsolatedAsyncioTestCase):
         self.assertEqual(await asyncio.wait_for(one.watch({}, 1, 2 * LONG).__anext__(), LONG), {"header": {"revision": "7"}})
 
     async def test_watched_member_that_no_call_goes_to(self):
-        """It hangs with the one that is asked: the watch goes to the one that answers, though no call has found out. Where the watch tells
-        something it stays."""
+        """It hangs with the one that is asked: the watch goes to the one that answers, though no call has found out.
+        Where the watch tells something it stays."""
         one = Etcd([await self.member(False), await self.member(True), await self.member(False)])
         for is_heard in (True, False):
             one._at, one._watched, one._watch = 0, 2, mock.Mock()
