@@ -64,7 +64,9 @@ def by_node_store(cluster):
     from pazturrok import NodeStore, RefusedError, StoreError
 
     try:
-        with NodeStore([f"{host}:{port}" for host, port in reversed(cluster.places)], time_limit=3 * LONG) as store:
+        places = [f"{host}:{port}" for host, port in reversed(cluster.places)]
+        # on a busy machine a store may take longer than a client waits for by itself before it asks another node
+        with NodeStore(places, patience=LONG / 4, time_limit=3 * LONG) as store:
             return store.ask(LARGE.decode())
     except RefusedError as error:
         return error.number
