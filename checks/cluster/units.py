@@ -304,16 +304,16 @@ class EtcdTest(unittest.IsolatedAsyncioTestCase):
     async def test_watched_member_that_no_call_goes_to(self):
         """It hangs with the one that is asked: the watch goes to the one that answers, though no call has found out.
         Where the watch tells something it stays."""
-        one = Etcd([await self.member(False), await self.member(True), await self.member(False)])
         for is_heard in (True, False):
-            one._at, one._watched, one._watch = 0, 2, mock.Mock()
-            with mock.patch.object(one, "_leave", side_effect=lambda _: setattr(one, "_at", 1)):
-                call = asyncio.ensure_future(one.call("/v3/kv/range", {}, 0.2))
-                while one._at == 0:
-                    await asyncio.sleep(0.01)
-                one._is_in_doubt = one._is_in_doubt and not is_heard
-                await asyncio.wait_for(call, LONG)
-            self.assertEqual((one._watched, one._watch.cut.called), (2, False) if is_heard else (1, True))
+            one = Etcd([await self.member(False), await self.member(True), await self.member(is_heard)])
+            one._watched, one._watch = 2, mock.Mock()
+            one._heed_silence(0, "it hangs")
+            watch, cut = one.watch({}, 1, 2 * LONG), one._watch.cut
+            if is_heard:
+                await asyncio.wait_for(watch.__anext__(), LONG)
+            one._heed_answer(1)
+            self.assertEqual((one._watched, cut.called), (2, False) if is_heard else (1, True))
+            await watch.aclose()
 
     async def test_member_that_seeks(self):
         """One that says nothing while it seeks what a node has missed is waited for longer from watch to watch, until it tells."""
