@@ -10,8 +10,8 @@
 
    Numbers of calls are those of pazturrok.h, and of messages with a name: 48 a form has overwritten the entry of the client; 49 the message was
    carried out, and its answer is not kept; 50 the number is below that of the client's last message; 54 the store has as many clients as it may;
-   55 the last message has this number and another form; 56 the name is none; 57 the form is too long. After all of these nothing was done. 60
-   the program cannot be started, or has ended by itself, and 61 the link has failed so before: close it, and open it again. Of a node 60 says that
+   55 the last message has this number and another form; 56 the name is none; 57 the form is too long. A call with one of these answers did nothing.
+   60 the program cannot be started, or has ended by itself, and 61 the link has failed so before: close it, and open it again. Of a node 60 says that
    none answered in time: the same message may be sent again under its number at once, by the same link. 54 is also that the node has no room, and
    58 that it takes no clients with a name. */
 #ifndef PAZTURROK_LINK_H
