@@ -12,6 +12,8 @@ OWN = ("--rescue", "--strict", "--existing", "--snapshot-every", "--snapshot-rat
 UNSPLIT = 77
 # What the program tells of a fault of the device before its cause, and the library does not: the call and the path.
 PATH = re.compile(rb"(! 60 DEVICE\n)(?:cannot [a-z ]+ )?DIR[^:\n]*: ")
+# What the program says of a store that another word would open. The library has no words.
+WORD = re.compile(rb"(! 66 VERSION\n)the store is kept with one sync: [^\n]*\n?")
 
 
 class Unplayable(Exception):
@@ -64,10 +66,12 @@ def difference(step, player, program, folder, other):
         found = played.text_of(*step.answer(program, folder))
         return None if found == by_program.replace(other.encode(), folder.encode()) else f"{step.words}: {found!r}"
     found = answered(step, player, folder)
-    wanted = PATH.sub(rb"\1", played.joined(step.wanted))
+    wanted = WORD.sub(rb"\1", PATH.sub(rb"\1", played.joined(step.wanted)))
     if found != wanted and not (step.is_open and found.startswith(wanted)):
         return f"{step.words}: wanted {wanted[:300]!r}, found {found[:300]!r}"
-    if not are_same(files_of(folder), files_of(other)):
+    # (other stores of the session may be the program's own in both, each with an identity that was drawn by lot)
+    store, its_twin = (step.words[1].replace("DIR", place, 1) for place in (folder, other))
+    if not are_same(files_of(store), files_of(its_twin)):
         return f"{step.words}: other files than the program's"
     return None
 
