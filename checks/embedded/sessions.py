@@ -4,7 +4,7 @@ import re
 import shutil
 import tempfile
 
-from lib import played
+from lib import halves, played
 from lib.places import MEMORY, files_of
 
 # What `run` takes that is no matter of the command line.
@@ -45,11 +45,12 @@ def answered(step, player, folder):
 
 
 def are_same(files, others):
-    """Whether the library left these files as the program left its own, but for zeros at their end: a session of the
-    program cuts those that stand behind the half in use."""
+    """Whether the library left these files as the program left its own, but for the identities of stores, and for zeros
+    at their end: a session of the program cuts those that stand behind the half in use."""
     if files.keys() != others.keys():
         return False
-    return all(file.startswith(others[name]) and not file[len(others[name]) :].strip(b"\0") for name, file in files.items())
+    pairs = [(halves.without_identity(file), halves.without_identity(others[name])) for name, file in files.items()]
+    return all(file.startswith(other) and not file[len(other) :].strip(b"\0") for file, other in pairs)
 
 
 def difference(step, player, program, folder, other):
@@ -69,9 +70,7 @@ def difference(step, player, program, folder, other):
     wanted = WORD.sub(rb"\1", PATH.sub(rb"\1", played.joined(step.wanted)))
     if found != wanted and not (step.is_open and found.startswith(wanted)):
         return f"{step.words}: wanted {wanted[:300]!r}, found {found[:300]!r}"
-    # (other stores of the session may be the program's own in both, each with an identity that was drawn by lot)
-    store, its_twin = (step.words[1].replace("DIR", place, 1) for place in (folder, other))
-    if not are_same(files_of(store), files_of(its_twin)):
+    if not are_same(files_of(folder), files_of(other)):
         return f"{step.words}: other files than the program's"
     return None
 
