@@ -24,7 +24,7 @@ class NamedTest(unittest.IsolatedAsyncioTestCase):
     def begun(self, takes_named):
         """A client of a node whose log takes such messages, or does not; what it is answered, and what it has appended."""
         node, appender, told = mock.Mock(), mock.Mock(), []
-        node.log.takes_named, node.is_hearing, node.answers, node.last_handed.return_value = takes_named, False, Answers(), None
+        node.log.takes_named, node.is_hearing, node.answers = takes_named, False, Answers()
         transport = mock.Mock(spec=asyncio.Transport)
         transport.write.side_effect = told.append
         transport.get_write_buffer_size.return_value = 0

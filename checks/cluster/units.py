@@ -1,5 +1,5 @@
 """The parts of a node by themselves: frames, answers, how requests come into a log, the program of a store; journal_units.py has the journal,
-handed_units.py and named_units.py the messages of clients with a name, and seed_units.py what comes from other nodes and versions."""
+named_units.py the messages of clients with a name, and seed_units.py what comes from other nodes and versions."""
 import asyncio
 import contextlib
 import errno
@@ -14,7 +14,6 @@ import tempfile
 import unittest
 from unittest import mock
 
-import handed_units
 import journal_units
 import named_units
 import seed_units
@@ -411,7 +410,7 @@ class SocketTest(unittest.TestCase):
 
 def units(_folder, _program):
     load = unittest.defaultTestLoader.loadTestsFromModule
-    tests = unittest.TestSuite(map(load, (sys.modules[__name__], handed_units, journal_units, named_units, seed_units)))
+    tests = unittest.TestSuite(map(load, (sys.modules[__name__], journal_units, named_units, seed_units)))
     logging.disable(logging.CRITICAL)
     try:
         with open(os.devnull, "w", encoding="ascii") as nowhere:

@@ -36,11 +36,8 @@ class AloneKeeper(Keeper):
     async def heed_skips(self, position: int) -> None:
         """Nothing: it is this node itself that skips."""
 
-    def passes(self, refusal: bytes) -> bool:
-        return refusal.startswith(PASSED)
-
     async def ended_at(self, number: int, refusal: bytes) -> None:
-        if not self.passes(refusal):
+        if not refusal.startswith(PASSED):
             return
         told = refusal.decode("ascii", "replace")
         try:

@@ -150,14 +150,13 @@ class Appender:
 
     def _refused(self, some: Sequence[Unplaced], error: FullError) -> list[Placed]:
         """What those have for whom there is no room, beside those that the log has already."""
-        self.tell_full(str(error))
+        self._tell_full(error)
         return [error.placed.get(one.name, Refused(NO_ROOM)) for one in some]
 
-    def tell_full(self, reason: str) -> None:
-        """Tells an operator now and then that there is no room."""
+    def _tell_full(self, error: FullError) -> None:
         now = time.monotonic()
         if now > self._told + BETWEEN:
-            logger.error("%s", reason)
+            logger.error("%s", error)
             self._told = now
 
     def _take(self) -> list[Unplaced]:

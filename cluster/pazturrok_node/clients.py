@@ -136,10 +136,10 @@ def keep_alive(transport: asyncio.BaseTransport) -> None:
 class Slot:
     """A request that has no answer yet, or whose answer waits for those before it."""
 
-    __slots__ = ("answer", "is_begun", "is_handed", "request")
+    __slots__ = ("answer", "is_begun", "request")
 
     def __init__(self, request: Request) -> None:
-        self.request, self.is_begun, self.is_handed = request, False, False
+        self.request, self.is_begun = request, False
         self.answer: bytes | None = None
 
 
@@ -150,10 +150,7 @@ class Client(asyncio.Protocol):
         self._slots: collections.deque[Slot] = collections.deque()
         self._transport: asyncio.Transport | None = None
         self._works: set[asyncio.Task[None]] = set()
-        self._unplaced = self._forms = self._handed = 0
-        """How many bytes wait for the log; how many forms have no answer, and how many messages that are not in the queue of the log."""
-        self._later: collections.deque[Slot] = collections.deque()
-        """Forms that wait for the answers of such messages, and what comes after them."""
+        self._unplaced = 0
         self._may_write = asyncio.Event()
         self._may_write.set()
         self._is_over = self._is_refused = self._is_paused = self._is_due = False
@@ -254,32 +251,19 @@ class Client(asyncio.Protocol):
         slot = Slot(request)
         self._slots.append(slot)
         self._clients.heed(self, request.kind)
-        if request.kind in ("do", "by"):
+        if request.kind == "do":
             slot.is_begun = True
             self._unplaced += len(request.text)
-            if self._later or (request.kind == "do" and self._handed):
-                self._later.append(slot)
-            else:
-                self._put(slot)
+            name = request.name or self._clients.new_name()
+            self._appender.append(self, name, request.text, lambda placed: self._take_place(slot, placed))
+        elif request.kind == "by":
+            slot.is_begun = True
+            self._take_named(slot, request)
         elif request.kind == "version":
             slot.is_begun = True
             self._answer(slot, answer(None, self._clients.greeting))
         else:
             self._begin_first()
-
-    def _put(self, slot: Slot) -> None:
-        """Has a form or a message carried out after those that this client has sent before."""
-        request = slot.request
-        if request.kind == "by":
-            self._take_named(slot, request)
-            return
-        self._forms += 1
-        name = request.name or self._clients.new_name()
-        self._appender.append(self, name, request.text, lambda placed: self._take_place(slot, placed))
-
-    def _put_later(self) -> None:
-        while self._later and not (self._handed and self._later[0].request.kind == "do"):
-            self._put(self._later.popleft())
 
     def _take_place(self, slot: Slot, placed: Placed | None) -> None:
         """A form has come into the log, or will not."""
@@ -301,10 +285,9 @@ class Client(asyncio.Protocol):
             else:
                 self._answer(slot, text)
 
-        message = Message(self, request, take, lambda: self._count_placed(request), lambda: self._transport is not None, not self._forms)
-        if self._clients.named.append(message):
-            self._handed += 1
-            slot.is_handed = True
+        self._unplaced += len(request.text)
+        message = Message(self, request, take, lambda: self._count_placed(request), lambda: self._transport is not None)
+        self._clients.named.append(message)
 
     def _count_placed(self, request: Request) -> None:
         """It waits for the log no more."""
@@ -373,11 +356,6 @@ class Client(asyncio.Protocol):
 
     def _answer(self, slot: Slot, text: bytes) -> None:
         slot.answer = text
-        if slot.is_handed:
-            self._handed -= 1
-            self._put_later()
-        elif slot.request.kind == "do":
-            self._forms -= 1
         if self._slots and self._slots[0] is slot and not self._is_due:
             self._is_due = True
             self._clients.send_soon(self)

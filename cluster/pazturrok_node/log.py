@@ -145,11 +145,6 @@ class Log(abc.ABC):
     is_shared = False
     """Whether stores of other nodes carry out its entries too."""
 
-    @property
-    def wants_named(self) -> bool:
-        """Whether messages of clients with a name have to be its entries now: else the store may be handed them without it."""
-        return True
-
     def want_mark(self) -> None:
         """Has a mark stand before the next message of a client with a name."""
 
@@ -228,10 +223,6 @@ class Keeper(abc.ABC):
     @abc.abstractmethod
     async def ended_at(self, number: int, refusal: bytes) -> None:
         """The store has ended at an entry again, while that was alone: with this refusal, if it told one."""
-
-    def passes(self, _refusal: bytes) -> bool:
-        """Whether what has the store end twice with this refusal is answered so, and not tried again."""
-        return False
 
     @abc.abstractmethod
     def will_skip(self, number: int) -> None:

@@ -75,8 +75,6 @@ class Monitor:
             found.append(f"the store has ended{why}, and is started again")
         if self._node.stuck:
             found.append(f"the store ends at entry {self._node.stuck} again and again")
-        if one := self._node.stuck_message:
-            found.append(f"the store ends at message {one.number} of the client {one.client.decode('ascii')} again and again")
         found += [trouble for trouble in (self._node.log.trouble, self._node.difference) if trouble]
         if silent > SILENCE:
             found.append(f"no member of etcd answers for {silent:.0f} s")
@@ -105,7 +103,7 @@ class Monitor:
             ("clients", "gauge", "Clients that are connected.", [("", self._clients.count)]),
             ("store_up", "gauge", "Whether the store runs.", [("", node.is_running)]),
             ("store_ends_total", "counter", "How often the store has ended by itself.", [("", node.count_of_ends)]),
-            ("stuck", "gauge", "Whether the store ends at one entry or message again and again.", [("", node.stuck > 0 or node.stuck_message is not None)]),
+            ("stuck", "gauge", "Whether the store ends at one entry again and again.", [("", node.stuck > 0)]),
             *figures_of(node.log),
         ]
 

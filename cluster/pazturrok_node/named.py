@@ -4,23 +4,17 @@ from __future__ import annotations
 
 import asyncio
 import re
-import time
 from collections.abc import Callable
 from typing import NamedTuple
 
 from .appender import Appender
 from .etcd import EtcdError, PutBackError
-from .frames import LOST, NO_FRAME, NO_ROOM, OTHER_TEXT, Request, named_answer
-from .handed import Handed
+from .frames import LOST, NO_FRAME, OTHER_TEXT, Request, named_answer
 from .log import Placed, Refused, name_of_message
 from .node import Node
 
 ENTRY = re.compile(rb'\(([0-9]+)\.? "((?:[^"\\]|\\.)*)" "((?:[^"\\]|\\.)*)"\)', re.DOTALL)
 """What the store tells of a client: the number, the form and the answer of its last message."""
-
-
-LOOK = 0.05
-"""Seconds between two looks whether there is room for messages that are no entries."""
 
 
 class Message(NamedTuple):
@@ -33,8 +27,6 @@ class Message(NamedTuple):
     """Is called once it waits for the log no more."""
     is_wanted: Callable[[], bool]
     """Whether somebody waits for its answer still."""
-    may_be_handed: bool
-    """Whether all forms are answered that its sender has sent before: else it is an entry after theirs."""
 
     @property
     def number(self) -> int:
@@ -52,104 +44,47 @@ class Message(NamedTuple):
 class NamedMessages:
     def __init__(self, node: Node, appender: Appender) -> None:
         self._node, self._appender = node, appender
-        self._under_way: dict[bytes, tuple[int | Handed, bytes]] = {}
-        """Those that have no answer: the number of the entry, or what was handed to the store, and the text. Who sends one
-        again waits for that: each message for which there is no memory would end the store twice."""
-        self._entries = 0
-        """How many have no answer that are entries of the log, or will be."""
+        self._under_way: dict[bytes, tuple[int, bytes]] = {}
+        """Those that have no answer: the number and the text of the entry. Who sends one again waits for that: each entry of a message for which there
+        is no memory would end the store twice."""
         self._looks: set[asyncio.Task[None]] = set()
-        self._looked, self._trouble = 0.0, ""
-        """When it was looked whether there is room, and why there was none."""
 
-    def append(self, message: Message) -> bool:
-        """Has it carried out, unless it is under way, and its answer taken. Whether it is not among those that wait for the
-        log: forms which its sender sends later have to wait for its answer."""
-        request = message.request
-        if request.name is None:
+    def append(self, message: Message) -> None:
+        """Puts it into the log, unless it is under way, and has its answer taken."""
+        if message.request.name is None:
             message.placed()
             message.answer(NO_FRAME)
-            return False
-        way, text = self._under_way.get(message.name, (0, b""))
-        if way and text == request.text:
-            message.placed()
-            self._wait(message, way)
-            return isinstance(way, Handed)
-        if request.text and message.may_be_handed and not self._entries and not self._node.log.wants_named:
-            # one by which a client goes has to be an entry: nothing of the client is left that tells what was carried out
-            self._hand(message, request.name)
-            return True
-        self._entries += 1
-        before = self._node.last_handed(request.name)
-        if before is None:
-            self._enter(message)
-            return False
-        # it is fed again before those that were handed on
-        before.takes.append(lambda _: self._enter(message))
-        return True
-
-    def _hand(self, message: Message, client: bytes) -> None:
-        if self._has_no_room():
-            message.placed()
-            self._look_soon(message, NO_ROOM)
             return
-        one = Handed(client, message.number, message.request.text)
-        one.takes.append(lambda _: message.placed())
-        self._under_way[message.name] = one, message.request.text
-        self._wait(message, one)
-        self._node.hand(one)
-
-    def _has_no_room(self) -> bool:
-        now = time.monotonic()
-        if now > self._looked + LOOK:
-            self._looked, self._trouble = now, self._node.log.trouble or ""
-        if self._trouble:
-            self._appender.tell_full(self._trouble)
-        return bool(self._trouble)
-
-    def _enter(self, message: Message) -> None:
-        """Puts it into the log."""
-        text = message.request.text
-        self._appender.append(message.sender, message.name, text, lambda placed: self._take_place(message, placed))
+        placed, text = self._under_way.get(message.name, (0, b""))
+        if placed and text == message.request.text:
+            message.placed()
+            self._wait(message, placed)
+            return
+        self._appender.append(message.sender, message.name, message.request.text, lambda placed: self._take_place(message, placed))
 
     def _take_place(self, message: Message, placed: Placed | None) -> None:
         message.placed()
-        if placed is None or isinstance(placed, Refused):
-            self._entries -= 1
-            if placed is None:
-                message.take(None)
-            else:
-                self._look_soon(message, placed.answer)
+        if placed is None:
+            message.take(None)
+        elif isinstance(placed, Refused):
+            look = asyncio.ensure_future(self._look(message, placed.answer))
+            self._looks.add(look)
+            look.add_done_callback(self._looks.discard)
         else:
             self._under_way[message.name] = placed, message.request.text
-            self._node.answers.answer_to(placed, self._heed_entry)
             self._wait(message, placed)
 
-    def _heed_entry(self, _text: bytes) -> None:
-        """An entry has its answer."""
-        self._entries -= 1
+    def _wait(self, message: Message, placed: int) -> None:
+        self._node.answers.answer_to(placed, lambda text: self._take_answer(message, placed, text))
 
-    def _wait(self, message: Message, way: int | Handed) -> None:
-        def take(text: bytes) -> None:
-            self._take_answer(message, way, text)
-
-        if isinstance(way, Handed):
-            way.takes.append(take)
-        else:
-            self._node.answers.answer_to(way, take)
-
-    def _take_answer(self, message: Message, way: int | Handed, text: bytes) -> None:
-        if self._under_way.get(message.name, (0, b""))[0] == way:
+    def _take_answer(self, message: Message, placed: int, text: bytes) -> None:
+        if self._under_way.get(message.name, (0, b""))[0] == placed:
             del self._under_way[message.name]
         if text is LOST and message.is_wanted():
             # it was carried out as the store ended, which is asked for its answer by the same message
             self.append(message)
         else:
             message.answer(text)
-
-    def _look_soon(self, message: Message, refusal: bytes) -> None:
-        look = asyncio.ensure_future(self._look(message, refusal))
-        self._looks.add(look)
-        look.add_done_callback(self._looks.discard)
 
     async def _look(self, message: Message, refusal: bytes) -> None:
         """Where there is no room for it: it may have been carried out before, and the store has its answer then."""

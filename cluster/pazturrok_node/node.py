@@ -5,17 +5,15 @@ from __future__ import annotations
 import asyncio
 import collections
 import contextlib
-import itertools
 import logging
 import time
-from collections.abc import Callable, Iterable, Sequence
+from collections.abc import Callable, Sequence
 from typing import NamedTuple
 
 from .answers import Answers
 from .child import Child
 from .faults import Fault
 from .frames import ANSWER, LOST, NO_FRAME, NO_MEMORY, Frames, NoFrameError, message, named_message, question
-from .handed import Handed
 from .log import COMPARED, MARKS, BehindError, Entry, Keeper, Log, Reached, is_named
 from .tasks import Waits, end_all
 
@@ -83,10 +81,7 @@ class Node:
         self._frames = Frames(ANSWER)
         self._skipped: dict[int, bytes] = {}
         self._last: Entry | None = None
-        self._sent: collections.deque[Entry | Handed] = collections.deque()
-        self._held: collections.deque[Handed] = collections.deque()
-        """Messages that the store is handed once it was fed the entries before them."""
-        self._may_hand = self._is_due = False
+        self._sent: collections.deque[Entry] = collections.deque()
         self._unasked: collections.deque[Question] = collections.deque()
         """Questions that were not sent to the store."""
         self._asked: collections.deque[Question] = collections.deque()
@@ -115,8 +110,6 @@ class Node:
 
     async def reach_last(self) -> None:
         """Waits until it has carried out all entries that were in the log when this was called."""
-        # a journal is read once the store was opened
-        await self.is_admitted.wait()
         last = await self.log.last()
         await self._moved.until(lambda: self._reached[0] >= last)
         await self.reach(self._reached[1])
@@ -125,18 +118,6 @@ class Node:
         """Has taken what the store answers to a question, as far as it has come."""
         self._unasked.append(Question(text, take))
         self._ask_all()
-
-    def hand(self, one: Handed) -> None:
-        """Has the store carry out a message that is no entry of the log, with all that come in this turn of the loop."""
-        self._held.append(one)
-        if not self._is_due:
-            self._is_due = True
-            asyncio.get_running_loop().call_soon(self._hand_all)
-
-    def last_handed(self, client: bytes) -> Handed | None:
-        """The last message of a client among those that were handed on and have no answer."""
-        found = itertools.chain(reversed(self._held), reversed(self._sent))
-        return next((one for one in found if isinstance(one, Handed) and one.client == client), None)
 
     # The store
 
@@ -160,11 +141,8 @@ class Node:
                 self.fault = child.fault
                 self.fault.look(was_open=True)
                 self._count_end()
-                refusal = self.fault.refusal or self._refusal_of(status)
                 if self.stuck:
-                    await self._keeper.ended_at(self.stuck, refusal)
-                elif self._keeper.passes(refusal):
-                    self._pass(refusal)
+                    await self._keeper.ended_at(self.stuck, self.fault.refusal or self._refusal_of(status))
                 pause = 0.05 if self.position > before else pause
             await asyncio.sleep(pause)
             pause = min(2 * pause, LONGEST_PAUSE)
@@ -189,30 +167,15 @@ class Node:
             one.ends += 1
         self._unasked.extendleft(reversed(asked))
         self._refuse({one.text for one in asked if one.ends > 1})
-        first, number = self._sent[0] if self._sent else None, 0
-        if isinstance(first, Handed):
-            first.ended(not asked)
-        elif first:
-            number = first.number
+        number = self._sent[0].number if self._sent else 0
         self._suspect = number or self._suspect
         if not asked:
             self._ended_at = (number, self._ended_at[1] + 1 if number == self._ended_at[0] else 1)
 
     def _refusal_of(self, status: int) -> bytes:
         """Why the store has ended with this status, where it told no number: an older one knows no messages of clients with a name."""
-        first = self._sent[0] if self._sent else None
-        is_of_client = isinstance(first, Handed) or first is not None and is_named(first.name)
-        return NO_FRAME if status == NO_FRAMES and is_of_client else b""
-
-    def _pass(self, refusal: bytes) -> None:
-        """A message that was handed on, and at which the store has ended again, is answered with its refusal."""
-        one = self.stuck_message
-        # where it was not sent to this store, that has ended by something else
-        if one and self._sent:
-            told = refusal.decode("ascii", "replace")
-            logger.warning("message %d of the client %s is answered with %s, and is not tried again", one.number, one.client.decode("ascii"), told)
-            self._sent.popleft()
-            one.answer(refusal)
+        is_unknown = status == NO_FRAMES and self._sent and is_named(self._sent[0].name)
+        return NO_FRAME if is_unknown else b""
 
     def _refuse(self, texts: set[bytes]) -> None:
         """Refuses these questions, by which the store has ended again, to all who wait with them. A client that gives up sooner than a slow
@@ -237,12 +200,6 @@ class Node:
         number, count = self._ended_at
         return number if number > self.position and count > 1 else 0
 
-    @property
-    def stuck_message(self) -> Handed | None:
-        """The message at which the store ends again and again, where it was handed that without the log."""
-        first = next(iter(self._sent or self._held), None)
-        return first if isinstance(first, Handed) and first.ends > 1 else None
-
     async def end(self) -> None:
         """Writes down how the store was left."""
         if self.is_admitted.is_set() and self._child is None:
@@ -260,15 +217,10 @@ class Node:
 
     def _settle(self, position: int) -> None:
         """The store has carried out the entries up to this number: nobody has the answers that were not read."""
-        handed: list[Handed] = []
-        for one in self._sent:
-            if isinstance(one, Handed):
-                handed.append(one)
-            elif one.number <= position and one.name:
-                self.answers.resolve(one.number, self._skipped.get(one.number, LOST))
+        for entry in self._sent:
+            if entry.number <= position and entry.name:
+                self.answers.resolve(entry.number, self._skipped.get(entry.number, LOST))
         self._sent.clear()
-        # the store has the answers of those that it has carried out
-        self._held.extendleft(reversed(handed))
         # a store that another node gave has more than this node has sent it
         self.answers.settle(position)
         self.lasting = max(self.lasting, position)
@@ -286,7 +238,7 @@ class Node:
                 task.result()
         finally:
             child.leave()
-            self._child, self._may_ask, self._may_hand = None, False, False
+            self._child, self._may_ask = None, False
             await end_all(tasks, 1)
 
     async def _watch_over(self, child: Child) -> None:
@@ -331,32 +283,9 @@ class Node:
             async for found in self.log.watch(child.position, self._feed_at_once):
                 if isinstance(found, Reached):
                     self._reach(found.place, last)
-                    await self._begin_to_hand(child)
                 elif found:
                     last = found[-1].number
                     await self._feed_all(child, found)
-
-    async def _begin_to_hand(self, child: Child) -> None:
-        """The store was fed the entries that were there as it was opened, which come before all that it is handed: what it has answered of them it has to
-        answer in the world that it was in then. Where it may have ended by a message, that goes alone."""
-        if self._may_hand:
-            return
-        if self._held and self._held[0].is_suspect:
-            await self._feed_alone(child, self._held.popleft())
-        self._may_hand = True
-        self._hand_all()
-
-    def _hand_all(self) -> None:
-        """Hands on all messages that wait for that, by one write."""
-        self._is_due = False
-        if self._child and self._may_hand and self._held:
-            some, self._held = self._held, collections.deque()
-            self._send_handed(self._child, some)
-
-    def _send_handed(self, child: Child, some: Iterable[Handed]) -> None:
-        self._will_send()
-        self._sent.extend(some)
-        child.send(b"".join([one.frame for one in some]))
 
     def _reach(self, place: int, last: int) -> None:
         """All entries up to this place of the log were sent to the store, and the last one has this number."""
@@ -391,19 +320,16 @@ class Node:
         self._send_entries(child, some)
         await child.drain()
 
-    async def _feed_alone(self, child: Child, one: Entry | Handed) -> None:
-        """Feeds an entry, or a message, while nothing else is under way: so it is known whether the store ends by it."""
-        may_hand, self._may_ask, self._may_hand = self._may_hand, False, False
+    async def _feed_alone(self, child: Child, entry: Entry) -> None:
+        """Feeds an entry while no question is under way: so it is known whether the store ends by it."""
+        self._may_ask = False
         await self._are_answered.wait()
-        await self._moved.until(lambda: not self._sent)
-        if isinstance(one, Handed):
-            self._send_handed(child, [one])
-        else:
-            self._send_entries(child, [one])
-        await self._moved.until(lambda: not self._sent)
-        self._may_ask, self._may_hand = True, may_hand
+        if self._sent:
+            await self.reach(self._sent[-1].number)
+        self._send_entries(child, [entry])
+        await self.reach(entry.number)
+        self._may_ask = True
         self._ask_all()
-        self._hand_all()
 
     def _send_entries(self, child: Child, entries: Sequence[Entry]) -> None:
         if not entries:
@@ -444,12 +370,6 @@ class Node:
             raise NoFrameError(f"an answer to {told}, and no entry waits for one")
         entry = self._sent.popleft()
         number = entry.number
-        if isinstance(entry, Handed):
-            if not is_of_client or told != number:
-                raise NoFrameError(f"an answer to {told}, and not to {number}")
-            self.count_of_entries += 1
-            entry.answer(text)
-            return
         wanted = entry.client[1] if is_of_client and is_named(entry.name) else number
         if told != wanted:
             raise NoFrameError(f"an answer to {told}, and not to {wanted}")
