@@ -13,7 +13,7 @@ ghost use Rattle.batched_half.specs.PlaceReading.{records_size};
 ghost use Rattle.batched_half.specs.Version3.{HoldsBatches, mark_of_two_syncs};
 ghost use Rattle.damage_laws.specs.Damage.{AgreeAsFarAsBothGo, DifferInOneByte, IsMarkAt};
 
-/// A half of version 3 in which one byte has changed, whichever byte it is: either it holds nothing any more, and an opening refuses it; or
+/// A half of version 3 in which one byte has changed, whichever byte it is: either it is no half of version 3 any more, and `read_half` gives none; or
 /// this holds, so that no record is ever given that was altered.
 ///
 /// - `agree`: it has the same generation, the same snapshot, and as far as both go the same records.
