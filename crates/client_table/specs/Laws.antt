@@ -18,8 +18,8 @@ pub record AreAnsweredAlike (a b later other : Round) : Type 0 where
   pub near : Near later other
 
 -- a message did nothing, but that the position was taken out
-abbrev pub IsNotCarriedOut : Round → Round → Type 0
-IsNotCarriedOut round after = (after.left ≡ (without_its_position round).left) × (after.entries ≡ (without_its_position round).entries)
+abbrev pub NamedDoesNothing : Round → Round → Type 0
+NamedDoesNothing round after = (after.left ≡ (without_its_position round).left) × (after.entries ≡ (without_its_position round).entries)
 
 -- ---- one client among others
 

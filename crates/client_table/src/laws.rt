@@ -1,7 +1,7 @@
 //! What the table is for, as laws of the definitions.
 ghost use Rattle.std.specs.Prelude.{◌≡◌, ◌≤◌, ℕ, List, Some, codes, false, true};
 ghost use Rattle.client_table.specs.Entries.{KeptMessage, entry, is_of};
-ghost use Rattle.client_table.specs.Laws.{AreAnsweredAlike, IsNotCarriedOut, LeaveEntryAlone};
+ghost use Rattle.client_table.specs.Laws.{AreAnsweredAlike, NamedDoesNothing, LeaveEntryAlone};
 ghost use Rattle.client_table.specs.Named.{by_name, each_asked, told_again};
 ghost use Rattle.client_table.specs.Names.{form_in, is_client_name, client_name_in};
 ghost use Rattle.client_table.specs.declared.asked.AnyRequest.{AnyRequest};
@@ -37,13 +37,13 @@ pub fn messages_have_one_answer()
         → (text form : List ℕ) (round : Round) (kept : KeptMessage)
         → form_in text ≡ Some form → entry (without_its_position round).left (client_name_in text)
         ≡ Some (last, kept) → number ≤ last
-        → IsNotCarriedOut round (by_name functions most number text round) }
+        → NamedDoesNothing round (by_name functions most number text round) }
     ensures each_once { (functions : Functions) (most number last : ℕ)
         → (text form name : List ℕ) (round : Round) (kept : KeptMessage) (all : List AnyRequest)
         → client_name_in text ≡ name → is_client_name name ≡ true → form_in text ≡ Some form
         → entry round.left name ≡ Some (last, kept)
         → LeaveEntryAlone functions most name round all → number ≤ last
-        → IsNotCarriedOut (each_asked functions most round all)
+        → NamedDoesNothing (each_asked functions most round all)
         (by_name functions most number text (each_asked functions most round all)) }
     ensures one_order { (functions : Functions) (most number : ℕ) (text : List ℕ) (a b : Round)
         → Near a b → AreAnsweredAlike a b (by_name functions most number text a)

@@ -1,6 +1,6 @@
 -- How a disk that is told from its orders stands between two of them.
 use Rattle.std.proofs.Common.{inl, inr, ⊎_elim, ◌≡◌, ℕ, zero, suc, ◌+◌, ◌≤◌, List, [], ◌∷◌, ◌++◌, take, drop, length, refl, sym, ◌∙◌, ap, subst, arith, append-nil, length-append, length-take, length-drop}
-use Rattle.disk_trait.specs.Disk.{Image, AreBytes, HoldsBytes, Torn, Cut, OnHalf, Partly, IsSoundDisk, file_of, other_of, written}
+use Rattle.disk_trait.specs.Disk.{Image, AreBytes, HoldsBytes, Torn, TornCut, OnHalf, Partly, IsSoundDisk, file_of, other_of, written}
 use Rattle.disk_trait.specs.declared.half.Half.{Half}
 use Rattle.disk_trait.specs.declared.half.Half.TheVariants.{A, B}
 use Rattle.disk_trait.specs.Orders.{OrderValue, writes, cuts, syncs}
@@ -28,7 +28,7 @@ bytes_torn at n old new torn are =
     subst AreBytes (sym torn.parts)
     (bytes_joined (take at old ++ torn.middle) (drop (at + n) old) (bytes_joined (take at old) torn.middle (bytes_taken at old are) torn.bytes) (bytes_dropped (at + n) old are))
 
-bytes_cut : (n : ℕ) (old new : List ℕ) → Cut n old new → AreBytes old → AreBytes new
+bytes_cut : (n : ℕ) (old new : List ℕ) → TornCut n old new → AreBytes old → AreBytes new
 bytes_cut n old new cut are = subst AreBytes (sym cut.parts) (bytes_joined (take n old) cut.middle (bytes_taken n old are) cut.bytes)
 
 -- ---- a file of an image
@@ -64,13 +64,13 @@ whole_write at bytes old are = record {
     size : length (written at bytes old) ≡ length (take at old) + length bytes + length (drop (at + length bytes) old)
     size = length-append (take at old ++ bytes) (drop (at + length bytes) old) ∙ ap (λ n. n + length (drop (at + length bytes) old)) (length-append (take at old) bytes)
 
-whole_cut : (len : ℕ) (file : List ℕ) → Cut len file (take len file)
+whole_cut : (len : ℕ) (file : List ℕ) → TornCut len file (take len file)
 whole_cut len file = record { middle = []; bytes = tt; parts = sym (append-nil (take len file)); no_longer = omega (arith, length-take len file) }
 
 -- done in whole, it is one of the parts
 pub whole : (order : OrderValue) (image : Image) → OrderWritesBytes order → Partly (PartOfOrder order) image (image_after order image)
 whole (writes half at bytes) image are = inr (on_half half (Torn at (length bytes)) (written at bytes (file_of half image)) image (whole_write at bytes (file_of half image) are))
-whole (cuts half len) image are = inr (on_half half (Cut len) (take len (file_of half image)) image (whole_cut len (file_of half image)))
+whole (cuts half len) image are = inr (on_half half (TornCut len) (take len (file_of half image)) image (whole_cut len (file_of half image)))
 whole (syncs half) image are = inl refl
 
 bound : (order : OrderValue) (image : Image) → OrderBinds order image (image_after order image)
@@ -80,7 +80,7 @@ bound (syncs half) image = refl
 
 part_bytes : (order : OrderValue) (old new : Image) → PartOfOrder order old new → HoldsBytes old → HoldsBytes new
 part_bytes (writes half at bytes) old new part holds = half_bytes half (Torn at (length bytes)) old new (bytes_torn at (length bytes)) part holds
-part_bytes (cuts half len) old new part holds = half_bytes half (Cut len) old new (bytes_cut len) part holds
+part_bytes (cuts half len) old new part holds = half_bytes half (TornCut len) old new (bytes_cut len) part holds
 part_bytes (syncs half) old new part holds = absurd part
 
 -- ---- all orders

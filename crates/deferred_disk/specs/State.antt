@@ -1,7 +1,7 @@
 -- What a disk holds whose calls are orders: it is told from the bytes that the files began with and the orders, the newest first.
 use Rattle.std.specs.Prelude.{◌≡◌, ◌⊎◌, ℕ, ◌≤◌, true, false, List, [], ◌∷◌, length, take}
 use Rattle.std.specs.Coded.{×_prop, Unit-prop, le_prop}
-use Rattle.disk_trait.specs.Disk.{Image, State, AreBytes, HoldsBytes, Cut, OnHalf, Partly, Torn, file_of, written}
+use Rattle.disk_trait.specs.Disk.{Image, State, AreBytes, HoldsBytes, TornCut, OnHalf, Partly, Torn, file_of, written}
 use Rattle.disk_trait.specs.declared.half.Half.{Half}
 use Rattle.disk_trait.specs.declared.half.Half.TheVariants.{A, B}
 use Rattle.disk_trait.specs.Orders.{OrderValue, writes, cuts, syncs}
@@ -23,7 +23,7 @@ image_after (syncs half) image = image
 -- what a crash may make of an image on which it is pending, beside leaving it undone: a part of it, or all
 abbrev pub PartOfOrder : OrderValue → Image → Image → Type 0
 PartOfOrder (writes half at bytes) = OnHalf half (Torn at (length bytes))
-PartOfOrder (cuts half len) = OnHalf half (Cut len)
+PartOfOrder (cuts half len) = OnHalf half (TornCut len)
 PartOfOrder (syncs half) = λ _ _. ⊥
 
 -- after a sync a crash leaves of the half what a read gives

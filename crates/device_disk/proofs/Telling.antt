@@ -13,7 +13,7 @@ use Rattle.deferred_disk.specs.Sound.{same_file, sound_ordered}
 use Rattle.deferred_disk.specs.State.{AllWriteBytes, OrderBinds, OrdersMayLeave, PartOfOrder, image_after, reads_by, with_file}
 use Rattle.device_disk.specs.DeviceCalls.{DeviceCall, done, failed, gave}
 use Rattle.device_disk.specs.DeviceFiles.{FilesAfter, Shows}
-use Rattle.device_disk.specs.Pieces.{IsDone, IsNotDone, IsReadWhole, IsWrittenInPart, IsWrittenWhole, after_reads, after_writes, joined_pieces}
+use Rattle.device_disk.specs.Pieces.{IsDone, IsNotDone, IsDeviceRead, IsDeviceWrittenInPart, IsDeviceWritten, after_reads, after_writes, joined_pieces}
 use Rattle.device_disk.specs.Told.{IsToldDisk, Tells}
 use Rattle.device_disk.proofs.Tearing.{half_both, half_bytes, half_none, half_partly, put_same, put_twice, written_both, written_none}
 
@@ -112,12 +112,12 @@ module _ (calls : CallsValue) (half : Half) (at : ℕ) (bytes : List ℕ) (made 
   before_is : (first : Image) (held old : Image) → FilesAfter first made held old → HoldsBytes old
   before_is first held old after = left_bytes calls 0 made began wrote told first held old after
 
-  whole_from : IsWrittenWhole half at bytes made later → (first holds left : Image) → FilesAfter first later holds left → WrittenFrom first half at bytes made holds left
+  whole_from : IsDeviceWritten half at bytes made later → (first holds left : Image) → FilesAfter first later holds left → WrittenFrom first half at bytes made holds left
   whole_from written_whole first holds left after =
       subst (λ (l : List ℕ). WrittenFrom first half at l made holds left) (sym written_whole.all)
       (pieces_leave first half at written_whole.pieces made holds left (before_is first) (subst (λ (l : List DeviceCall). FilesAfter first l holds left) written_whole.calls after))
 
-  pub tells_written : IsWrittenWhole half at bytes made later → Tells (with_order calls (writes half at bytes)) 0 later
+  pub tells_written : IsDeviceWritten half at bytes made later → Tells (with_order calls (writes half at bytes)) 0 later
   tells_written written_whole = record {
     holds = λ none first holds left after.
         let from = whole_from written_whole first holds left after in
@@ -128,7 +128,7 @@ module _ (calls : CallsValue) (half : Half) (at : ℕ) (bytes : List ℕ) (made 
   }
 
   -- a front of it was written, and then a part of the rest or nothing
-  part_from : (part : IsWrittenInPart half at bytes made later) (first holds left : Image) → FilesAfter first later holds left
+  part_from : (part : IsDeviceWrittenInPart half at bytes made later) (first holds left : Image) → FilesAfter first later holds left
       → (earlier : Image × Image) × FilesAfter first made earlier.0 earlier.1 × OnHalf half (Torn at (length bytes)) earlier.1 left
   part_from part first holds left after =
       let front = joined_pieces part.pieces in
@@ -156,7 +156,7 @@ module _ (calls : CallsValue) (half : Half) (at : ℕ) (bytes : List ℕ) (made 
       both were.0.0 were.0.1 were.1 (half_partly half (at + length front) (length part.rest) were.0.1 left (bytes_of were.0.0 were.0.1 were.1) were.3))
       part.calls
 
-  pub tells_in_part : IsWrittenInPart half at bytes made later → Tells (with_order calls (writes half at bytes)) 1 later
+  pub tells_in_part : IsDeviceWrittenInPart half at bytes made later → Tells (with_order calls (writes half at bytes)) 1 later
   tells_in_part part = record {
     holds = λ none. absurd (omega (arith, none));
     leaves = λ first holds left after.
@@ -182,7 +182,7 @@ reads_shown first half room at (piece ∷ more) before holds left after =
     )
 
 whole_shown : (first : Image) (half : Half) (bytes : List ℕ) (before later : List DeviceCall) (holds left : Image)
-    → IsReadWhole half bytes before later → FilesAfter first later holds left → FilesAfter first before holds left × (bytes ≡ file_of half holds)
+    → IsDeviceRead half bytes before later → FilesAfter first later holds left → FilesAfter first before holds left × (bytes ≡ file_of half holds)
 whole_shown first half bytes before later holds left read after =
     let were = subst (λ (l : List DeviceCall). FilesAfter first l holds left) read.calls after in
     let shown = reads_shown first half read.room 0 read.pieces before holds left were.0 in
@@ -199,7 +199,7 @@ same_images i x y first second = ap (λ (l : List ℕ). image_of l i.b) first �
 
 -- a device that was synced and read tells what its files hold, and all that a crash leaves of them
 pub tells_first : (a b : List ℕ) (earlier synced_a synced_b read_a read_b : List DeviceCall) → IsDone (syncs A) earlier synced_a → IsDone (syncs B) synced_a synced_b
-    → IsReadWhole A a synced_b read_a → IsReadWhole B b read_a read_b → Tells (first_calls a b) 0 read_b
+    → IsDeviceRead A a synced_b read_a → IsDeviceRead B b read_a read_b → Tells (first_calls a b) 0 read_b
 tells_first a b earlier synced_a synced_b read_a read_b sync_a sync_b a_read b_read = record {
   holds = λ no first holds left after. (shown first holds left after).0;
   leaves = λ first holds left after. (shown first holds left after).1;
@@ -242,7 +242,7 @@ tells_from_none noted n made none told = subst (λ (k : ℕ). Tells (calls_of no
 -- a write was noted, made as far as it went, and ended
 pub told_after_write : {T E U F : Type 0} (old mid new : DeferredDisk) (half : Half) (at : ℕ) (bytes : List ℕ) (n m : ℕ) (made later : List DeviceCall) (written : Result T E) (ended : Result U F)
     → n ≡ 0 → calls_of mid ≡ with_order (calls_of old) (writes half at bytes) → mid.failures ≡ old.failures
-    → MatchResult written (λ _. IsWrittenWhole half at bytes made later) (λ _. IsWrittenInPart half at bytes made later)
+    → MatchResult written (λ _. IsDeviceWritten half at bytes made later) (λ _. IsDeviceWrittenInPart half at bytes made later)
     → MatchResult ended (λ _. IsOk written) (λ _. IsErr written)
     → MatchResult ended (λ _. (calls_of new ≡ after_report (calls_of mid)) × (new.failures ≡ mid.failures)) (λ _. new ≡ mid)
     → MatchResult ended (λ _. m ≡ n) (λ _. m ≡ n + 1)

@@ -17,13 +17,13 @@ after_writes half at [] before = before
 after_writes half at (piece ∷ more) before = after_writes half (at + length piece) more (done (writes half at piece) ∷ before)
 
 -- These bytes were written from there on, all of them and nothing else, in one piece or in more.
-pub record IsWrittenWhole (half : Half) (at : ℕ) (bytes : List ℕ) (before after : List DeviceCall) : Type 0 where
+pub record IsDeviceWritten (half : Half) (at : ℕ) (bytes : List ℕ) (before after : List DeviceCall) : Type 0 where
   pub pieces : List (List ℕ)
   pub all : bytes ≡ joined_pieces pieces
   pub calls : after ≡ after_writes half at pieces before
 
 -- A front of these bytes was written from there on, and nothing else; then a write of the others failed, or it was given up.
-pub record IsWrittenInPart (half : Half) (at : ℕ) (bytes : List ℕ) (before after : List DeviceCall) : Type 0 where
+pub record IsDeviceWrittenInPart (half : Half) (at : ℕ) (bytes : List ℕ) (before after : List DeviceCall) : Type 0 where
   pub pieces : List (List ℕ)
   pub rest : List ℕ
   pub all : bytes ≡ joined_pieces pieces ++ rest
@@ -52,7 +52,7 @@ after_reads half room at [] before = before
 after_reads half room at (piece ∷ more) before = after_reads half room (at + length piece) more (gave half at room piece ∷ before)
 
 -- These bytes were read from the start on, up to where a read with room for more gave none.
-pub record IsReadWhole (half : Half) (bytes : List ℕ) (before after : List DeviceCall) : Type 0 where
+pub record IsDeviceRead (half : Half) (bytes : List ℕ) (before after : List DeviceCall) : Type 0 where
   pub room : ℕ
   pub some : 0 < room
   pub pieces : List (List ℕ)

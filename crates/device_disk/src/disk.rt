@@ -8,7 +8,7 @@ ghost use Rattle.disk_trait.specs.Disk.{Image};
 ghost use Rattle.disk_trait.specs.Orders.{cuts, syncs};
 ghost use Rattle.device_disk.specs.DeviceCalls.{DeviceCall, done};
 ghost use Rattle.device_disk.specs.DeviceFiles.{FilesAfter};
-ghost use Rattle.device_disk.specs.Pieces.{IsDone, IsNotDone, IsReadWhole, IsTried, IsWrittenInPart, IsWrittenWhole};
+ghost use Rattle.device_disk.specs.Pieces.{IsDone, IsNotDone, IsDeviceRead, IsTried, IsDeviceWrittenInPart, IsDeviceWritten};
 ghost use Rattle.device_disk.specs.Told.{told_of, told_sound};
 
 use crate::device::Device;
@@ -54,8 +54,8 @@ impl<V: Device + Drop> DeviceDisk<V> {
         ensures failed { IfOk result (λ it. it.failed ≡ 0) }
         ensures calls { IfOk result (λ it. (a : List ℕ) × (b : List ℕ) × (read : List DeviceCall)
             × (calls_of it.noted ≡ first_calls a b)
-            × IsReadWhole Half.A a (done (syncs Half.B) ∷ done (syncs Half.A) ∷ V.calls device) read
-            × IsReadWhole Half.B b read (V.calls it.device)) }
+            × IsDeviceRead Half.A a (done (syncs Half.B) ∷ done (syncs Half.A) ∷ V.calls device) read
+            × IsDeviceRead Half.B b read (V.calls it.device)) }
     {
         let mut device = device;
         sync_whole(&mut device, Half::A)?;
@@ -176,8 +176,8 @@ impl<V: Device> Disk for DeviceDisk<V> {
         requires within { IsWithinFile half at (told_of self.old) }
         ensures disk { WritesBytes half at bytes.now (told_of self.old) (told_of self.new) result }
         ensures calls { MatchResult result
-            (λ _. IsWrittenWhole half at bytes.now (V.calls self.old.device) (V.calls self.new.device))
-            (λ _. IsWrittenInPart half at bytes.now (V.calls self.old.device) (V.calls self.new.device)) }
+            (λ _. IsDeviceWritten half at bytes.now (V.calls self.old.device) (V.calls self.new.device))
+            (λ _. IsDeviceWrittenInPart half at bytes.now (V.calls self.old.device) (V.calls self.new.device)) }
         ensures never_again { 0 < self.old.failed → IsErr result × (self.new.device ≡ self.old.device) }
     {
         if self.failed > 0 || at.checked_add(bytes.len() as u64).is_none() {

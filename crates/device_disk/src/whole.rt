@@ -1,7 +1,7 @@
 // What is asked of a device until it is done whole, or fails.
 ghost use Rattle.std.specs.Prelude.{◌≡◌, ◌+◌, ◌<◌, ◌^◌, MatchResult, OnErr, IfOk, length};
 ghost use Rattle.disk_trait.specs.Orders.{cuts, syncs};
-ghost use Rattle.device_disk.specs.Pieces.{IsDone, IsNotDone, IsReadWhole, IsWrittenInPart, IsWrittenWhole};
+ghost use Rattle.device_disk.specs.Pieces.{IsDone, IsNotDone, IsDeviceRead, IsDeviceWrittenInPart, IsDeviceWritten};
 
 use crate::device::{Device, DeviceAnswer};
 use disk_trait::Half;
@@ -17,7 +17,7 @@ pub(crate) fn read_whole<V: Device>(
     device: &mut V,
     half: Half,
 ) -> io::Result<Vec<u8>>
-    ensures { IfOk result (λ bytes. IsReadWhole half bytes.items (V.calls device.old) (V.calls device.new)) }
+    ensures { IfOk result (λ bytes. IsDeviceRead half bytes.items (V.calls device.old) (V.calls device.new)) }
 {
     let mut bytes = Vec::new(alloc);
     let mut piece = [0u8; PIECE];
@@ -41,8 +41,8 @@ pub(crate) fn write_whole<V: Device>(
 ) -> io::Result<()>
     requires { at + length bytes.now < 2 ^ 64 }
     ensures { MatchResult result
-        (λ _. IsWrittenWhole half at bytes.now (V.calls device.old) (V.calls device.new))
-        (λ _. IsWrittenInPart half at bytes.now (V.calls device.old) (V.calls device.new)) }
+        (λ _. IsDeviceWritten half at bytes.now (V.calls device.old) (V.calls device.new))
+        (λ _. IsDeviceWrittenInPart half at bytes.now (V.calls device.old) (V.calls device.new)) }
 {
     let mut rest = bytes;
     let mut place = at;

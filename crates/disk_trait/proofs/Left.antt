@@ -1,7 +1,7 @@
 -- What a crash of each kind leaves is one of the images that a crash may leave.
 use Rattle.std.proofs.Common.{◌≡◌, inl, inr, IsTrue, ℕ, zero, suc, ◌-◌, ◌<◌, List, [], ◌∷◌, ◌++◌, length, take, replicate, refl, subst, arith, sym, ◌∙◌, ap, ◌+◌, length-append, length-take, length-drop, drop, get_or, ◌⊎◌, nat_lt, if◌then◌else◌, true, false, Bool, ◌*◌, ◌%◌}
 use Rattle.std.proofs.lemmas.List.{length-replicate}
-use Rattle.disk_trait.specs.Disk.{Image, AreBytes, written, Torn, Mixed, Cut}
+use Rattle.disk_trait.specs.Disk.{Image, AreBytes, written, Torn, Mixed, TornCut}
 use Rattle.disk_trait.specs.Mixes.{merged_mixed, whole_mixed, mixed_torn}
 use Rattle.std.proofs.lemmas.List.{get_or-drop}
 use Rattle.std.proofs.lemmas.Bool.{and_parts}
@@ -38,7 +38,7 @@ filled_write at n byte left small =
     subst (λ (m : ℕ). Torn at m left (written at (replicate n byte) left)) (length-replicate n byte)
     (whole_write at (replicate n byte) left (filled_are n byte small))
 
-filled_cut : (len byte : ℕ) (left : List ℕ) → byte < 256 → Cut len left (take len left ++ replicate (length left - len) byte)
+filled_cut : (len byte : ℕ) (left : List ℕ) → byte < 256 → TornCut len left (take len left ++ replicate (length left - len) byte)
 filled_cut len byte left small = record {
   middle = replicate (length left - len) byte;
   bytes = filled_are (length left - len) byte small;
@@ -85,7 +85,7 @@ left_mixing Lost at bytes left = inl refl
 left_mixing (Filled byte) at bytes left = inr (whole_mixed at bytes left)
 left_mixing (Scattered share) at bytes left = inr (scattered_mixed share at bytes left)
 
-left_cut : (kind : Crash) (len : ℕ) (left : List ℕ) → FillsBytes kind → (cut_after kind len left ≡ left) ⊎ Cut len left (cut_after kind len left)
+left_cut : (kind : Crash) (len : ℕ) (left : List ℕ) → FillsBytes kind → (cut_after kind len left ≡ left) ⊎ TornCut len left (cut_after kind len left)
 left_cut Kept len left small = inr (whole_cut len left)
 left_cut Lost len left small = inl refl
 left_cut (Filled byte) len left small = inr (filled_cut len byte left small)

@@ -1,6 +1,6 @@
 -- What each call of a disk promises. Of every disk, that its count of failures tells of its faults; the rest of an honest one.
 use Rattle.std.specs.Prelude.{◌≡◌, ℕ, ◌≤◌, List, length, take, drop, Result, IfOk, OnOk}
-use Rattle.disk_trait.specs.Disk.{Image, State, IsHonest, IsMixing, Counts, Looks, Changes, OnHalf, Torn, Mixed, Cut, file_of, written}
+use Rattle.disk_trait.specs.Disk.{Image, State, IsHonest, IsMixing, Counts, Looks, Changes, OnHalf, Torn, Mixed, TornCut, file_of, written}
 use Rattle.disk_trait.specs.declared.disk.DeviceFault.{DeviceFault}
 use Rattle.disk_trait.specs.declared.half.Half.{Half}
 
@@ -31,7 +31,7 @@ pub record WritesBytes {T : Type 0} (half : Half) (at : ℕ) (bytes : List ℕ) 
 -- `cut` leaves the first so many bytes, or is torn after them
 pub record CutsFile {T : Type 0} (half : Half) (len : ℕ) (old new : State) (result : Result T DeviceFault) : Type 0 where
   pub counts : Counts old new result
-  pub tears : IsHonest old → Changes (OnHalf half (Cut len)) old new
+  pub tears : IsHonest old → Changes (OnHalf half (TornCut len)) old new
   pub done : OnOk result (IsHonest old → OnHalf half (λ file next. next ≡ take len file) old.reads new.reads)
 
 -- after `sync` a crash leaves of the half what a read gives

@@ -102,7 +102,7 @@ pub record Mixed (at : ℕ) (bytes old new : List ℕ) : Type 0 where
   pub no_longer : length new ≤ max (length old) (at + length bytes)
 
 -- a cut to n bytes that a crash cuts short: the old length, the new one or one between, and any bytes between
-pub record Cut (n : ℕ) (old new : List ℕ) : Type 0 where
+pub record TornCut (n : ℕ) (old new : List ℕ) : Type 0 where
   pub middle : List ℕ
   pub bytes : AreBytes middle
   pub parts : new ≡ take n old ++ middle

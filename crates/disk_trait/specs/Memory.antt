@@ -1,7 +1,7 @@
 -- What a disk in memory is, as a state, and what a crash makes of it.
 use Rattle.std.specs.Prelude.{◌≡◌, ℕ, Bool, true, false, List, ◌+◌, length, take, Result, OnOk, OnErr}
 use Rattle.disk_trait.specs.Crash.{left_by}
-use Rattle.disk_trait.specs.Disk.{Image, State, Allows, Changes, Cut, Elapses, Mixed, OnHalf, Torn, file_of, written}
+use Rattle.disk_trait.specs.Disk.{Image, State, Allows, Changes, TornCut, Elapses, Mixed, OnHalf, Torn, file_of, written}
 use Rattle.disk_trait.specs.Replay.{state_after_calls}
 use Rattle.disk_trait.specs.declared.crash.Crash.{Crash}
 use Rattle.disk_trait.specs.declared.half.Half.{Half}
@@ -55,7 +55,7 @@ RecordsWrite half at bytes old new result = RecordsStep (OnHalf half (WriteLeave
 
 -- a call that takes the step of a cut
 abbrev pub RecordsCut : {T E : Type 0} → Half → ℕ → State → State → Result T E → Type 0
-RecordsCut half len old new result = RecordsStep (OnHalf half (Cut len)) old new result
+RecordsCut half len old new result = RecordsStep (OnHalf half (TornCut len)) old new result
 
 -- a sync: of what a crash might have left there is left what a read gives of the half
 abbrev pub RecordsSync : {T E : Type 0} → Half → State → State → Result T E → Type 0
@@ -73,4 +73,4 @@ TakesWrite half at bytes old new = TakesChange (OnHalf half (WriteLeaves old.mix
 
 -- a cut is done, with what a crash may leave of it
 abbrev pub TakesCut : Half → ℕ → State → State → Type 0
-TakesCut half len = TakesChange (OnHalf half (Cut len)) (OnHalf half (λ file next. next ≡ take len file))
+TakesCut half len = TakesChange (OnHalf half (TornCut len)) (OnHalf half (λ file next. next ≡ take len file))

@@ -1,7 +1,7 @@
 -- What a disk in memory holds, told from its start and the calls that it took: each file apart, one call after the other.
 use Rattle.std.specs.Prelude.{◌≡◌, ◌⊎◌, ℕ, ◌≤◌, Bool, true, ◌&&◌, List, [], ◌∷◌, length, take, nat_lt}
 use Rattle.std.specs.List.{list_all}
-use Rattle.disk_trait.specs.Disk.{Image, State, Elapses, at_once, file_of, other_of, written, Torn, Mixed, Cut, OnHalf, Partly}
+use Rattle.disk_trait.specs.Disk.{Image, State, Elapses, at_once, file_of, other_of, written, Torn, Mixed, TornCut, OnHalf, Partly}
 use Rattle.disk_trait.specs.declared.call.DiskCall.{DiskCall}
 use Rattle.disk_trait.specs.declared.call.What.{What}
 use Rattle.disk_trait.specs.declared.call.What.TheVariants.{Looked, Wrote, WroteMixing, Shortened, Synced}
@@ -30,7 +30,7 @@ abbrev pub PartOf : What → List ℕ → List ℕ → Type 0
 PartOf Looked old new = ⊥
 PartOf (Wrote at bytes) old new = Torn at (length bytes.items) old new ⊎ (new ≡ written at bytes.items old)
 PartOf (WroteMixing at bytes) old new = Mixed at bytes.items old new
-PartOf (Shortened len) old new = Cut len old new
+PartOf (Shortened len) old new = TornCut len old new
 PartOf Synced old new = ⊥
 
 -- after a sync a crash leaves what a read gives

@@ -2,7 +2,7 @@
 use Rattle.std.proofs.Common.{⊎_elim, ℕ, zero, suc, ◌+◌, ◌<◌, true, List, [], ◌∷◌, ◌++◌, take, drop, length, get_or, IsTrue, refl, sym, subst}
 use Rattle.std.specs.Prelude.{nat_lt}
 use Rattle.std.proofs.lemmas.Bool.{and_parts, and_from, ltb-true, lt-ltb}
-use Rattle.disk_trait.specs.Disk.{Image, AreBytes, HoldsBytes, Torn, Cut}
+use Rattle.disk_trait.specs.Disk.{Image, AreBytes, HoldsBytes, Torn, TornCut}
 use Rattle.disk_trait.specs.Mixes.{mixed_torn}
 use Rattle.disk_trait.specs.Replay.{FileState, PartOf, settled_file, after_what, where_same, after_call, after_calls, LeftSince, are_bytes, writes_bytes, began_with_bytes, wrote_bytes}
 use Rattle.disk_trait.specs.declared.call.DiskCall.{DiskCall}
@@ -40,7 +40,7 @@ bytes_written at n middle old new_are old_are =
 bytes_torn : (at n : ℕ) (old new : List ℕ) → Torn at n old new → AreBytes old → AreBytes new
 bytes_torn at n old new torn are = subst AreBytes (sym torn.parts) (bytes_written at n torn.middle old torn.bytes are)
 
-bytes_cut : (n : ℕ) (old new : List ℕ) → Cut n old new → AreBytes old → AreBytes new
+bytes_cut : (n : ℕ) (old new : List ℕ) → TornCut n old new → AreBytes old → AreBytes new
 bytes_cut n old new cut are = subst AreBytes (sym cut.parts) (bytes_joined (take n old) cut.middle (bytes_taken n old are) cut.bytes)
 
 bytes_part : (what : What) (old new : List ℕ) → IsTrue (writes_bytes what) → PartOf what old new → AreBytes old → AreBytes new

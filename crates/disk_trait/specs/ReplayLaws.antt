@@ -1,7 +1,7 @@
 -- How a disk that is told from its calls stands between two of them.
 use Rattle.std.proofs.Common.{inl, inr, ℕ, Bool, IsTrue, List, [], ◌∷◌, length, take, refl, sym, subst, arith, append-nil, length-take}
 use Rattle.std.proofs.lemmas.List.{take_all}
-use Rattle.disk_trait.specs.Disk.{Image, Cut, IsSoundDisk}
+use Rattle.disk_trait.specs.Disk.{Image, TornCut, IsSoundDisk}
 use Rattle.disk_trait.specs.Mixes.{whole_mixed}
 use Rattle.disk_trait.specs.Replay.{FileState, settled_file, after_what, where_same, after_call, after_calls, MayLeave, state_after_calls, began_with_bytes, wrote_bytes}
 use Rattle.disk_trait.specs.ReplayBytes.{left_bytes}
@@ -15,7 +15,7 @@ use Rattle.disk_trait.specs.declared.half.Half.TheVariants.{A, B}
 abbrev pub Stays : FileState → Type 0
 Stays p = p.may_leave p.reads
 
-pub whole_cut : (len : ℕ) (file : List ℕ) → Cut len file (take len file)
+pub whole_cut : (len : ℕ) (file : List ℕ) → TornCut len file (take len file)
 whole_cut len file = record { middle = []; bytes = tt; parts = sym (append-nil (take len file)); no_longer = omega (arith, length-take len file) }
 
 pub stay_what : (what : What) (p : FileState) → Stays p → Stays (after_what what p)

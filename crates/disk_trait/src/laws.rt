@@ -1,6 +1,6 @@
 // What a crash may leave of a write or a cut, in full: the definitions say what it leaves at most.
 ghost use Rattle.std.specs.Prelude.{ℕ, ◌+◌, ◌≤◌, List, ◌++◌, length, take};
-ghost use Rattle.disk_trait.specs.Disk.{AreBytes, Cut, Mixed, Torn, written};
+ghost use Rattle.disk_trait.specs.Disk.{AreBytes, TornCut, Mixed, Torn, written};
 
 /// A write or a cut that a crash cuts short may leave each mix of bytes: of a write any bytes in its range, and past the old
 /// end of the file any number of them; of a cut any number of any bytes, up to the old end.
@@ -11,7 +11,7 @@ pub fn torn_images()
         → AreBytes any → at ≤ length old → length old ≤ at + length any → length any ≤ n
         → Torn at n old (take at old ++ any) }
     ensures cut { (n : ℕ) (old any : List ℕ)
-        → AreBytes any → n + length any ≤ length old → Cut n old (take n old ++ any) }
+        → AreBytes any → n + length any ≤ length old → TornCut n old (take n old ++ any) }
 {}
 
 /// What a write may leave where writes mix, it may leave where they tear: what is proved of each honest disk holds of one that mixes.

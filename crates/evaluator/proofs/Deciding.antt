@@ -30,7 +30,7 @@ use Rattle.evaluator.specs.ArgumentValues.{arguments_of, conditional, asserted, 
 use Rattle.evaluator.specs.declared.operation.Operation.TheVariants.{Decides}
 use Rattle.evaluator.specs.declared.decision.Decision.{Decision}
 use Rattle.evaluator.specs.declared.decision.Decision.TheVariants.{Assert}
-use Rattle.evaluator.specs.Operations.{HasRightCount}
+use Rattle.evaluator.specs.Operations.{OperationTakesCount}
 use Rattle.evaluator.specs.declared.wanted.ValueUse.{ValueUse}
 use Rattle.evaluator.specs.declared.wanted.ValueUse.TheVariants.{Truth, Nothing}
 use Rattle.evaluator.specs.StandIns.{seen, stand_in}
@@ -79,10 +79,10 @@ assert_form : (names : List Name) (s : WorldState) (items : List Datum) (x : Dat
 assert_form names s items x some is =
     ap (λ l. asserted (other_value names s l)) (one_argument items x some is) ∙ ap asserted (other_one names s (object_of x) (list_of (map object_of (drop 2 items))))
 
-pub assert_answers : (w : ValueUse) (names : List Name) (s u : WorldState) (items : List Datum) (x : Datum) (decision : Decision) (r : Result Evaluated EvaluationError) → decision ≡ Assert → HasRightCount (Decides decision) (length items) → x ≡ get_or items 1 x
+pub assert_answers : (w : ValueUse) (names : List Name) (s u : WorldState) (items : List Datum) (x : Datum) (decision : Decision) (r : Result Evaluated EvaluationError) → decision ≡ Assert → OperationTakesCount (Decides decision) (length items) → x ≡ get_or items 1 x
     → Answers done r u (seen w (asserted (value names s (object_of x)))) → Answers done r u (seen w (operation_value names (Decides decision) (arguments_of (map object_of items)) s))
 assert_answers w names s u items x decision r same counted is h =
-    let some : 2 ≤ length items = (subst (λ d. HasRightCount (Decides d) (length items)) same counted).0 in
+    let some : 2 ≤ length items = (subst (λ d. OperationTakesCount (Decides d) (length items)) same counted).0 in
     subst (λ o. Answers done r u (seen w o))
     (sym (ap (λ d. operation_value names (Decides d) (arguments_of (map object_of items)) s) same ∙ assert_form names s items x some is)) h
 

@@ -7,14 +7,14 @@ use Rattle.lisp_object.specs.Object.{symbol, integer, rational, character, text,
 use Rattle.package_table.specs.Table.{Name, common_lisp}
 use Rattle.package_table.proofs.Names.{none_some}
 use Rattle.value_functions.specs.Functions.{function_named}
-use Rattle.evaluator.specs.Operators.{Operator, AreOperatorsAmong, operator_named, operator_of, function_operator, world_operator, deciding_operator_or, pazturrok, pazturrok_operator}
+use Rattle.evaluator.specs.Operators.{Operator, IsOperatorTableWithin, operator_named, operator_of, operator_of_function, world_operator, deciding_operator_or, pazturrok, pazturrok_operator}
 use Rattle.evaluator.specs.EarlierOperators.{operators_with, operators_before_deciding, operators_before_places}
 
 -- each operator of PAZTURROK that this table has is one of today's
 abbrev IsEarlier : (Name → Option Operator) → Type 0
 IsEarlier own = (name : Name) (operator : Operator) → own name ≡ Some operator → pazturrok_operator name ≡ Some operator
 
-earlier_among : (own : Name → Option Operator) → IsEarlier own → (names : List Name) → AreOperatorsAmong (operators_with own names) (operator_of names)
+earlier_among : (own : Name → Option Operator) → IsEarlier own → (names : List Name) → IsOperatorTableWithin (operators_with own names) (operator_of names)
 earlier_among own earlier names (symbol home name) operator is =
     elim (bytes_eq home common_lisp) as (λ b. cond b (operator_named names name) (cond (bytes_eq home pazturrok) (own name) None) ≡ Some operator
     → cond b (operator_named names name) (cond (bytes_eq home pazturrok) (pazturrok_operator name) None) ≡ Some operator) [
@@ -37,10 +37,10 @@ passed : (b : Bool) (x other : Option Operator) (operator : Operator) → (b ≡
 passed true x other operator unlike is = absurd (unlike refl)
 passed false x other operator unlike is = is
 
-module _ (name : Name) (operator : Operator) (is : option_map function_operator (function_named name) ≡ Some operator) where
+module _ (name : Name) (operator : Operator) (is : option_map operator_of_function (function_named name) ≡ Some operator) where
   other_name : (deciding : Name) → function_named deciding ≡ None → bytes_eq name deciding ≡ true → ⊥
   other_name deciding none same =
-      none_some operator (sym (ap (option_map function_operator) (ap function_named ((bytes_eq-Decides name deciding).0 same) ∙ none)) ∙ is)
+      none_some operator (sym (ap (option_map operator_of_function) (ap function_named ((bytes_eq-Decides name deciding).0 same) ∙ none)) ∙ is)
 
   is_and : bytes_eq name (codes "AND") ≡ true → ⊥
   unfolding function_named
@@ -81,8 +81,8 @@ module _ (name : Name) (operator : Operator) (is : option_map function_operator 
       (passed (bytes_eq name (codes "ASSERT")) _ _ operator is_assert
       (ap (λ o. option_or o (world_operator name)) is)))))))
 
-pub before_deciding_among : (names : List Name) → AreOperatorsAmong (operators_before_deciding names) (operator_of names)
-before_deciding_among = earlier_among (λ name. option_map function_operator (function_named name)) function_stays
+pub before_deciding_among : (names : List Name) → IsOperatorTableWithin (operators_before_deciding names) (operator_of names)
+before_deciding_among = earlier_among (λ name. option_map operator_of_function (function_named name)) function_stays
 
 -- ---- what came after all others
 some_first : (x y : Option Operator) (operator : Operator) → x ≡ Some operator → option_or x y ≡ Some operator
@@ -92,7 +92,7 @@ kept : (b : Bool) (x other later : Option Operator) (operator : Operator) → (o
 kept true x other later operator on is = is
 kept false x other later operator on is = on is
 
-decision_stays : IsEarlier (λ name. deciding_operator_or (option_map function_operator (function_named name)) name)
+decision_stays : IsEarlier (λ name. deciding_operator_or (option_map operator_of_function (function_named name)) name)
 decision_stays name operator =
     kept (bytes_eq name (codes "AND")) _ _ _ operator
     (kept (bytes_eq name (codes "OR")) _ _ _ operator
@@ -101,7 +101,7 @@ decision_stays name operator =
     (kept (bytes_eq name (codes "UNLESS")) _ _ _ operator
     (kept (bytes_eq name (codes "PROG1")) _ _ _ operator
     (kept (bytes_eq name (codes "ASSERT")) _ _ _ operator
-    (some_first (option_map function_operator (function_named name)) (world_operator name) operator)))))))
+    (some_first (option_map operator_of_function (function_named name)) (world_operator name) operator)))))))
 
-pub before_places_among : (names : List Name) → AreOperatorsAmong (operators_before_places names) (operator_of names)
-before_places_among = earlier_among (λ name. deciding_operator_or (option_map function_operator (function_named name)) name) decision_stays
+pub before_places_among : (names : List Name) → IsOperatorTableWithin (operators_before_places names) (operator_of names)
+before_places_among = earlier_among (λ name. deciding_operator_or (option_map operator_of_function (function_named name)) name) decision_stays

@@ -16,7 +16,7 @@ use Rattle.package_table.proofs.Names.{same_some, none_some}
 use Rattle.lisp_operators.specs.ArgumentKinds.{a_symbol}
 use Rattle.value_functions.specs.declared.functions.ValueFunction.{ValueFunction}
 use Rattle.value_functions.specs.Functions.{function_named}
-use Rattle.evaluator.specs.Operators.{Operator, operator_named, operator_of, function_operator, pazturrok, pazturrok_operator, is_interned, count, counts, look_up_operator, change_operator, world_operator}
+use Rattle.evaluator.specs.Operators.{Operator, operator_named, operator_of, operator_of_function, pazturrok, pazturrok_operator, is_interned, count, counts, operator_of_look_up, operator_of_change, world_operator}
 use Rattle.evaluator.specs.Operations.{operator, action_of, among, operators_on_data, operators_on_packages, operators_on_readtables, operators_that_decide}
 use Rattle.lisp_operators.specs.declared.look_ups.LookUp.{LookUp}
 use Rattle.lisp_operators.specs.declared.places.PlaceChange.{PlaceChange}
@@ -86,25 +86,25 @@ of_none names h n lisp own is other at neither =
 -- those of PAZTURROK that are functions of values, look up, or change a place
 abbrev pub valued_operator : Option ValueFunction → Option LookUp → Option PlaceChange → Option Operator
 valued_operator function look_up change =
-    option_or (option_map function_operator function) (option_or (option_map look_up_operator look_up) (option_map change_operator change))
+    option_or (option_map operator_of_function function) (option_or (option_map operator_of_look_up look_up) (option_map operator_of_change change))
 
 pub function_found : (names : List Name) (n : Name) (function : ValueFunction) → Some function ≡ function_named n
-    → option_map (operator names) (Some (Computes function)) ≡ option_or (option_map function_operator (function_named n)) (world_operator n)
+    → option_map (operator names) (Some (Computes function)) ≡ option_or (option_map operator_of_function (function_named n)) (world_operator n)
 function_found names n function is = ap (λ o. valued_operator o (look_up_named n) (change_named n)) is
 
 pub look_up_found : (names : List Name) (n : Name) (look_up : LookUp) → None ≡ function_named n → Some look_up ≡ look_up_named n
-    → option_map (operator names) (Some (LooksUp look_up)) ≡ option_or (option_map function_operator (function_named n)) (world_operator n)
+    → option_map (operator names) (Some (LooksUp look_up)) ≡ option_or (option_map operator_of_function (function_named n)) (world_operator n)
 look_up_found names n look_up none is =
     ap (λ o. valued_operator None o (change_named n)) is ∙ ap (λ o. valued_operator o (look_up_named n) (change_named n)) none
 
 pub change_found : (names : List Name) (n : Name) (change : PlaceChange) → None ≡ function_named n → None ≡ look_up_named n → Some change ≡ change_named n
-    → option_map (operator names) (Some (Changes change)) ≡ option_or (option_map function_operator (function_named n)) (world_operator n)
+    → option_map (operator names) (Some (Changes change)) ≡ option_or (option_map operator_of_function (function_named n)) (world_operator n)
 change_found names n change none neither is =
     ap (λ o. valued_operator None None o) is ∙ ap (λ o. valued_operator None o (change_named n)) neither
     ∙ ap (λ o. valued_operator o (look_up_named n) (change_named n)) none
 
 pub none_found : (names : List Name) (n : Name) → None ≡ function_named n → None ≡ look_up_named n → None ≡ change_named n
-    → option_map (operator names) None ≡ option_or (option_map function_operator (function_named n)) (world_operator n)
+    → option_map (operator names) None ≡ option_or (option_map operator_of_function (function_named n)) (world_operator n)
 none_found names n none neither nor =
     ap (λ o. valued_operator None None o) nor ∙ ap (λ o. valued_operator None o (change_named n)) neither
     ∙ ap (λ o. valued_operator o (look_up_named n) (change_named n)) none
@@ -137,7 +137,7 @@ module _ (names : List Name) (name : Name) where
   pub decision_found : (operation : Operation) → Some operation ≡ among operators_that_decide name → option_map (operator names) (Some operation) ≡ pazturrok_operator name
   decision_found operation is = ap (operator_or valued_named) is ∙ all_deciding
 
-  pub decision_missing : (r : Option Operation) → None ≡ among operators_that_decide name → option_map (operator names) r ≡ option_or (option_map function_operator (function_named name)) (world_operator name)
+  pub decision_missing : (r : Option Operation) → None ≡ among operators_that_decide name → option_map (operator names) r ≡ option_or (option_map operator_of_function (function_named name)) (world_operator name)
       → option_map (operator names) r ≡ pazturrok_operator name
   decision_missing r none same = same ∙ ap (operator_or valued_named) none ∙ all_deciding
 

@@ -22,7 +22,7 @@ use Rattle.lisp_operators.specs.Readtables.{a_keyword_of, readtable_case, set_ca
 use Rattle.lisp_operators.proofs.Numbered.{IsNumber}
 use Rattle.value_functions.specs.declared.functions.ValueFunction.{ValueFunction as OfValues}
 use Rattle.value_functions.specs.Functions.{function_named}
-use Rattle.evaluator.specs.Operators.{Operator, Action, quotes, sequence, chooses, assigns, increments, pushes, enters_package, calls, seeks, selects, guards, keeps_first, asserts, computed, function_operator, operator_named, pazturrok, pazturrok_operator, operator_of, is_standard, is_interned, count, counts, first, changes, look_up_operator, change_operator, world_operator}
+use Rattle.evaluator.specs.Operators.{Operator, Action, quotes, sequence, chooses, assigns, increments, pushes, enters_package, calls, seeks, selects, guards, keeps_first, asserts, computed, operator_of_function, operator_named, pazturrok, pazturrok_operator, operator_of, is_standard, is_interned, count, counts, first, changes, operator_of_look_up, operator_of_change, world_operator}
 use Rattle.evaluator.specs.Value.{value_by, values_by, choice_by, other_value_by, values_at_place_by, values_before_place_by, sought_by, selected_by, guarded_by, symbol_value_by, Parts, action_value_by, form_value_by, unless, last, has_truth, are_clauses, is_base_by, is_case_place, place_refusal_by, case_place_refusal, get_place_refusal, set_place_by, rest, value_over, default_place_refusal, has_default}
 
 -- ---- why an object is no place
@@ -158,12 +158,12 @@ module _ (based : Bool) (names : List Name) (Asks : WorldState → Object → Ty
         (either (bytes_eq name (codes "GET-DISPATCH-MACRO-CHARACTER")) _ _ steps.operators.gets_dispatch
         (either (bytes_eq name (codes "READTABLE-CASE")) _ _ steps.operators.cases tt))))))))))))))))))))))))
 
-    of_world : (look_up : Option LookUp) (change : Option PlaceChange) → OperatorHolds (option_or (option_map look_up_operator look_up) (option_map change_operator change))
+    of_world : (look_up : Option LookUp) (change : Option PlaceChange) → OperatorHolds (option_or (option_map operator_of_look_up look_up) (option_map operator_of_change change))
     of_world (Some operator) change = steps.operators.looks_up operator
     of_world None (Some operator) = steps.operators.changes_place operator
     of_world None None = tt
 
-    of_function : (function : Option OfValues) (other : Option Operator) → OperatorHolds other → OperatorHolds (option_or (option_map function_operator function) other)
+    of_function : (function : Option OfValues) (other : Option Operator) → OperatorHolds other → OperatorHolds (option_or (option_map operator_of_function function) other)
     of_function (Some function) other holds = steps.operators.computes function
     of_function None other holds = holds
 

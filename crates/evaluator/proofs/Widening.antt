@@ -14,7 +14,7 @@ use Rattle.lisp_operators.specs.ArgumentKinds.{is_true, is_pair}
 use Rattle.lisp_operators.specs.Evaluation.{Done, Evaluation, gives, also, and_then}
 use Rattle.lisp_operators.specs.Properties.{increment, push}
 use Rattle.lisp_operators.specs.Packages.{enter}
-use Rattle.evaluator.specs.Operators.{Operator, OperatorTable, AreOperatorsAmong, operator_named, operator_of, pazturrok, pazturrok_operator, standard_operator_of, Action, quotes, sequence, chooses, assigns, increments, pushes, enters_package, calls, seeks, selects, guards, keeps_first, asserts, is_interned, count, counts, first, changes}
+use Rattle.evaluator.specs.Operators.{Operator, OperatorTable, IsOperatorTableWithin, operator_named, operator_of, pazturrok, pazturrok_operator, standard_operator_of, Action, quotes, sequence, chooses, assigns, increments, pushes, enters_package, calls, seeks, selects, guards, keeps_first, asserts, is_interned, count, counts, first, changes}
 use Rattle.evaluator.specs.Value.{value_over, values_over, choice_over, other_value_over, values_at_place_over, values_before_place_over, sought_over, selected_over, guarded_over, symbol_value_by, Parts, action_value_by, form_value_by, unless, last, has_truth, are_clauses, place_refusal_by, set_place_by, get_place_refusal, rest, default_place_refusal, has_default}
 
 abbrev pub GivesToo : {A : Type 0} → Evaluation A → Evaluation A → Type 0
@@ -213,13 +213,13 @@ module _ (based : Bool) where
   known_operator None y is = record { each = λ s arguments o p all. record { same = tt } }
   known_operator (Some x) y is = subst (OperatorWidens based based (Some x)) (sym (is x refl)) (widens_same_operator (Some x))
 
-  pub wider_operators : (fewer more : OperatorTable) → AreOperatorsAmong fewer more → (s : WorldState) (x : Object) (d : Done Object) → value_over based fewer s x ≡ Ok d → value_over based more s x ≡ Ok d
+  pub wider_operators : (fewer more : OperatorTable) → IsOperatorTableWithin fewer more → (s : WorldState) (x : Object) (d : Done Object) → value_over based fewer s x ≡ Ok d → value_over based more s x ≡ Ok d
   wider_operators fewer more among s x d is =
       (subst (λ o. Widens o (value_over based more s x)) is
       (widens_value based based fewer more (λ home name t. widens_same (symbol_value_by based home name t)) (λ head. known_operator (fewer head) (more head) (among head)) s x)).same
 
 -- the operators of COMMON-LISP alone
-pub standard_among : (names : List Name) → AreOperatorsAmong (standard_operator_of names) (operator_of names)
+pub standard_among : (names : List Name) → IsOperatorTableWithin (standard_operator_of names) (operator_of names)
 standard_among names (symbol home name) operator is =
     elim (bytes_eq home common_lisp) as (λ b. cond b (operator_named names name) None ≡ Some operator → cond b (operator_named names name) (cond (bytes_eq home pazturrok) (pazturrok_operator name) None) ≡ Some operator) [
       | true ↦ λ same. same

@@ -4,7 +4,7 @@ use Rattle.std.specs.Str.{bytes_eq}
 use Rattle.lisp_object.specs.Object.{symbol}
 use Rattle.package_table.specs.Table.{Name, common_lisp}
 use Rattle.value_functions.specs.Functions.{function_named}
-use Rattle.evaluator.specs.Operators.{Operator, OperatorTable, operator_named, function_operator, deciding_operator_or, pazturrok}
+use Rattle.evaluator.specs.Operators.{Operator, OperatorTable, operator_named, operator_of_function, deciding_operator_or, pazturrok}
 
 -- those of COMMON-LISP, and of PAZTURROK these
 abbrev pub operators_with : (Name → Option Operator) → List Name → OperatorTable
@@ -15,8 +15,8 @@ operators_with own names _ = None
 
 -- before AND, COND and their like: functions of values
 abbrev pub operators_before_deciding : List Name → OperatorTable
-operators_before_deciding = operators_with (λ name. option_map function_operator (function_named name))
+operators_before_deciding = operators_with (λ name. option_map operator_of_function (function_named name))
 
 -- before FIND-SYMBOL, DECF and their like: those that decide, and functions of values
 abbrev pub operators_before_places : List Name → OperatorTable
-operators_before_places = operators_with (λ name. deciding_operator_or (option_map function_operator (function_named name)) name)
+operators_before_places = operators_with (λ name. deciding_operator_or (option_map operator_of_function (function_named name)) name)

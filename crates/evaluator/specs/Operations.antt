@@ -133,8 +133,8 @@ abbrev pub operator : List Name → Operation → Operator
 operator names operation = record { least = least operation; most = most operation; action = action_of names operation }
 
 -- a list with so many elements, an operator among them, has a right number of arguments
-abbrev pub HasRightCount : Operation → ℕ → Type 0
-HasRightCount operation n = (least operation + 1 ≤ n) × IfSome (most operation) (λ m. n ≤ m + 1)
+abbrev pub OperationTakesCount : Operation → ℕ → Type 0
+OperationTakesCount operation n = (least operation + 1 ≤ n) × IfSome (most operation) (λ m. n ≤ m + 1)
 
 -- whether it gives a function of the values of its arguments, of which all are held
 abbrev pub is_ordinary : Operation → Bool

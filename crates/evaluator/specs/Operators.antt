@@ -114,20 +114,20 @@ abbrev pub pazturrok : Name
 pazturrok = codes "PAZTURROK"
 
 -- a function of values as an operator
-abbrev pub function_operator : ValueFunction → Operator
-function_operator function = record { least = functions.fewest_arguments function; most = functions.most_arguments function; action = calls (computed function) }
+abbrev pub operator_of_function : ValueFunction → Operator
+operator_of_function function = record { least = functions.fewest_arguments function; most = functions.most_arguments function; action = calls (computed function) }
 
 -- an operator that looks up
-abbrev pub look_up_operator : LookUp → Operator
-look_up_operator operator = record { least = least_of_look_up operator; most = Some (most_of_look_up operator); action = calls (looked_up operator) }
+abbrev pub operator_of_look_up : LookUp → Operator
+operator_of_look_up operator = record { least = least_of_look_up operator; most = Some (most_of_look_up operator); action = calls (looked_up operator) }
 
 -- an operator that changes a place
-abbrev pub change_operator : PlaceChange → Operator
-change_operator operator = record { least = 1; most = Some (most_of_change operator); action = changes (place_changed operator) }
+abbrev pub operator_of_change : PlaceChange → Operator
+operator_of_change operator = record { least = 1; most = Some (most_of_change operator); action = changes (place_changed operator) }
 
 -- an operator of the world by its name: it looks up, or changes a place
 abbrev pub world_operator : Name → Option Operator
-world_operator name = option_or (option_map look_up_operator (look_up_named name)) (option_map change_operator (change_named name))
+world_operator name = option_or (option_map operator_of_look_up (look_up_named name)) (option_map operator_of_change (change_named name))
 
 -- the operator of this name that decides, or another one
 abbrev pub deciding_operator_or : Option Operator → Name → Option Operator
@@ -143,7 +143,7 @@ deciding_operator_or other name =
 
 -- the operator of PAZTURROK of this name
 abbrev pub pazturrok_operator : Name → Option Operator
-pazturrok_operator name = deciding_operator_or (option_or (option_map function_operator (function_named name)) (world_operator name)) name
+pazturrok_operator name = deciding_operator_or (option_or (option_map operator_of_function (function_named name)) (world_operator name)) name
 
 -- the operator of a symbol
 abbrev pub operator_of : List Name → OperatorTable
@@ -153,8 +153,8 @@ operator_of names (symbol home name) =
 operator_of names _ = None
 
 -- each operator of the first table is the same one in the second
-abbrev pub AreOperatorsAmong : OperatorTable → OperatorTable → Type 0
-AreOperatorsAmong fewer more = (head : Object) (operator : Operator) → fewer head ≡ Some operator → more head ≡ Some operator
+abbrev pub IsOperatorTableWithin : OperatorTable → OperatorTable → Type 0
+IsOperatorTableWithin fewer more = (head : Object) (operator : Operator) → fewer head ≡ Some operator → more head ≡ Some operator
 
 -- whether it is the symbol of COMMON-LISP with this name
 abbrev pub is_standard : List ℕ → Object → Bool

@@ -6,7 +6,7 @@ ghost use Rattle.evaluator.specs.Value.{values_at_place, values_before_place};
 ghost use Rattle.lisp_operators.specs.Readtables.{AreFunctionNames};
 ghost use Rattle.lisp_operators.specs.EvaluationAnswers.{IsArgument, KeepsArguments, Answers, done, IsProperValue, AreArgumentsOf, objects};
 ghost use Rattle.evaluator.specs.ArgumentValues.{all_done, arguments_in, EvaluatesFor, Operates, values_after, subforms, gathered, sequence_value, list_of_values};
-ghost use Rattle.evaluator.specs.Operations.{HasRightCount, is_ordinary};
+ghost use Rattle.evaluator.specs.Operations.{OperationTakesCount, is_ordinary};
 ghost use Rattle.evaluator.specs.StandIns.{seen};
 
 mod deciding;
@@ -115,7 +115,7 @@ fn act(
     task: EvaluationTask,
     items: &[Datum],
 ) -> Result<Evaluated, EvaluationError>
-    requires counted { HasRightCount task.operation (length items.now) }
+    requires counted { OperationTakesCount task.operation (length items.now) }
     requires names { AreFunctionNames names.now }
     requires items { AreArgumentsOf world.old items.now }
     ensures gives { Operates names.now task items.now world.old.0 world.new.0 result }
@@ -158,7 +158,7 @@ fn ordinary(
     items: &[Datum],
 ) -> Result<Evaluated, EvaluationError>
     requires ordinary { is_ordinary task.operation ≡ true }
-    requires counted { HasRightCount task.operation (length items.now) }
+    requires counted { OperationTakesCount task.operation (length items.now) }
     requires names { AreFunctionNames names.now }
     requires items { AreArgumentsOf world.old items.now }
     ensures gives { Operates names.now task items.now world.old.0 world.new.0 result }
@@ -184,7 +184,7 @@ fn gathered(
     operation: Operation,
     items: &[Datum],
 ) -> Result<Values, EvaluationError>
-    requires counted { HasRightCount operation (length items.now) }
+    requires counted { OperationTakesCount operation (length items.now) }
     requires names { AreFunctionNames names.now }
     requires items { AreArgumentsOf world.old items.now }
     ensures gives { Answers all_done result world.new.0

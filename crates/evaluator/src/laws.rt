@@ -7,7 +7,7 @@ ghost use Rattle.plist_state.specs.State.{WorldState};
 ghost use Rattle.plist_state.specs.Sound.{IsSoundWorldState, IsValue};
 ghost use Rattle.lisp_operators.specs.Evaluation.{Done};
 ghost use Rattle.lisp_operators.specs.Readtables.{AreCovered, AreFunctionNames};
-ghost use Rattle.evaluator.specs.Operators.{OperatorTable, AreOperatorsAmong, standard_operator_of};
+ghost use Rattle.evaluator.specs.Operators.{OperatorTable, IsOperatorTableWithin, standard_operator_of};
 ghost use Rattle.evaluator.specs.EarlierOperators.{operators_before_deciding, operators_before_places};
 ghost use Rattle.evaluator.specs.Value.{value, value_by, value_over};
 
@@ -45,7 +45,7 @@ pub fn values_are_refused_by_evaluation()
 /// proofs: it does nothing.
 pub fn more_operators_change_no_value()
     ensures tables { (based : Bool) (fewer more : OperatorTable) (s : WorldState) (x : Object)
-        → (d : Done Object) → AreOperatorsAmong fewer more
+        → (d : Done Object) → IsOperatorTableWithin fewer more
         → value_over based fewer s x ≡ Ok d → value_over based more s x ≡ Ok d }
     ensures standard { (based : Bool) (names : List Name) (s : WorldState) (x : Object)
         → (d : Done Object) → value_over based (standard_operator_of names) s x ≡ Ok d

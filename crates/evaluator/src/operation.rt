@@ -4,8 +4,8 @@ ghost use Rattle.std.specs.Option.{option_or};
 ghost use Rattle.lisp_object.specs.Datum.{object_of};
 ghost use Rattle.lisp_object.specs.Object.{symbol};
 ghost use Rattle.package_table.specs.Table.{Name};
-ghost use Rattle.evaluator.specs.Operators.{operator_named, operator_of, function_operator, pazturrok_operator, counts, world_operator};
-ghost use Rattle.evaluator.specs.Operations.{least, most, operator, HasRightCount, among, operators_on_data, operators_on_packages, operators_on_readtables, operators_that_decide};
+ghost use Rattle.evaluator.specs.Operators.{operator_named, operator_of, operator_of_function, pazturrok_operator, counts, world_operator};
+ghost use Rattle.evaluator.specs.Operations.{least, most, operator, OperationTakesCount, among, operators_on_data, operators_on_packages, operators_on_readtables, operators_that_decide};
 ghost use Rattle.evaluator.specs.ArgumentValues.{IsOperatorHead};
 ghost use Rattle.value_functions.specs.Functions.{function_named};
 ghost use Rattle.lisp_operators.specs.EvaluationAnswers.{IsProper};
@@ -80,7 +80,7 @@ impl Operation {
     fn of_values(name: &[u8]) -> Option<Operation>
         ensures { (names : List Name)
             → option_map (operator names) result
-            ≡ option_or (option_map function_operator (function_named name.now)) (world_operator name.now) }
+            ≡ option_or (option_map operator_of_function (function_named name.now)) (world_operator name.now) }
     {
         if let Some(function) = ValueFunction::named(name) {
             return Some(Operation::Computes(function));
@@ -200,7 +200,7 @@ impl Operation {
     /// Whether it takes so many arguments.
     pub fn counts(self, number: usize) -> bool
         ensures value { (names : List Name) → result ≡ counts (operator names self) number }
-        ensures counted { result ≡ true → HasRightCount self (number + 1) }
+        ensures counted { result ≡ true → OperationTakesCount self (number + 1) }
     {
         if number < self.least() {
             return false;
@@ -217,7 +217,7 @@ impl Operation {
 pub(crate) fn operation_of(head: &Datum, number: usize) -> Result<Operation, EvaluationError>
     requires { IsProper head.now }
     ensures head { (names : List Name) → IsOperatorHead names (object_of head.now) number result }
-    ensures counted { IfOk result (λ operation. HasRightCount operation (number + 1)) }
+    ensures counted { IfOk result (λ operation. OperationTakesCount operation (number + 1)) }
 {
     let Ok((home, name)) = kinds::symbol(head) else {
         return Err(Refused(NOT_A_FORM));

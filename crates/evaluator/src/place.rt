@@ -5,7 +5,7 @@ ghost use Rattle.lisp_object.specs.Datum.{object_of, is_proper};
 ghost use Rattle.lisp_object.specs.declared.refusal.TheConstants.{ARGUMENT_KIND as WRONG_KIND};
 ghost use Rattle.evaluator.specs.Operators.{is_standard, count};
 ghost use Rattle.evaluator.specs.Value.{get_place_refusal, default_place_refusal, list_place_refusal, place_refusal};
-ghost use Rattle.evaluator.specs.Operations.{HasRightCount};
+ghost use Rattle.evaluator.specs.Operations.{OperationTakesCount};
 ghost use Rattle.evaluator.specs.ArgumentValues.{refusal_of_place, property_place, list_place, setf_place, place_form_of, RefusesIfSome, arguments_in};
 ghost use Rattle.lisp_operators.specs.EvaluationAnswers.{IsProper, AreProper};
 
@@ -142,7 +142,7 @@ fn check_setf(place: &Datum) -> Result<PlaceForm, EvaluationError>
 /// That the place of an operator, if it takes one, is a place, and what it names. The first of the items is the
 /// operator itself. What is no place is refused as `refusal_of_place` says.
 pub fn check_place(operation: Operation, items: &[Datum]) -> Result<PlaceForm, EvaluationError>
-    requires counted { HasRightCount operation (length items.now) }
+    requires counted { OperationTakesCount operation (length items.now) }
     requires proper { AreProper items.now }
     ensures refusal { RefusesIfSome (refusal_of_place operation (arguments_in items.now)) result }
     ensures value { IfOk result (λ p. p ≡ place_form_of operation (arguments_in items.now)) }

@@ -20,7 +20,7 @@ use Rattle.plist_state.specs.Readers.{symbols_with_properties}
 use Rattle.plist_state.specs.Sound.{IsSoundWorldState, IsSymbol, IsPlist, IsValue}
 use Rattle.plist_state.specs.State.{WorldState}
 use Rattle.plist_state.proofs.Orders.{symbol_total}
-use Rattle.snapshot_text.specs.BuiltWorlds.{with_each, with_packages_of, with_properties, with_properties_of}
+use Rattle.snapshot_text.specs.BuiltWorlds.{with_each, built_with_packages, with_properties, built_with_properties}
 use Rattle.snapshot_text.specs.Rows.{row_symbol_at, HasRowsUpTo}
 use Rattle.snapshot_text.proofs.PropertyParts.{at_first, at_last, each_is_list, next_up_to, row_at}
 use Rattle.text_laws.specs.Objects.{property_object}
@@ -84,7 +84,7 @@ module _ (s : WorldState) where
 
   module _ (sound : IsSoundWorldState s) where
     from : (n : ℕ) (xs : List Symbol) (now : WorldState) → drop n (symbols_with_properties s) ≡ xs → n + length xs ≡ length (symbols_with_properties s)
-        → HasRowsUpTo s n now → listed now xs ≡ with_properties_of s
+        → HasRowsUpTo s n now → listed now xs ≡ built_with_properties s
     from n [] now rest all so_far = at_last s n now so_far (omega (arith, all))
     from n (x ∷ xs) now rest all so_far =
         let few : n < length (symbols_with_properties s) = omega (arith, all) in
@@ -98,7 +98,7 @@ module _ (s : WorldState) where
 
     all_listed : put_all finite.empty (symbols_with_properties s) ≡ s.properties
     all_listed =
-        let first = with_packages_of s in
+        let first = built_with_packages s in
         ap (λ (w : WorldState). w.properties) (sym (all_put first (symbols_with_properties s))
         ∙ from 0 (symbols_with_properties s) first refl (omega arith) (at_first s first refl))
 

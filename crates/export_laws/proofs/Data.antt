@@ -10,7 +10,7 @@ use Rattle.package_table.proofs.Frames.{get_inserted}
 use Rattle.plist_state.specs.Sound.{IsSoundWorldState}
 use Rattle.plist_state.specs.State.{WorldState, initial, standard_name, user_name}
 use Rattle.user_macros.specs.Functions.{Functions}
-use Rattle.snapshot_text.specs.BuiltWorlds.{with_packages_of, with_properties_of}
+use Rattle.snapshot_text.specs.BuiltWorlds.{built_with_packages, built_with_properties}
 use Rattle.session_words.specs.declared.content.Content.TheVariants.{Data}
 use Rattle.world_forms.specs.Forms.{current_form, forms, last_newline}
 use Rattle.world_forms.specs.Packages.{package_lines}
@@ -44,14 +44,14 @@ module _ (functions : Functions) (s : WorldState) (sound : IsSoundWorldState s) 
   after_newline : Makes functions initial (10 ∷ whole) (with_data_of s) (10 ∷ [])
   after_newline =
       let packages = packages_made functions initial (10 ∷ whole) initial new_reads s.packages sound.packages (property_lines s ++ last) (nothing_made functions initial (10 ∷ whole)) in
-      let now = with_packages_of s in
+      let now = built_with_packages s in
       let as_exported : ReadsAsExported now = record { readtable = new_reads.readtable; base = new_reads.base; current = new_reads.current } in
       let properties = lines_made functions initial (10 ∷ whole) s sound none now last refl refl as_exported packages in
-      one_more_made functions initial (with_properties_of s) (10 ∷ whole) (current_form s Data) [] (current_object s.current_package)
+      one_more_made functions initial (built_with_properties s) (10 ∷ whole) (current_form s Data) [] (current_object s.current_package)
       (record { value = text s.current_package; state = with_data_of s; wrote = true }) properties
       (record { readtable = new_reads.readtable; base = new_reads.base; current = new_reads.current })
       (current_is_form s s.packages sound.packages sound.current_package)
-      (current_leaves functions.names (with_properties_of s) sound.packages s.current_package sound.current_package)
+      (current_leaves functions.names (built_with_properties s) sound.packages s.current_package sound.current_package)
 
   pub data_made : Makes functions initial (forms s Data) (with_data_of s) (10 ∷ [])
   data_made =

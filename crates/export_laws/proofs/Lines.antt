@@ -16,7 +16,7 @@ use Rattle.plist_state.specs.State.{WorldState}
 use Rattle.user_macros.specs.Functions.{Functions}
 use Rattle.snapshot_text.specs.BuiltWorlds.{with_each}
 use Rattle.world_forms.specs.Properties.{is_form, left_out_line, left_out_lines, plist_left_out, plist_lines, property_form, property_line, property_lines}
-use Rattle.world_forms.specs.NameTokens.{line_of_form, symbol_text, told_text}
+use Rattle.world_forms.specs.NameTokens.{world_form_line, symbol_text, told_text}
 use Rattle.text_laws.specs.Objects.{property_object}
 use Rattle.export_laws.specs.ExportedTexts.{Makes, ReadsAsExported}
 use Rattle.export_laws.proofs.All.{MayBe, all_listed_in, all_may_be, each_put, listed}
@@ -38,7 +38,7 @@ module _ (t : Table) (x : Symbol) where
   not_left_out : (p : Symbol × Object) → left_out_line t x p ≡ [] → IsForm p
   unfolding left_out_line
   not_left_out p none =
-      elim (is_form t (property_form t x p)) as (λ b. (if b then [] else line_of_form (told_text (symbol_text x.0 x.1 ++ codes " " ++ symbol_text p.0.0 p.0.1))) ≡ [] → b ≡ true) [
+      elim (is_form t (property_form t x p)) as (λ b. (if b then [] else world_form_line (told_text (symbol_text x.0 x.1 ++ codes " " ++ symbol_text p.0.0 p.0.1))) ≡ [] → b ≡ true) [
         | true ↦ λ _. refl
         | false ↦ λ e. absurd (let none : 10 ∷ [] ≡ [] = (both_empty (told_text (symbol_text x.0 x.1 ++ codes " " ++ symbol_text p.0.0 p.0.1)) (10 ∷ []) e).1 in cc)
       ] none
@@ -66,7 +66,7 @@ module _ (functions : Functions) (first : WorldState) (whole : List ℕ) where
   line_before : (t : Table) (x : Symbol) (p : Symbol × Object) (more : List ℕ) → IsForm t x p → property_line t x p ++ more ≡ property_form t x p ++ 10 ∷ more
   unfolding property_line
   line_before t x p more is =
-      ap (λ b. (if b then line_of_form (property_form t x p) else []) ++ more) is ∙ append_assoc (property_form t x p) (10 ∷ []) more
+      ap (λ b. (if b then world_form_line (property_form t x p) else []) ++ more) is ∙ append_assoc (property_form t x p) (10 ∷ []) more
 
   list_made : (x : Symbol) (ps : Plist) (now : WorldState) (rest : List ℕ) → packages.AreSoundPackages now.packages → IsSymbol now.packages x
       → All (λ p. IsSymbol now.packages p.0) ps → All (λ p. IsValue now.packages p.1) ps → All (IsForm now.packages x) ps → ReadsAsExported now

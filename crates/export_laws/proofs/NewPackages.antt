@@ -29,7 +29,7 @@ use Rattle.snapshot_text.proofs.PartFinds.{present_entry, present_more, present_
 use Rattle.snapshot_text.proofs.PartMakes.{intern_goes, make_goes, make_part}
 use Rattle.snapshot_text.proofs.PartSame.{first_part, where_first}
 use Rattle.world_forms.specs.Packages.{is_first, own_line, own_lines, package_line}
-use Rattle.world_forms.specs.NameTokens.{call_text, line_of_form}
+use Rattle.world_forms.specs.NameTokens.{call_text, world_form_line}
 use Rattle.text_laws.specs.Objects.{call}
 use Rattle.export_laws.specs.ExportedTexts.{ReadsAsExported}
 use Rattle.export_laws.proofs.OnTheWay.{Goes, IsOnTheWay, Made, at, every_line, nothing_more, one_line}
@@ -134,7 +134,7 @@ module _ (functions : Functions) (first : WorldState) (whole : List ℕ) (base :
   unfolding package_line
   make_line p ps t more other there new way made = by_kind (is_first p) refl made
     where
-      by_kind : (b : Bool) → is_first p ≡ b → Before t ((if b then [] else line_of_form (call_text (codes "MAKE-PACKAGE") (p ∷ []))) ++ more) → Reached (IsMade p ps) t more
+      by_kind : (b : Bool) → is_first p ≡ b → Before t ((if b then [] else world_form_line (call_text (codes "MAKE-PACKAGE") (p ∷ []))) ++ more) → Reached (IsMade p ps) t more
       by_kind true e made =
           nothing_more functions first whole base as_exported s (IsMade p ps) t more way (firsts_there t way.sound p e, All-tail (IsNew t) p ps new) made
       by_kind false e made =
@@ -196,7 +196,7 @@ module _ (functions : Functions) (first : WorldState) (whole : List ℕ) (base :
   unfolding own_line
   own_step p there n t more home all way made = by_kind (is_present initial p n) refl made
     where
-      by_kind : (b : Bool) → is_present initial p n ≡ b → Before t ((if b then [] else line_of_form (call_text (codes "INTERN") (n ∷ p ∷ []))) ++ more) → Reached (λ u. IsPresent u p n p) t more
+      by_kind : (b : Bool) → is_present initial p n ≡ b → Before t ((if b then [] else world_form_line (call_text (codes "INTERN") (n ∷ p ∷ []))) ++ more) → Reached (λ u. IsPresent u p n p) t more
       by_kind true e made = nothing_more functions first whole base as_exported s (λ u. IsPresent u p n p) t more way (still_there t way p n home e) made
       by_kind false e made =
           let here = all p there in

@@ -15,7 +15,7 @@ use Rattle.plist_state.specs.Changes.{with_packages}
 use Rattle.plist_state.specs.State.{WorldState}
 use Rattle.user_macros.specs.Functions.{Functions}
 use Rattle.snapshot_text.specs.Part.{IsPartOf}
-use Rattle.world_forms.specs.NameTokens.{line_of_form}
+use Rattle.world_forms.specs.NameTokens.{world_form_line}
 use Rattle.export_laws.specs.ExportedTexts.{Makes, ReadsAsExported}
 use Rattle.export_laws.proofs.OneForm.{IsForm, one_more_made}
 use Rattle.prevalence_store.specs.meaning.Acceptance.{transaction_value}
@@ -49,7 +49,7 @@ module _ (functions : Functions) (first : WorldState) (whole : List ℕ) (base :
 
   -- ---- one line
 
-  pub one_line : (Has : Table → Type 0) (t u : Table) (text : List ℕ) (x : Object) (more : List ℕ) → Made t (line_of_form text ++ more) → IsForm t text x
+  pub one_line : (Has : Table → Type 0) (t u : Table) (text : List ℕ) (x : Object) (more : List ℕ) → Made t (world_form_line text ++ more) → IsForm t text x
       → ((done : Done Object) × (transaction_value functions.names (at t) x ≡ Ok done) × (done.state ≡ at u)) → IsOnTheWay s u → Grows t u → Has u → Goes Has t more
   one_line Has t u text x more made is accepted way grows has = record {
     there = u;

@@ -28,8 +28,8 @@ use Rattle.snapshot_text.proofs.PackageLists.{external_among, externals_are, imp
 use Rattle.snapshot_text.proofs.PartFinds.{external_entry, present_package}
 use Rattle.snapshot_text.proofs.PartSame.{first_part}
 use Rattle.snapshot_text.proofs.PartSteps.{after_used, export_goes, export_part, export_there, import_goes, import_part, import_there, not_locked, use_goes, use_part, use_there}
-use Rattle.world_forms.specs.Packages.{change_line, export_form_line, import_line, own_lines, package_line, package_lines, shown_lines, use_line, use_lines}
-use Rattle.world_forms.specs.NameTokens.{call_text, line_of_form}
+use Rattle.world_forms.specs.Packages.{change_line, export_form_line, import_line, own_lines, package_line, package_lines, shown_lines, use_line, use_package_lines}
+use Rattle.world_forms.specs.NameTokens.{call_text, world_form_line}
 use Rattle.text_laws.specs.Objects.{call}
 use Rattle.export_laws.specs.ExportedTexts.{ReadsAsExported}
 use Rattle.export_laws.proofs.OnTheWay.{Goes, IsOnTheWay, Made, at, every_line, nothing_more, one_line}
@@ -203,7 +203,7 @@ module _ (functions : Functions) (first : WorldState) (whole : List ℕ) (base :
       other = not_equal keyword q (λ same. sound.first.unused p (subst (λ r. Uses s p r) (sym same) uses))
 
       by_kind : (b : Bool) → (bytes_eq p common_lisp_user && bytes_eq q common_lisp) ≡ b
-          → Before t ((if b then [] else line_of_form (call_text (codes "USE-PACKAGE") (q ∷ p ∷ []))) ++ more) → Reached (λ u. Uses u p q) t more
+          → Before t ((if b then [] else world_form_line (call_text (codes "USE-PACKAGE") (q ∷ p ∷ []))) ++ more) → Reached (λ u. Uses u p q) t more
       by_kind true e made =
           let both = and_parts (bytes_eq p common_lisp_user) (bytes_eq q common_lisp) e in
           nothing_more functions first whole base as_exported s (λ u. Uses u p q) t more way
@@ -222,8 +222,8 @@ module _ (functions : Functions) (first : WorldState) (whole : List ℕ) (base :
           (record { part = use_part t s way.part sound p q here that uses way.sound; sound = kept.sound }) kept.grows
           (use_there t s way.part sound p q here that uses way.sound)
 
-  use_stage : (p : Name) (t : Table) (more : List ℕ) → IsPackage s p → HasPackagesIn t → Way t → Before t (use_lines s p ++ more) → Reached (λ u. HasUses u s p) t more
-  unfolding use_lines
+  use_stage : (p : Name) (t : Table) (more : List ℕ) → IsPackage s p → HasPackagesIn t → Way t → Before t (use_package_lines s p ++ more) → Reached (λ u. HasUses u s p) t more
+  unfolding use_package_lines
   use_stage p t more there all way made =
       let done = every_line functions first whole base as_exported s (use_line p) (λ q. Uses s p q) HasPackagesIn (λ q u. Uses u p q) still_packages
       (λ q t u grows here. grows.uses p q here) (use_step p there) (used_names s p) t more (uses_are s p) all way made in
@@ -234,11 +234,11 @@ module _ (functions : Functions) (first : WorldState) (whole : List ℕ) (base :
   begins : Way initial
   begins = record { part = first_part s sound.first; sound = first_sound }
 
-  stages : (more : List ℕ) → Before initial (flat_map package_line (package_names s) ++ (flat_map (own_lines s) (package_names s) ++ (flat_map (shown_lines s) (package_names s) ++ (flat_map (use_lines s) (package_names s) ++ more))))
+  stages : (more : List ℕ) → Before initial (flat_map package_line (package_names s) ++ (flat_map (own_lines s) (package_names s) ++ (flat_map (shown_lines s) (package_names s) ++ (flat_map (use_package_lines s) (package_names s) ++ more))))
       → Before s more
   stages more made =
       let ps = package_names s in
-      let uses = flat_map (use_lines s) ps ++ more in
+      let uses = flat_map (use_package_lines s) ps ++ more in
       let shown = flat_map (shown_lines s) ps ++ uses in
       let own = flat_map (own_lines s) ps ++ shown in
       let are = packages_are s in
@@ -249,7 +249,7 @@ module _ (functions : Functions) (first : WorldState) (whole : List ℕ) (base :
       let names = package_among s (HasOwn b.there s) b.has in
       let c = every_line functions first whole base as_exported s (shown_lines s) (λ p. IsPackage s p) HasOwnNames (λ p u. HasShown u p) own_last
       (λ p t u grows has. (symbols_grown t u s p has.0 grows, externals_grown t u s p has.1 grows)) (λ p t more there. shown_stage p t more there) ps b.there uses are names b.way b.made in
-      let d = every_line functions first whole base as_exported s (use_lines s) (λ p. IsPackage s p) HasPackagesIn (λ p u. HasUses u s p) still_packages
+      let d = every_line functions first whole base as_exported s (use_package_lines s) (λ p. IsPackage s p) HasPackagesIn (λ p u. HasUses u s p) still_packages
       (λ p t u grows has. uses_grown t u s p has grows) (λ p t more there. use_stage p t more there) ps c.there more are
       (still_packages b.there c.there c.grows (still_packages a.there b.there b.grows all)) c.way c.made in
       let has = package_among s (λ p. HasShown c.there p) c.has in
@@ -267,6 +267,6 @@ module _ (functions : Functions) (first : WorldState) (whole : List ℕ) (base :
       let makes = flat_map package_line ps in
       let own = flat_map (own_lines s) ps in
       let shown = flat_map (shown_lines s) ps in
-      let uses = flat_map (use_lines s) ps in
+      let uses = flat_map (use_package_lines s) ps in
       stages more (subst (λ cs. Before initial cs)
       (append_assoc (makes ++ own ++ shown) uses more ∙ append_assoc (makes ++ own) shown (uses ++ more) ∙ append_assoc makes own (shown ++ (uses ++ more))) made)

@@ -23,7 +23,7 @@ use Rattle.world_text.proofs.Begun.{begun}
 use Rattle.world_text.proofs.OneLine.{IsGood, good_symbols}
 use Rattle.world_text.proofs.WithinLimits.{tokens_short}
 use Rattle.world_forms.specs.Properties.{ends_at, form_setting, is_form, property_form}
-use Rattle.world_forms.specs.NameTokens.{line_of_form, quoted_text}
+use Rattle.world_forms.specs.NameTokens.{world_form_line, quoted_text}
 use Rattle.text_laws.specs.Objects.{call, property_object, symbol_form}
 use Rattle.text_laws.proofs.PartsRead.{AreRead, IsRead, deeper, list_read, listed_is_read, no_more, object_is_read, one_more, quoted_is_read}
 use Rattle.text_laws.proofs.Symbols.{lisp_is_read, quoted_symbol_is_read}
@@ -124,15 +124,15 @@ module _ (t : Packages) (sound : AreSoundPackages t) (x : Symbol) (p : Symbol ×
   Ended r = true ≡ ends_at (outcome standard 0 (λ next cs. reads_at (form_setting t) next cs) r) (length text)
 
   -- what is not refused under these limits is the same under the ample ones
-  line_read : is_form t text ≡ true → small_read (line_of_form text) ≡ Ok (one false object, length text, 10 ∷ [])
+  line_read : is_form t text ≡ true → small_read (world_form_line text) ≡ Ok (one false object, length text, 10 ∷ [])
   unfolding is_form reads
-  line_read is = by_result (small_read (line_of_form text)) refl (sym is ∙ ap (λ r. ends_at r (length text)) (reads_is (form_setting t) 0 (line_of_form text)))
+  line_read is = by_result (small_read (world_form_line text)) refl (sym is ∙ ap (λ r. ends_at r (length text)) (reads_is (form_setting t) 0 (world_form_line text)))
     where
-      by_result : (r : Read Found) → small_read (line_of_form text) ≡ r → Ended (small_read (line_of_form text)) → small_read (line_of_form text) ≡ Ok (one false object, length text, 10 ∷ [])
-      by_result (Ok v) e ended = e ∙ sym (attempt_allowed (form_setting t) ample (line_of_form text) v (omega arith) (omega arith) (omega arith) e) ∙ form_read (10 ∷ [])
+      by_result : (r : Read Found) → small_read (world_form_line text) ≡ r → Ended (small_read (world_form_line text)) → small_read (world_form_line text) ≡ Ok (one false object, length text, 10 ∷ [])
+      by_result (Ok v) e ended = e ∙ sym (attempt_allowed (form_setting t) ample (world_form_line text) v (omega arith) (omega arith) (omega arith) e) ∙ form_read (10 ∷ [])
       by_result (Err f) e ended = absurd (let no : true ≡ false = subst Ended e ended in cc)
 
   pub property_is_form : is_form t text ≡ true → (rest : List ℕ) → small_read (text ++ 10 ∷ rest) ≡ Ok (one false object, length text, 10 ∷ rest)
   property_is_form is rest =
       ap small_read (sym (append_assoc text (10 ∷ []) rest))
-      ∙ subst (λ r. Follows rest (small_read (line_of_form text ++ rest)) r) (line_read is) (follows standard small (attempt (form_setting t) 100) 0 (line_of_form text) rest)
+      ∙ subst (λ r. Follows rest (small_read (world_form_line text ++ rest)) r) (line_read is) (follows standard small (attempt (form_setting t) 100) 0 (world_form_line text) rest)

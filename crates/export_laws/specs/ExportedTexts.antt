@@ -6,7 +6,7 @@ use Rattle.plist_state.specs.State.{WorldState}
 use Rattle.session_words.specs.declared.mode.Mode.TheVariants.{Current}
 use Rattle.prevalence_store.specs.meaning.Acceptance.{table_in}
 use Rattle.sessions.specs.FormAnswers.{Progress, after_forms}
-use Rattle.snapshot_text.specs.BuiltWorlds.{with_properties_of}
+use Rattle.snapshot_text.specs.BuiltWorlds.{built_with_properties}
 use Rattle.user_macros.specs.Functions.{Functions}
 
 -- Forms are read under the standard readtable, in base 10, in COMMON-LISP-USER.
@@ -27,4 +27,4 @@ pub record Makes (functions : Functions) (before : WorldState) (text : List ℕ)
 
 -- a new store with the packages and the properties of another one, and its package current
 abbrev pub with_data_of : WorldState → WorldState
-with_data_of s = record (with_properties_of s) { current_package = s.current_package }
+with_data_of s = record (built_with_properties s) { current_package = s.current_package }

@@ -29,7 +29,7 @@ ghost use Rattle.plist_state.specs.Properties.{Symbol};
 ghost use Rattle.plist_state.specs.Sound.{IsSoundWorldState, IsSymbol};
 ghost use Rattle.plist_state.specs.State.{WorldState, initial};
 ghost use Rattle.form_eval.specs.Acceptance.{accept};
-ghost use Rattle.snapshot_text.specs.BuiltWorlds.{with_packages_of, with_properties_of};
+ghost use Rattle.snapshot_text.specs.BuiltWorlds.{built_with_packages, built_with_properties};
 ghost use Rattle.user_macros.specs.Functions.{Functions};
 ghost use Rattle.session_words.specs.declared.content.Content.TheVariants.{Data};
 ghost use Rattle.world_forms.specs.Forms.{forms};
@@ -61,8 +61,8 @@ pub fn properties_are_made()
 /// with its properties.
 pub fn properties_of_a_world(world: &World)
     ensures { (names : List Name)
-        → after_each names (with_packages_of world.now.0) (property_objects world.now.0)
-        ≡ Some (with_properties_of world.now.0) }
+        → after_each names (built_with_packages world.now.0) (property_objects world.now.0)
+        ≡ Some (built_with_properties world.now.0) }
 {
     world.soundness();
     properties_are_made();

@@ -15,7 +15,7 @@ use Rattle.message_frames.specs.declared.frame.Kind.TheVariants.{Do, By, Ask}
 use Rattle.message_laws.specs.NearRounds.{Near}
 use Rattle.message_laws.proofs.Tidy.{out_twice}
 use Rattle.message_laws.proofs.Together.{More, cleared_last, cleared_left, cleared_tidy, near_itself}
-use Rattle.message_session.specs.FrameAnswers.{answers_to, by_kind, each_frame, one_frame}
+use Rattle.message_session.specs.FrameAnswers.{frame_of_each_answer, by_kind, each_frame, one_frame}
 use Rattle.message_session.specs.declared.answer.TheConstants.{MOST_CLIENTS}
 use Rattle.message_session.proofs.Rounds.{kind_near}
 use Rattle.messages.specs.MessageAnswers.{Round, without_its_position, with_asked, with_message, with_old}
@@ -90,7 +90,7 @@ module _ (functions : Functions) where
     pub there : (each_frame functions b frames).told ≡ b.told ++ all
     pub count : length some ≡ length kept
     pub count_all : length all ≡ length frames
-    pub same : answers_to kept some ≡ over n (answers_to frames all)
+    pub same : frame_of_each_answer kept some ≡ over n (frame_of_each_answer frames all)
     pub near : Near (each_frame functions a kept) (each_frame functions b frames)
 
   module _ (n : ℕ) (frame : Sent) (more : List Sent) (a b : Round) (near : Near a b) where
@@ -105,7 +105,7 @@ module _ (functions : Functions) where
           there = rest.there ∙ ap (λ ts. ts ++ rest.all) (one.there ∙ ap (λ ts. b.told ++ ts) x.1) ∙ append_assoc b.told (x.0 ∷ []) rest.all;
           count = omega (arith, rest.count);
           count_all = omega (arith, rest.count_all);
-          same = ap (λ l. (frame.0, x.0.0) ∷ l) rest.same ∙ sym (over_true n (frame.0, x.0.0) (answers_to more rest.all) is);
+          same = ap (λ l. (frame.0, x.0.0) ∷ l) rest.same ∙ sym (over_true n (frame.0, x.0.0) (frame_of_each_answer more rest.all) is);
           near = rest.near;
         }
 
@@ -120,7 +120,7 @@ module _ (functions : Functions) where
           there = rest.there ∙ ap (λ ts. ts ++ rest.all) (one.there ∙ ap (λ ts. b.told ++ ts) x.1) ∙ append_assoc b.told (x.0 ∷ []) rest.all;
           count = rest.count;
           count_all = omega (arith, rest.count_all);
-          same = rest.same ∙ sym (over_false n (frame.0, x.0.0) (answers_to more rest.all) is);
+          same = rest.same ∙ sym (over_false n (frame.0, x.0.0) (frame_of_each_answer more rest.all) is);
           near = rest.near;
         }
 
@@ -197,11 +197,11 @@ module _ (functions : Functions) where
   none_over n [] up = refl
   none_over n (frame ∷ frames) up = over_false n frame frames (not_over n frame.0 up.0) ∙ none_over n frames up.1
 
-  pub none_told : (n : ℕ) (frames : List Sent) (told : List (List ℕ × Bool)) → AreUpTo n frames → over n (answers_to frames told) ≡ []
+  pub none_told : (n : ℕ) (frames : List Sent) (told : List (List ℕ × Bool)) → AreUpTo n frames → over n (frame_of_each_answer frames told) ≡ []
   none_told n [] told up = refl
   none_told n (frame ∷ frames) [] up = refl
   none_told n (frame ∷ frames) (one ∷ told) up =
-      over_false n (frame.0, one.0) (answers_to frames told) (not_over n frame.0 up.0) ∙ none_told n frames told up.1
+      over_false n (frame.0, one.0) (frame_of_each_answer frames told) (not_over n frame.0 up.0) ∙ none_told n frames told up.1
 
   -- ---- numbers of 64 bits
 

@@ -9,7 +9,7 @@ use Rattle.feeding_laws.specs.Feeding.{AreAnsweredAgain, FeedsAgain, is_message_
 use Rattle.message_frames.specs.Frames.{AreFrames, IsBegunFrame, IsFrame, Sent, answer_bytes, frame_bytes, position_bytes}
 use Rattle.message_frames.specs.Lists.{SplitsOneWay}
 use Rattle.message_laws.specs.NearRounds.{Near}
-use Rattle.message_session.specs.FrameAnswers.{answers_of, each_frame, session_bytes}
+use Rattle.message_session.specs.FrameAnswers.{answers_to_frames, each_frame, session_bytes}
 use Rattle.message_session.specs.MessageSessions.{EndsBy, MessagesBegin, ServesMessages, text_limit}
 use Rattle.message_session.specs.declared.ended.MessagesEnd.TheVariants.{End}
 use Rattle.message_session.proofs.Pieces.{begun_none}
@@ -55,12 +55,12 @@ module _ (functions : Functions) {D R : Type 0} (state : D → State) (one_way :
   again = ap (λ o. unwrap_or o 0) told
 
   record Feeds : Type 0 where
-    answers : answers_of functions p now (over p frames) ≡ over p (answers_of functions last first frames)
+    answers : answers_to_frames functions p now (over p frames) ≡ over p (answers_to_frames functions last first frames)
     near : Near (each_frame functions (first_round p now) (over p frames)) (each_frame functions (first_round last first) frames)
 
   fed : Feeds
   fed = record {
-    answers = subst (λ n. answers_of functions n now (over n frames) ≡ over n (answers_of functions last first frames)) again feeds.answers;
+    answers = subst (λ n. answers_to_frames functions n now (over n frames) ≡ over n (answers_to_frames functions last first frames)) again feeds.answers;
     near = subst (λ n. Near (each_frame functions (first_round n now) (over n frames)) (each_frame functions (first_round last first) frames)) again feeds.near;
   }
 

@@ -22,7 +22,7 @@ use Rattle.message_laws.specs.NearRounds.{IsTidy, Near}
 use Rattle.message_laws.proofs.Tidy.{sound_tidy}
 use Rattle.message_laws.proofs.Together.{StandsAt, near_itself, stands_first}
 use Rattle.message_session.specs.Account.{MessageAccount}
-use Rattle.message_session.specs.FrameAnswers.{AskAlike, answers_of, answers_to, each_frame, one_frame, frame_of_request}
+use Rattle.message_session.specs.FrameAnswers.{AskAlike, answers_to_frames, frame_of_each_answer, each_frame, one_frame, frame_of_request}
 use Rattle.message_session.specs.declared.answer.TheConstants.{MOST_CLIENTS}
 use Rattle.message_session.specs.MessageSessions.{text_limit}
 use Rattle.message_session.proofs.Rounds.{answers_append, both_rounds, same_rounds}
@@ -151,14 +151,14 @@ module _ (functions : Functions) (first_last : ℕ) (first : WorldState) where
           );
       feeds = record {
         no_less = stands.fed.feeds.no_less;
-        answers = (λ i. answers_to (over_both i) (again_both i).told)
-            ∙ ap (answers_to (over (told_position now) frames ++ over (told_position now) more)) later.here
+        answers = (λ i. frame_of_each_answer (over_both i) (again_both i).told)
+            ∙ ap (frame_of_each_answer (over (told_position now) frames ++ over (told_position now) more)) later.here
             ∙ answers_append (over (told_position now) frames) (over (told_position now) more) (again now (over (told_position now) frames)).told later.some stands.fed.count_again
             ∙ (λ i. stands.fed.feeds.answers i ++ later.same i)
-            ∙ sym (over_append (told_position now) (answers_to frames (all_of frames).told) (answers_to more later.all))
+            ∙ sym (over_append (told_position now) (frame_of_each_answer frames (all_of frames).told) (frame_of_each_answer more later.all))
             ∙ ap (over (told_position now)) (sym (answers_append frames more (all_of frames).told later.all stands.fed.count))
-            ∙ ap (λ ts. over (told_position now) (answers_to (frames ++ more) ts)) (sym later.there)
-            ∙ ap (λ (r : Round). over (told_position now) (answers_to (frames ++ more) r.told)) (sym all_both);
+            ∙ ap (λ ts. over (told_position now) (frame_of_each_answer (frames ++ more) ts)) (sym later.there)
+            ∙ ap (λ (r : Round). over (told_position now) (frame_of_each_answer (frames ++ more) r.told)) (sym all_both);
         near = subst (λ (r : Round). Near r (all_of (frames ++ more))) (sym again_both) (subst (Near (each_frame functions (again now (over (told_position now) frames)) (over (told_position now) more))) (sym all_both) later.near);
       };
     }
@@ -225,7 +225,7 @@ module _ (functions : Functions) (first_last : ℕ) (first : WorldState) where
             count_again = subst (λ fs. length (again left fs).told ≡ length fs) (sym none) refl;
             feeds = record {
               no_less = omega (arith, stands.fed.feeds.no_less, told, closed_last round, each_least functions more (first_round last now));
-              answers = ap (answers_of functions (told_position left) left) none ∙ sym (none_told functions (told_position left) (frames ++ more) (all_of (frames ++ more)).told up);
+              answers = ap (answers_to_frames functions (told_position left) left) none ∙ sym (none_told functions (told_position left) (frames ++ more) (all_of (frames ++ more)).told up);
               near = subst (λ fs. Near (again left fs) (all_of (frames ++ more))) (sym none)
                   (subst (λ m. Near (first_round m left) (all_of (frames ++ more))) (sym told) (near_back (all_of (frames ++ more)) _ closes.near));
             };

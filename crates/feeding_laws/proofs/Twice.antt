@@ -8,7 +8,7 @@ use Rattle.message_frames.specs.Frames.{Sent}
 use Rattle.message_frames.specs.declared.frame.Kind.{Kind}
 use Rattle.message_frames.specs.declared.frame.Kind.TheVariants.{Do, By, Ask}
 use Rattle.message_laws.specs.NearRounds.{Near}
-use Rattle.message_session.specs.FrameAnswers.{answers_of, each_frame}
+use Rattle.message_session.specs.FrameAnswers.{answers_to_frames, each_frame}
 use Rattle.plist_state.specs.State.{WorldState}
 use Rattle.messages.specs.MessageAnswers.{Round, first_round}
 use Rattle.user_macros.specs.Functions.{Functions}
@@ -40,6 +40,6 @@ fed_on functions last first middle now frames before after =
     let twice = over_twice p q after.no_less in
     record {
       no_less = omega (arith, before.no_less, after.no_less);
-      answers = ap (answers_of functions q now) (sym (twice frames)) ∙ after.answers ∙ ap (over q) before.answers ∙ twice (answers_of functions last first frames);
+      answers = ap (answers_to_frames functions q now) (sym (twice frames)) ∙ after.answers ∙ ap (over q) before.answers ∙ twice (answers_to_frames functions last first frames);
       near = near_on _ _ _ (subst (λ fs. Near (each_frame functions (first_round q now) fs) (each_frame functions (first_round p middle) (over p frames))) (twice frames) after.near) before.near;
     }

@@ -7,7 +7,7 @@ use Rattle.message_frames.specs.declared.frame.Kind.{Kind}
 use Rattle.message_frames.specs.declared.frame.Kind.TheVariants.{Do, By, Ask}
 use Rattle.message_laws.specs.NearRounds.{Near}
 use Rattle.message_session.specs.Account.{MessageAccount, AnswersAreStored, IsPositionToldIn, with_frames}
-use Rattle.message_session.specs.FrameAnswers.{answers_of, each_frame}
+use Rattle.message_session.specs.FrameAnswers.{answers_to_frames, each_frame}
 use Rattle.plist_state.specs.Sound.{IsSoundWorldState}
 use Rattle.plist_state.specs.State.{WorldState}
 use Rattle.prevalence_store.specs.calls.Store.{StoreView}
@@ -99,7 +99,7 @@ told_position world = unwrap_or (position world) 0
 -- less than it was.
 pub record FeedsAgain (functions : Functions) (last : ℕ) (first : WorldState) (frames : List Sent) (now : WorldState) : Type 0 where
   pub no_less : told_position first ≤ told_position now
-  pub answers : answers_of functions (told_position now) now (over (told_position now) frames) ≡ over (told_position now) (answers_of functions last first frames)
+  pub answers : answers_to_frames functions (told_position now) now (over (told_position now) frames) ≡ over (told_position now) (answers_to_frames functions last first frames)
   pub near : Near (each_frame functions (first_round (told_position now) now) (over (told_position now) frames)) (each_frame functions (first_round last first) frames)
 
 -- ---- by a session
@@ -108,7 +108,7 @@ module _ (functions : Functions) {D R : Type 0} (store : StoreView D R) (last : 
   -- A session told this position, and then wrote the answers that the messages over it have among all these frames. The store has the world
   -- after all, but for its position.
   pub record AreAnsweredAgain : Type 0 where
-    pub output : Writes held written (position_bytes p ++ flat_map answer_bytes (over p (answers_of functions last first frames)))
+    pub output : Writes held written (position_bytes p ++ flat_map answer_bytes (over p (answers_to_frames functions last first frames)))
     pub now_last : ℕ
     pub left : WorldState
     pub known : store.world ≡ Some left

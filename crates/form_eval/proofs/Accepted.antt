@@ -22,7 +22,7 @@ use Rattle.lisp_operators.proofs.Keeping as keeping
 use Rattle.lisp_operators.proofs.Covering.{Covers, covering}
 use Rattle.lisp_operators.proofs.Numbered.{Numbered, IsPackagesNumbered, numbered_also, numbered_intern}
 use Rattle.lisp_operators.proofs.NumberedOperators.{one_numbered}
-use Rattle.evaluator.specs.Operators.{AreOperatorsAmong, OperatorTable, operator_of, standard_operator_of}
+use Rattle.evaluator.specs.Operators.{IsOperatorTableWithin, OperatorTable, operator_of, standard_operator_of}
 use Rattle.evaluator.specs.Value.{value, value_by, value_over}
 use Rattle.evaluator.proofs.SilentForms.{value_silent}
 use Rattle.evaluator.proofs.KeepingForms.{value_keeps}
@@ -30,7 +30,7 @@ use Rattle.evaluator.proofs.Widening.{standard_among, wider_operators}
 use Rattle.evaluator.proofs.WithoutBase.{value_without_base}
 use Rattle.evaluator.proofs.NumberedForms.{value_numbered}
 use Rattle.package_table.specs.Symbols.{symbols}
-use Rattle.form_eval.specs.Acceptance.{packages_of_interning, after_symbol_interned, with_symbols_interned, accepted_over, accept_over, accepted_by, accept_by, accept, asked_with, question_value}
+use Rattle.form_eval.specs.Acceptance.{packages_of_interning, after_symbol_interned, with_symbols_interned, accepted_over, accept_over, accepted_by, accept_by, accept, question_after_interning, question_value}
 
 -- ---- one that does not write
 symbol_still : (t : Table) (x : Symbol) (u : Table) → after_symbol_interned t x ≡ Ok u → intern_changes t x.0 x.1 ≡ false → u ≡ t
@@ -107,7 +107,7 @@ module _ (based : Bool) (fewer more : OperatorTable) (wider : (s : WorldState) (
   pub accepted_with_values : (s : WorldState) (x : Object) (d : Done Object) → accept_over based fewer s x ≡ Ok d → accept_over based more s x ≡ Ok d
   accepted_with_values s x d is = with_symbols_too s (with_symbols_interned s.packages (symbols x)) x d is
 
-pub accepted_with_more : (based : Bool) (fewer more : OperatorTable) → AreOperatorsAmong fewer more → (s : WorldState) (x : Object) (d : Done Object)
+pub accepted_with_more : (based : Bool) (fewer more : OperatorTable) → IsOperatorTableWithin fewer more → (s : WorldState) (x : Object) (d : Done Object)
     → accept_over based fewer s x ≡ Ok d → accept_over based more s x ≡ Ok d
 accepted_with_more based fewer more among = accepted_with_values based fewer more (wider_operators based fewer more among)
 
@@ -136,7 +136,7 @@ pub accepted_numbered : (names : List Name) (s : WorldState) (x : Object) (code 
 accepted_numbered names s x code is = (subst Numbered is (accept_numbered names s x)).number
 
 -- ---- questions
-answered_after_symbols : (names : List Name) (s : WorldState) (r : Result (Table × Bool) PackageError) (x : Object) → (new : Bool) × (accepted_by true names s r x ≡ also new (asked_with names s r x))
+answered_after_symbols : (names : List Name) (s : WorldState) (r : Result (Table × Bool) PackageError) (x : Object) → (new : Bool) × (accepted_by true names s r x ≡ also new (question_after_interning names s r x))
 answered_after_symbols names s (Ok p) x = (p.1, refl)
 answered_after_symbols names s (Err e) x = (false, refl)
 

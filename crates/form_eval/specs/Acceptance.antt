@@ -63,14 +63,14 @@ Transacts names x old new result = Answers done result new (accept names old x)
 
 -- The value of a question, the state after it and whether its evaluation wrote; or the number of the refusal. Its symbols are
 -- there as it is evaluated. That one of them is new does not count.
-abbrev pub asked_with : List Name → WorldState → Result (Table × Bool) PackageError → Object → Evaluation Object
-asked_with names s (Ok p) x = value names (with_packages s p.0) x
-asked_with names s (Err e) x = Err (package_error_number e)
+abbrev pub question_after_interning : List Name → WorldState → Result (Table × Bool) PackageError → Object → Evaluation Object
+question_after_interning names s (Ok p) x = value names (with_packages s p.0) x
+question_after_interning names s (Err e) x = Err (package_error_number e)
 
 -- What a form as a question gives: its value, the state after it and whether its evaluation wrote; or the number of its
 -- refusal.
 abbrev pub question_value : List Name → WorldState → Object → Evaluation Object
-question_value names s x = asked_with names s (with_symbols_interned s.packages (symbols x)) x
+question_value names s x = question_after_interning names s (with_symbols_interned s.packages (symbols x)) x
 
 -- a form as a question is answered what the definition says, from the first of two states to the second
 abbrev pub AnswersQuestion : List Name → Object → WorldState → WorldState → Result Evaluated EvaluationError → Type 0

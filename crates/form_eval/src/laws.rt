@@ -7,7 +7,7 @@ ghost use Rattle.plist_state.specs.State.{WorldState};
 ghost use Rattle.plist_state.specs.Sound.{IsSoundWorldState};
 ghost use Rattle.lisp_operators.specs.Evaluation.{Done, also, gives};
 ghost use Rattle.lisp_operators.specs.Properties.{t};
-ghost use Rattle.evaluator.specs.Operators.{OperatorTable, AreOperatorsAmong, standard_operator_of};
+ghost use Rattle.evaluator.specs.Operators.{OperatorTable, IsOperatorTableWithin, standard_operator_of};
 ghost use Rattle.evaluator.specs.EarlierOperators.{operators_before_deciding, operators_before_places};
 ghost use Rattle.evaluator.specs.Value.{value, are_clauses};
 ghost use Rattle.evaluator.specs.FormObjects.{if_form, progn_form, and_form, or_form, cond_form, when_form, unless_form};
@@ -61,7 +61,7 @@ pub fn without_a_base()
 /// and without the variable `*READ-BASE*`. For proofs: it does nothing.
 pub fn more_operators_change_no_form()
     ensures tables { (based : Bool) (fewer more : OperatorTable) (s : WorldState) (x : Object)
-        → (d : Done Object) → AreOperatorsAmong fewer more
+        → (d : Done Object) → IsOperatorTableWithin fewer more
         → accept_over based fewer s x ≡ Ok d → accept_over based more s x ≡ Ok d }
     ensures standard { (based : Bool) (names : List Name) (s : WorldState) (x : Object)
         → (d : Done Object) → accept_over based (standard_operator_of names) s x ≡ Ok d

@@ -65,10 +65,10 @@ IsReadySettled limits stack at (IsGiven found) = (lookahead found ≡ 0) × (len
 IsReadySettled limits stack at (IsRefused number offset) = offset ≤ at
 
 -- what is open after it, the object of the form, or what is refused, began at this offset or later
-abbrev pub BeginsFrom : ℕ → Change → Type 0
-BeginsFrom from (Goes start at state) = from ≤ start
-BeginsFrom from (Form x start «end» next) = from ≤ start
-BeginsFrom from (Refused start number offset) = from ≤ start
+abbrev pub StepBeginsFrom : ℕ → Change → Type 0
+StepBeginsFrom from (Goes start at state) = from ≤ start
+StepBeginsFrom from (Form x start «end» next) = from ≤ start
+StepBeginsFrom from (Refused start number offset) = from ≤ start
 
 -- where the attempt that is open has no byte, nothing is open
 abbrev pub OpensNothingAtStart : List Frame → Change → Type 0

@@ -70,7 +70,7 @@ impl FormReader {
     ghost use Rattle.lisp_reading.specs.Reading.{form, is_whitespace, reads};
     ghost use Rattle.form_reader.specs.declared.reader.Advance.TheVariants.{More as AdvanceMore, Refused as AdvanceRefused};
     ghost use Rattle.form_reader.specs.declared.reader.ReadOutcome.TheVariants.{Empty as ReadEmpty, Refused as ReadRefused};
-    ghost use Rattle.form_reader.specs.Step.{BeginsFrom, IsReadyChange};
+    ghost use Rattle.form_reader.specs.Step.{StepBeginsFrom, IsReadyChange};
     ghost use Rattle.form_reader.specs.Reader.{limits_of, fed, begun, HasRefused, RanOutOfMemory, IsNewReader, IsBetweenForms, LeavesBetween, IsAfterBytes, Steps, CountsFedBytes, BeginsLater, HasBegunAfter, StepsBegun, RefusesFrom, IsSoundStep, Becomes, IsOutcome};
 
     /// A reader that was fed nothing, between forms. It keeps `alloc` for what it gathers.
@@ -196,7 +196,7 @@ impl FormReader {
     #[inline(always)]
     fn take(&mut self, change: Change) -> Advance
         requires ready { IsReadyChange (limits_of self.old) self.old.stack (fed self.old + 1) change }
-        requires begins { BeginsFrom self.old.start change }
+        requires begins { StepBeginsFrom self.old.start change }
         ensures limits { limits_of self.new ≡ limits_of self.old }
         ensures takes { Becomes change self.old self.new result }
         ensures sound { IsSoundStep result }

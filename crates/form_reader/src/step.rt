@@ -7,7 +7,7 @@ ghost use Rattle.form_reader.specs.declared.stack.Frame.{Frame};
 ghost use Rattle.lisp_reading.specs.declared.limits.Limits.{Limits as Bounds};
 ghost use Rattle.lisp_reading.specs.Setting.{Setting};
 ghost use Rattle.form_reader.specs.Context.{setting};
-ghost use Rattle.form_reader.specs.Step.{Passes, IsReadyPass, verdict_of, Settles, ChangesTo, IsStanding, IsReadySettled, IsReadyChange, BeginsFrom, OpensNothingAtStart, StartsAt, StartsWith, StartsAfter, Starts, is_space};
+ghost use Rattle.form_reader.specs.Step.{Passes, IsReadyPass, verdict_of, Settles, ChangesTo, IsStanding, IsReadySettled, IsReadyChange, StepBeginsFrom, OpensNothingAtStart, StartsAt, StartsWith, StartsAfter, Starts, is_space};
 ghost use Rattle.form_reader.specs.declared.state.State.TheVariants.{Object as AtObject};
 ghost use Rattle.form_reader.specs.declared.step.Change.TheVariants.{Goes};
 ghost use Rattle.form_reader.specs.State.{Brings, state_gives, lookahead, IsReady, Moves, IsReadyMove};
@@ -102,7 +102,7 @@ fn done_after(found: Found, start: usize, at: usize) -> Change
         → ChangesTo setting [] cs result (verdict_of setting start (Ok (found, at, cs))) }
     ensures ready { (limits : Bounds) (stack : List Frame) → length stack ≤ limits.nesting
         → IsReadyChange limits stack (start + at) result }
-    ensures begins { BeginsFrom start result }
+    ensures begins { StepBeginsFrom start result }
     ensures anew { OpensNothingAtStart [] result }
     ensures starts { StartsAt start result }
 {
@@ -136,7 +136,7 @@ fn change_of<R: MacroFunctions>(
     ensures ready { IfOk result (IsReadyChange with.now.limits stack.new (start + at)) }
 
     // Where the attempt began that is then open.
-    ensures begins { IfOk result (BeginsFrom start) }
+    ensures begins { IfOk result (StepBeginsFrom start) }
     ensures anew { IfOk result (OpensNothingAtStart stack.new) }
     ensures starts { IfOk result (StartsAt start) }
 {
@@ -174,7 +174,7 @@ fn first_change<R: MacroFunctions>(
     ensures ready { IfOk result (IsReadyChange with.now.limits stack.new (start + 1)) }
 
     // Where the attempt began that is then open, also after whitespace.
-    ensures begins { IfOk result (BeginsFrom start) }
+    ensures begins { IfOk result (StepBeginsFrom start) }
     ensures anew { IfOk result (OpensNothingAtStart stack.new) }
     ensures starts { IfOk result (StartsWith (setting R.functions with.now) start c) }
     ensures space { is_space (setting R.functions with.now) c ≡ true
@@ -210,7 +210,7 @@ fn done_before<R: MacroFunctions>(
     ensures ready { IfOk result (IsReadyChange with.now.limits stack.new (start + at + 1)) }
 
     // Where the attempt began that is then open.
-    ensures begins { IfOk result (BeginsFrom start) }
+    ensures begins { IfOk result (StepBeginsFrom start) }
     ensures anew { IfOk result (OpensNothingAtStart stack.new) }
     ensures starts { IfOk result (StartsAfter (setting R.functions with.now) found start at c) }
 {
@@ -260,7 +260,7 @@ pub(crate) fn take_byte<R: MacroFunctions>(
     ensures ready { IfOk result (IsReadyChange with.now.limits stack.new (start + at + 1)) }
 
     // Where the attempt began that is then open, also after whitespace.
-    ensures begins { IfOk result (BeginsFrom start) }
+    ensures begins { IfOk result (StepBeginsFrom start) }
     ensures anew { IfOk result (OpensNothingAtStart stack.new) }
     ensures starts { IfOk result (Starts (setting R.functions with.now) stack.old state start at c) }
     ensures space { is_space (setting R.functions with.now) c ≡ true

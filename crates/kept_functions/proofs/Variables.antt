@@ -16,7 +16,7 @@ use Rattle.lisp_operators.specs.EvaluationAnswers.{objects}
 use Rattle.lisp_operators.specs.Members.{each_in, symbol_of_member, symbols_in}
 use Rattle.kept_functions.proofs.Members.{each_found}
 use Rattle.value_functions.specs.Sequences.{items_of}
-use Rattle.kept_functions.specs.Environments.{a_variable, is_global, are_distinct, distinct, variables_among, variables_of}
+use Rattle.kept_functions.specs.Environments.{a_variable, is_global, are_distinct, distinct_variables, variables_among, variables_of}
 
 pub is_none : {A : Type 0} (o : Option A) → is_some o ≡ false → None ≡ o
 is_none None is = refl
@@ -70,14 +70,14 @@ by_items f x xs is = ap (option_and_then f) (sym is)
 module _ (x : Object) (xs : List Datum) (is : Some (objects xs) ≡ items_of x) where
   pub variables_found : AreVariables xs → are_distinct (symbols_in xs) ≡ true → Some (symbols_in xs) ≡ variables_of x
   variables_found all apart =
-      sym (by_items variables_among x (objects xs) is ∙ ap distinct (each_variable xs all) ∙ ap (λ b. cond b (Some (symbols_in xs)) None) apart)
+      sym (by_items variables_among x (objects xs) is ∙ ap distinct_variables (each_variable xs all) ∙ ap (λ b. cond b (Some (symbols_in xs)) None) apart)
 
   pub not_distinct : AreVariables xs → are_distinct (symbols_in xs) ≡ false → None ≡ variables_of x
   not_distinct all twice =
-      sym (by_items variables_among x (objects xs) is ∙ ap distinct (each_variable xs all) ∙ ap (λ b. cond b (Some (symbols_in xs)) None) twice)
+      sym (by_items variables_among x (objects xs) is ∙ ap distinct_variables (each_variable xs all) ∙ ap (λ b. cond b (Some (symbols_in xs)) None) twice)
 
   pub not_each_variable : each_in a_variable (objects xs) ≡ None → None ≡ variables_of x
-  not_each_variable none = sym (by_items variables_among x (objects xs) is ∙ ap distinct none)
+  not_each_variable none = sym (by_items variables_among x (objects xs) is ∙ ap distinct_variables none)
 
 pub no_variables : (x : Object) → None ≡ items_of x → None ≡ variables_of x
 no_variables x none = sym (ap (option_and_then variables_among) (sym none))

@@ -53,15 +53,15 @@ own_indicator i (symbol home name) = if bytes_eq home i.0 && bytes_eq name i.1 t
 own_indicator i _ = None
 
 -- what is done with the indicator where INTERN gives it; else the names collide
-abbrev pub the_indicator : {A : Type 0} → Option Symbol → (Symbol → Evaluation A) → Evaluation A
-the_indicator (Some i) on = on i
-the_indicator None on = Err NAME_CONFLICT
+abbrev pub with_definition_indicator : {A : Type 0} → Option Symbol → (Symbol → Evaluation A) → Evaluation A
+with_definition_indicator (Some i) on = on i
+with_definition_indicator None on = Err NAME_CONFLICT
 
 -- The indicator is interned in PAZTURROK, SETF puts the definition beside it, and the value is the name.
 abbrev pub kept_beside : Symbol → Object → Object → WorldState → Evaluation Object
 kept_beside i name definition s =
     and_then (intern (text i.1 ∷ text i.0 ∷ []) s) (λ found later.
-    the_indicator (own_indicator i found) (λ own.
+    with_definition_indicator (own_indicator i found) (λ own.
     and_then (set (name ∷ symbol own.0 own.1 ∷ definition ∷ []) later) (λ _ end'. gives name end')))
 
 -- the name of a function that may be defined, if the object is one

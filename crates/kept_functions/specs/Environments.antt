@@ -43,13 +43,13 @@ are_distinct [] = true
 are_distinct (x ∷ xs) = not (list_any (is_same_variable x) xs) && are_distinct xs
 
 -- a list of variables, each once
-abbrev pub distinct : Option (List Symbol) → Option (List Symbol)
-distinct (Some xs) = if are_distinct xs then Some xs else None
-distinct None = None
+abbrev pub distinct_variables : Option (List Symbol) → Option (List Symbol)
+distinct_variables (Some xs) = if are_distinct xs then Some xs else None
+distinct_variables None = None
 
 -- the variables that the items of a list are
 abbrev pub variables_among : List Object → Option (List Symbol)
-variables_among xs = distinct (each_in a_variable xs)
+variables_among xs = distinct_variables (each_in a_variable xs)
 
 -- the variables that a list names, each once
 abbrev pub variables_of : Object → Option (List Symbol)

@@ -5,7 +5,7 @@ ghost use Rattle.export_laws.specs.Objects.{after_each, property_objects};
 ghost use Rattle.export_laws.specs.ExportedTexts.{Makes, ReadsAsExported, with_data_of};
 ghost use Rattle.package_table.specs.Table.{Name};
 ghost use Rattle.plist_state.specs.State.{WorldState, first_readtables, initial};
-ghost use Rattle.snapshot_text.specs.BuiltWorlds.{with_packages_of, with_properties_of};
+ghost use Rattle.snapshot_text.specs.BuiltWorlds.{built_with_packages, built_with_properties};
 ghost use Rattle.snapshot_text.specs.NamedFunctions.{are_covered};
 ghost use Rattle.user_macros.specs.Functions.{Functions};
 ghost use Rattle.whole_export.specs.Standard.{ReadsStandard};
@@ -41,8 +41,8 @@ fn data_of(alloc: Global, world: &World) -> Result<Option<Vec<u8>>, AllocError>
         → now.readtables ≡ first_readtables → ReadsStandard now
         → Makes functions now (10 ∷ readtable_lines world.now.0 ++ rest) (record now { readtables = world.now.0.readtables }) (10 ∷ rest) }
     ensures objects { (names : List Name)
-        → after_each names (with_packages_of world.now.0) (property_objects world.now.0)
-        ≡ Some (with_properties_of world.now.0) }
+        → after_each names (built_with_packages world.now.0) (property_objects world.now.0)
+        ≡ Some (built_with_properties world.now.0) }
 {
     world.soundness();
     data_makes_a_world();

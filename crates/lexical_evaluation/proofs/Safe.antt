@@ -43,7 +43,7 @@ use Rattle.evaluator.specs.declared.place.PlaceForm.{PlaceForm}
 use Rattle.evaluator.specs.declared.place.PlaceForm.TheVariants.{Property, PropertyOr, Case, ReadBase}
 use Rattle.evaluator.proofs.FunctionLaws.{computed_safe}
 use Rattle.kept_functions.specs.Environments.{variables_of}
-use Rattle.kept_functions.specs.Definitions.{Definition, definition_among, definition_of, definition_indicator, is_definable, function_in, own_indicator, the_indicator, kept_beside, a_definable, defun_value}
+use Rattle.kept_functions.specs.Definitions.{Definition, definition_among, definition_of, definition_indicator, is_definable, function_in, own_indicator, with_definition_indicator, kept_beside, a_definable, defun_value}
 use Rattle.kept_functions.specs.ReaderFunctions.{own_reader_name, reader_definition_of, reader_indicator, reader_defined}
 use Rattle.lexical_evaluation.specs.declared.machine.Machine.{Machine}
 use Rattle.lexical_evaluation.specs.Ways.{performed}
@@ -106,7 +106,7 @@ indicator_is i (uninterned n) own is = absurd (none_some own is)
 indicator_is i (pair a b) own is = absurd (none_some own is)
 indicator_is i (vector xs) own is = absurd (none_some own is)
 
-goods_indicator : (s : WorldState) (o : Option Symbol) (on : Symbol → Evaluation Object) → ((own : Symbol) → o ≡ Some own → Goods IsValue s (on own)) → Goods IsValue s (the_indicator o on)
+goods_indicator : (s : WorldState) (o : Option Symbol) (on : Symbol → Evaluation Object) → ((own : Symbol) → o ≡ Some own → Goods IsValue s (on own)) → Goods IsValue s (with_definition_indicator o on)
 goods_indicator s (Some i) on each = each i refl
 goods_indicator s None on each = record { good = tt }
 

@@ -75,9 +75,9 @@ IsLeftOf u m (Ok next) = IsMachineOf u m × IsNextOf u next
 IsLeftOf u m (Err error) = Unit {0}
 
 -- A step makes no data but arguments of the same packages, where this holds of what it was handed.
-abbrev pub LeavesArguments : Machine → Machine → Result NextStep EvaluationError → (Table → Type 0) → Type 0
-LeavesArguments old new result Given = (u : Table) → IsMachineOf u old → Given u → IsLeftOf u new result
+abbrev pub StepsToArguments : Machine → Machine → Result NextStep EvaluationError → (Table → Type 0) → Type 0
+StepsToArguments old new result Given = (u : Table) → IsMachineOf u old → Given u → IsLeftOf u new result
 
 -- The same, where packages may grow: from the first of these to the second.
-abbrev pub LeavesGrown : Table → Table → Machine → Machine → Result NextStep EvaluationError → Type 0
-LeavesGrown u v old new result = IsMachineOf u old → IsLeftOf v new result
+abbrev pub StepsToGrown : Table → Table → Machine → Machine → Result NextStep EvaluationError → Type 0
+StepsToGrown u v old new result = IsMachineOf u old → IsLeftOf v new result

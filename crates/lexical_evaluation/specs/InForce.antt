@@ -9,7 +9,7 @@ use Rattle.plist_state.specs.State.{WorldState}
 use Rattle.user_macros.specs.Calls.{MacroCall, MacroAnswer, value, no_value, refused}
 use Rattle.user_macros.specs.Functions.{Functions}
 use Rattle.value_functions.specs.Functions.{function_named}
-use Rattle.evaluator.specs.Operators.{OperatorTable, Operator, pazturrok, operator_of_arity, takes_any, quotes, sequence, chooses, calls, deciding_operator_or, function_operator}
+use Rattle.evaluator.specs.Operators.{OperatorTable, Operator, pazturrok, operator_of_arity, takes_any, quotes, sequence, chooses, calls, deciding_operator_or, operator_of_function}
 use Rattle.lisp_operators.specs.Properties.{list}
 use Rattle.kept_functions.specs.Definitions.{Definition, function_in}
 use Rattle.kept_functions.specs.Counting.{Point, Counting, weighing}
@@ -33,7 +33,7 @@ silent_operator_named name =
 abbrev pub silent_operators : OperatorTable
 silent_operators (symbol home name) =
     if bytes_eq home common_lisp then silent_operator_named name
-    else (if bytes_eq home pazturrok then deciding_operator_or (option_map function_operator (function_named name)) name else None)
+    else (if bytes_eq home pazturrok then deciding_operator_or (option_map operator_of_function (function_named name)) name else None)
 silent_operators _ = None
 
 abbrev pub is_silent : LocalOperator → Bool

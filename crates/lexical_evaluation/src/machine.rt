@@ -6,7 +6,7 @@ ghost use Rattle.lisp_operators.specs.EvaluationAnswers.{IsProper, objects, IsAr
 ghost use Rattle.evaluator.specs.Value.{has_truth};
 ghost use Rattle.lexical_evaluation.specs.Values.{sought_value_in, guarded_in};
 ghost use Rattle.lexical_evaluation.specs.Machine.{StepsOn, progn_in, chosen_in, gathered_in, guard_in, asserted_in, sought_after, to_come};
-ghost use Rattle.lexical_evaluation.specs.Arguments.{AreArguments, IsTargetOf, LeavesArguments};
+ghost use Rattle.lexical_evaluation.specs.Arguments.{AreArguments, IsTargetOf, StepsToArguments};
 
 use crate::frame::{Awaiting, Target};
 use kept_functions::Binding;
@@ -61,7 +61,7 @@ impl Machine {
     pub(crate) fn sequence(&mut self, forms: Vec<Datum>) -> Result<NextStep, EvaluationError>
         ensures gives { StepsOn self.old self.new result
             (λ does rules around p. progn_in rules around (to_come forms.items) p) }
-        ensures arguments { LeavesArguments self.old self.new result (λ u. AreArguments u forms.items) }
+        ensures arguments { StepsToArguments self.old self.new result (λ u. AreArguments u forms.items) }
     {
         let mut forms = forms;
         match forms.pop() {
@@ -85,7 +85,7 @@ impl Machine {
         requires { IsProper test.now }
         ensures gives { StepsOn self.old self.new result
             (λ does rules around p. chosen_in rules around (is_true (object_of test.now)) (map object_of (reverse forms.items)) p) }
-        ensures arguments { LeavesArguments self.old self.new result (λ u. AreArguments u forms.items) }
+        ensures arguments { StepsToArguments self.old self.new result (λ u. AreArguments u forms.items) }
     {
         let mut forms = forms;
         let second = forms.pop();
@@ -109,7 +109,7 @@ impl Machine {
     ) -> Result<NextStep, EvaluationError>
         ensures gives { StepsOn self.old self.new result
             (λ does rules around p. gathered_in rules does around target (objects values.items) (to_come forms.items) p) }
-        ensures arguments { LeavesArguments self.old self.new result
+        ensures arguments { StepsToArguments self.old self.new result
             (λ u. IsTargetOf u target × AreArguments u forms.items × AreArguments u values.items) }
     {
         let mut forms = forms;
@@ -132,7 +132,7 @@ impl Machine {
         requires { 0 < length forms.items }
         ensures gives { StepsOn self.old self.new result
             (λ does rules around p. sought_value_in rules around truth p (to_come forms.items)) }
-        ensures arguments { LeavesArguments self.old self.new result (λ u. AreArguments u forms.items) }
+        ensures arguments { StepsToArguments self.old self.new result (λ u. AreArguments u forms.items) }
     {
         let mut forms = forms;
         match forms.pop() {
@@ -157,7 +157,7 @@ impl Machine {
         requires { IsProper value }
         ensures gives { StepsOn self.old self.new result
             (λ does rules around p. sought_after rules around truth (object_of value) (to_come forms.items) p) }
-        ensures arguments { LeavesArguments self.old self.new result
+        ensures arguments { StepsToArguments self.old self.new result
             (λ u. AreArguments u forms.items × IsArgument u value) }
     {
         if has_truth(truth, &value) {
@@ -177,7 +177,7 @@ impl Machine {
     ) -> Result<NextStep, EvaluationError>
         ensures gives { StepsOn self.old self.new result
             (λ does rules around p. guarded_in rules around truth p (to_come forms.items)) }
-        ensures arguments { LeavesArguments self.old self.new result (λ u. AreArguments u forms.items) }
+        ensures arguments { StepsToArguments self.old self.new result (λ u. AreArguments u forms.items) }
     {
         let mut forms = forms;
         match forms.pop() {
@@ -199,7 +199,7 @@ impl Machine {
         requires { IsProper value.now }
         ensures gives { StepsOn self.old self.new result
             (λ does rules around p. guard_in rules around truth (object_of value.now) (to_come forms.items) p) }
-        ensures arguments { LeavesArguments self.old self.new result (λ u. AreArguments u forms.items) }
+        ensures arguments { StepsToArguments self.old self.new result (λ u. AreArguments u forms.items) }
     {
         if has_truth(truth, value) {
             return self.sequence(forms);
@@ -212,7 +212,7 @@ impl Machine {
         requires { IsProper value.now }
         ensures gives { StepsOn self.old self.new result
             (λ does rules around p. asserted_in (object_of value.now) p) }
-        ensures arguments { LeavesArguments self.old self.new result (λ u. Unit {0}) }
+        ensures arguments { StepsToArguments self.old self.new result (λ u. Unit {0}) }
     {
         if kinds::is_true(value) {
             return Ok(NextStep::Give(values::empty_list(self.alloc)?));

@@ -8,7 +8,7 @@ use Rattle.token_scan.specs.declared.mark.Mark.{Mark}
 use Rattle.token_scan.specs.declared.refusal.ScanRefusal.{ScanRefusal}
 use Rattle.token_scan.specs.declared.refusal.ScanRefusal.TheVariants.{EndOfFile, InvalidCharacter, InvalidTrait, TokenTooLong}
 use Rattle.token_scan.specs.Marks.{character_count}
-use Rattle.token_scan.specs.Tokens.{TokenFault, ScannedBytes}
+use Rattle.token_scan.specs.Tokens.{ScanFault, ScannedBytes}
 use Rattle.token_meaning.specs.Results.{scan_refusal_number}
 use Rattle.lisp_reading.specs.declared.limits.Limits.{Limits}
 use Rattle.lisp_reading.specs.Plans.{Plan, gives, refuses, takes, scans, Read, within, stands_below, limited_token, token_at_front, run}
@@ -69,7 +69,7 @@ module _ {A : Type 0} (table : Table) (limits : Limits) (on : List Mark → Plan
   abbrev cut_end : Bool → List Mark → ℕ → List ℕ → Read A
   cut_end b marks next cs = step (elim b [ true ↦ Ok (marks, next, cs) | false ↦ Err (record { number = FORM_TOO_LONG; at = limits.text }) ])
 
-  abbrev cut_fault : Bool → TokenFault → Read A
+  abbrev cut_fault : Bool → ScanFault → Read A
   cut_fault b f = step (elim b [
     | true ↦ Err (record { number = scan_refusal_number f.refusal; at = f.at })
     | false ↦ Err (record { number = FORM_TOO_LONG; at = limits.text })

@@ -3,7 +3,7 @@ use Rattle.std.proofs.Common.{◌≡◌, ℕ, zero, suc, ◌+◌, Bool, true, fa
 use Rattle.std.specs.Prelude.{nat_le}
 use Rattle.readtable_core.specs.Tables.{Table}
 use Rattle.token_scan.specs.declared.mark.Mark.{Mark}
-use Rattle.token_scan.specs.Tokens.{TokenFault, ScannedBytes, typed_text, token_in, escaped_token_in}
+use Rattle.token_scan.specs.Tokens.{ScanFault, ScannedBytes, typed_text, token_in, escaped_token_in}
 use Rattle.token_scan.specs.Spelling.{IsSpelledAt, may_end}
 use Rattle.token_scan.proofs.Standing.{token_stands, escaped_token_stands}
 use Rattle.lisp_object.specs.declared.refusal.TheConstants.{FORM_TOO_LONG}
@@ -82,11 +82,11 @@ cut_framed : {A E : Type 0} (b : Bool) (front : ℕ → Result (A × ℕ × List
 cut_framed true front at count next x ds f here fronts = (count, here, fronts)
 cut_framed false front at count next x ds f here fronts = tt
 
-limited_framed : (limit : ℕ) (front : ℕ → Result (List Mark × ℕ × List ℕ) TokenFault) (at : ℕ) (r : Result (List Mark × ℕ × List ℕ) TokenFault)
+limited_framed : (limit : ℕ) (front : ℕ → Result (List Mark × ℕ × List ℕ) ScanFault) (at : ℕ) (r : Result (List Mark × ℕ × List ℕ) ScanFault)
     → Framed front at r → Framed (λ k. limited_token limit (front k) (λ p. p.1)) at (limited_token limit r (λ p. p.1))
 limited_framed limit front at (Ok (marks, next, ds)) h =
     cut_framed (nat_le next limit) (λ k. limited_token limit (front k) (λ p. p.1)) at h.0 next marks ds _ h.1
-    (λ m. ap (λ (r : Result (List Mark × ℕ × List ℕ) TokenFault). limited_token limit r (λ p. p.1)) (h.2 m))
+    (λ m. ap (λ (r : Result (List Mark × ℕ × List ℕ) ScanFault). limited_token limit r (λ p. p.1)) (h.2 m))
 limited_framed limit front at (Err e) h =
     elim (stands_below limit e.refusal e.at) as (λ b. Framed (λ k. limited_token limit (front k) (λ p. p.1)) at (elim b [
       | true ↦ Err (record { number = scan_refusal_number e.refusal; at = e.at })

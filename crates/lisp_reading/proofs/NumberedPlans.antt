@@ -8,7 +8,7 @@ use Rattle.readtable_core.specs.Tables.{Table, entry_at}
 use Rattle.token_scan.specs.declared.mark.Mark.{Mark}
 use Rattle.token_scan.specs.declared.refusal.ScanRefusal.{ScanRefusal}
 use Rattle.token_scan.specs.declared.refusal.ScanRefusal.TheVariants.{EndOfFile, InvalidCharacter, InvalidTrait, TokenTooLong}
-use Rattle.token_scan.specs.Tokens.{TokenFault}
+use Rattle.token_scan.specs.Tokens.{ScanFault}
 use Rattle.token_meaning.specs.Meanings.{number}
 use Rattle.token_meaning.specs.Results.{scan_refusal_number}
 use Rattle.lisp_reading.specs.declared.limits.Limits.{Limits}
@@ -55,7 +55,7 @@ fault_numbered : (A : Type 0) (b : Bool) (limit at : ℕ) (refusal : ScanRefusal
 fault_numbered A true limit at refusal = scan_numbered refusal
 fault_numbered A false limit at refusal = (omega arith, omega arith)
 
-limited_numbered : {A : Type 0} (limit : ℕ) (r : Result A TokenFault) (end_of : A → ℕ) → NumberedResult (limited_token limit r end_of)
+limited_numbered : {A : Type 0} (limit : ℕ) (r : Result A ScanFault) (end_of : A → ℕ) → NumberedResult (limited_token limit r end_of)
 limited_numbered limit (Ok p) end_of = cut_numbered (nat_le (end_of p) limit) p limit
 limited_numbered limit (Err e) end_of = fault_numbered _ (stands_below limit e.refusal e.at) limit e.at e.refusal
 

@@ -5,7 +5,7 @@ use Rattle.lisp_object.specs.declared.refusal.TheConstants.{FORM_TOO_LONG}
 use Rattle.readtable_core.specs.Tables.{Table}
 use Rattle.token_scan.specs.declared.mark.Mark.{Mark}
 use Rattle.token_meaning.specs.Results.{scan_refusal_number}
-use Rattle.token_scan.specs.Tokens.{TokenFault, ScannedBytes, token_in, escaped_token_in}
+use Rattle.token_scan.specs.Tokens.{ScanFault, ScannedBytes, token_in, escaped_token_in}
 use Rattle.token_scan.specs.Spelling.{IsSpelledAt}
 use Rattle.token_scan.proofs.Standing.{token_stands, escaped_token_stands}
 use Rattle.lisp_reading.specs.Plans.{Plan, gives, refuses, takes, scans, Fault, Read, within, stands_below, limited_token, token_at_front, run}
@@ -53,7 +53,7 @@ cut_parts : {A E : Type 0} (b : Bool) (at next : ℕ) (whole rest : List ℕ) (x
 cut_parts true at next whole rest x f h = h
 cut_parts false at next whole rest x f h = tt
 
-limited_parts : (limit at : ℕ) (whole : List ℕ) (r : Result (List Mark × ℕ × List ℕ) TokenFault) → Parts at whole r → Parts at whole (limited_token limit r (λ p. p.1))
+limited_parts : (limit at : ℕ) (whole : List ℕ) (r : Result (List Mark × ℕ × List ℕ) ScanFault) → Parts at whole r → Parts at whole (limited_token limit r (λ p. p.1))
 limited_parts limit at whole (Ok (marks, next, ds)) h = cut_parts (nat_le next limit) at next whole ds marks _ h
 limited_parts limit at whole (Err e) h =
     elim (stands_below limit e.refusal e.at) as (λ b. Parts {A = List Mark} {E = Fault} at whole (elim b [

@@ -6,7 +6,7 @@ use Rattle.lisp_object.specs.declared.refusal.TheConstants.{FORM_TOO_LONG}
 use Rattle.readtable_core.specs.Tables.{Table}
 use Rattle.token_scan.specs.declared.mark.Mark.{Mark}
 use Rattle.token_meaning.specs.Results.{scan_refusal_number}
-use Rattle.token_scan.specs.Tokens.{TokenFault}
+use Rattle.token_scan.specs.Tokens.{ScanFault}
 use Rattle.lisp_reading.specs.Plans.{Plan, gives, refuses, takes, scans, then_plan, Read, within, stands_below, limited_token, token_at_front, run}
 use Rattle.lisp_reading.specs.declared.limits.Limits.{Limits}
 use Rattle.lisp_reading.proofs.Framing.{Framed, framed}
@@ -58,7 +58,7 @@ byte_below limit true true at r s e p q = tt
 byte_below limit true false at r s e p q = p (leb-false limit at e)
 byte_below limit false full at r s e p q = q
 
-token_below : {A : Type 0} (table : Table) (limits : Limits) (on : List Mark → Plan A) (r : Result (List Mark × ℕ × List ℕ) TokenFault) (at : ℕ)
+token_below : {A : Type 0} (table : Table) (limits : Limits) (on : List Mark → Plan A) (r : Result (List Mark × ℕ × List ℕ) ScanFault) (at : ℕ)
     → ((marks : List Mark) (next : ℕ) (cs : List ℕ) → next ≤ limits.text → IsBelow limits.text (run table limits (on marks) next cs))
     → IsBelow limits.text (elim (limited_token limits.text r (λ p. p.1)) [ Ok p ↦ run table limits (on p.0) p.1 p.2 | Err e ↦ Err e ])
 token_below {A = A} table limits on (Ok (marks, next, ds)) at all =

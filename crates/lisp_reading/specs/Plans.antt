@@ -7,7 +7,7 @@ use Rattle.lisp_reading.specs.declared.limits.Limits.{Limits}
 use Rattle.token_scan.specs.declared.mark.Mark.{Mark}
 use Rattle.token_scan.specs.declared.refusal.ScanRefusal.{ScanRefusal}
 use Rattle.token_scan.specs.declared.refusal.ScanRefusal.TheVariants.{EndOfFile}
-use Rattle.token_scan.specs.Tokens.{TokenFault, ScannedBytes, token_in, escaped_token_in}
+use Rattle.token_scan.specs.Tokens.{ScanFault, ScannedBytes, token_in, escaped_token_in}
 use Rattle.token_meaning.specs.Results.{scan_refusal_number}
 
 -- What is to be done with a text before something is given: a recursion over the bytes that are still to come.
@@ -75,7 +75,7 @@ stands_below limit EndOfFile at = nat_le at limit
 stands_below limit _ at = nat_lt at limit
 
 -- a token under the limit of the text
-abbrev pub limited_token : {A : Type 0} → ℕ → Result A TokenFault → (A → ℕ) → Result A Fault
+abbrev pub limited_token : {A : Type 0} → ℕ → Result A ScanFault → (A → ℕ) → Result A Fault
 limited_token limit (Ok p) end_of = elim (nat_le (end_of p) limit) [ true ↦ Ok p | false ↦ Err (record { number = FORM_TOO_LONG; at = limit }) ]
 limited_token limit (Err e) end_of =
     elim (stands_below limit e.refusal e.at) [

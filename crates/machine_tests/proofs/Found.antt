@@ -3,7 +3,7 @@ use Rattle.std.proofs.Common.{◌≡◌, ℕ, List, Some, Bool, sym, ap, subst, 
 use Rattle.disk_trait.specs.Disk.{Image, IsHonest, State}
 use Rattle.plist_state.specs.State.{WorldState}
 use Rattle.prevalence_store.specs.Theorem.{Call, Keeps, MeansAsBefore}
-use Rattle.prevalence_store.specs.calls.Open.{IsNoWord, IsOpened, IsUnopened, limit_of}
+use Rattle.prevalence_store.specs.calls.Open.{IsNoWord, IsOpened, IsUnopened, limit_at_open}
 use Rattle.prevalence_store.specs.calls.Store.{StoreView}
 use Rattle.prevalence_store.specs.meaning.Files.{MeansWorld}
 use Rattle.store_laws.specs.Batches.{IsAfterCalls, MeansCalls}
@@ -21,9 +21,9 @@ module _ (functions : Functions) {E : Type 0} (state : E → State) (image : Ima
 
   -- and none is refused for what is there
   pub never_for_files : (whole : Bool) (limit number : ℕ) (back : E) (refused : IsUnopened functions state crashed whole limit number back) (world : WorldState)
-      → MeansWorld functions image world → IsNoWord (state crashed).mixes (limit_of limit) image refused.fault
+      → MeansWorld functions image world → IsNoWord (state crashed).mixes (limit_at_open limit) image refused.fault
   never_for_files whole limit number back refused world means =
-      subst (λ (i : Image). IsNoWord (state crashed).mixes (limit_of limit) i refused.fault) reads (refused.meant world honest (read_so world means))
+      subst (λ (i : Image). IsNoWord (state crashed).mixes (limit_at_open limit) i refused.fault) reads (refused.meant world honest (read_so world means))
 
 -- an opened store after calls of which the image means so many
 pub after_found : (functions : Functions) {D : Type 0} (world now : WorldState) (calls : List (Call D)) (k : ℕ) (image : Image)

@@ -4,7 +4,7 @@ ghost use Rattle.disk_trait.specs.Disk.{Image, IsHonest};
 ghost use Rattle.machine_tests.specs.Machine.{IsLeftSince, calls_of_session};
 ghost use Rattle.plist_state.specs.State.{WorldState};
 ghost use Rattle.prevalence_store.specs.Theorem.{Keeps};
-ghost use Rattle.prevalence_store.specs.calls.Open.{IsNoWord, IsUnopened, limit_of};
+ghost use Rattle.prevalence_store.specs.calls.Open.{IsNoWord, IsUnopened, limit_at_open};
 ghost use Rattle.sessions.specs.declared.ending.Ended.{Ended};
 ghost use Rattle.session_words.specs.declared.wanted.SessionOptions.{SessionOptions};
 ghost use Rattle.store_commands.specs.Session.{IsSession};
@@ -39,7 +39,7 @@ pub fn what_was_answered_is_found<D: Disk, E: Disk, R, S>()
         → (crashed unopened : E) (limit number : ℕ)
         → IsHonest (E.state crashed) → (E.state crashed).reads ≡ image
         → (refused : IsUnopened functions E.state crashed true limit number unopened)
-        → IsNoWord (E.state crashed).mixes (limit_of limit) image refused.fault }
+        → IsNoWord (E.state crashed).mixes (limit_at_open limit) image refused.fault }
     ensures unbegun { (functions : Functions) (wanted other : SessionOptions) (start back : D) (macros : R)
         → (had has held written : Option (List ℕ)) (ended : Ended) (before : WorldState)
         → IsHonest (D.state start) → Keeps functions (D.state start) before

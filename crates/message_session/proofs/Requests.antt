@@ -16,7 +16,7 @@ use Rattle.message_laws.specs.Batches.{at_first, with_batch}
 use Rattle.message_laws.specs.NearRounds.{Near}
 use Rattle.message_laws.proofs.Together.{StandsAt, stands_first}
 use Rattle.message_laws.proofs.Tidy.{sound_tidy}
-use Rattle.message_session.specs.FrameAnswers.{AskAlike, answered_bytes, answers_to, each_frame, frame_of_request}
+use Rattle.message_session.specs.FrameAnswers.{AskAlike, answered_bytes, frame_of_each_answer, each_frame, frame_of_request}
 use Rattle.message_session.specs.MessageSessions.{HasCarriedOut}
 use Rattle.message_session.specs.Steps.{AreFramesUntaken}
 use Rattle.message_session.specs.declared.answer.TheConstants.{MOST_CLIENTS}
@@ -66,9 +66,9 @@ module _ (functions : Functions) {D R : Type 0} (state : D → State) (old new :
     rounds : each_asked functions MOST_CLIENTS (first_round last w) all ≡ each_frame functions (first_round last w) frames
     rounds = same_rounds functions all frames (first_round last w) same
 
-    pub bytes_are : flat_map answer_bytes (answers_to frames (map told_in replies.answers.items)) ≡ answered_bytes functions last w frames
+    pub bytes_are : flat_map answer_bytes (frame_of_each_answer frames (map told_in replies.answers.items)) ≡ answered_bytes functions last w frames
     bytes_are =
-        ap (λ ts. flat_map answer_bytes (answers_to frames ts)) (given.told ∙ sym stands.told ∙ ap (λ (r : Round). r.told) rounds)
+        ap (λ ts. flat_map answer_bytes (frame_of_each_answer frames ts)) (given.told ∙ sym stands.told ∙ ap (λ (r : Round). r.told) rounds)
 
     pub carried_out : HasCarriedOut functions last w frames replies.last new
     carried_out = record {

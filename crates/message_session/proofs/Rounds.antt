@@ -17,7 +17,7 @@ use Rattle.message_frames.specs.declared.frame.Kind.{Kind}
 use Rattle.message_frames.specs.declared.frame.Kind.TheVariants.{Ask, By, Do}
 use Rattle.message_laws.specs.NearRounds.{IsTidy, Near}
 use Rattle.message_laws.proofs.Together.{More, near_itself, near_on, one_near}
-use Rattle.message_session.specs.FrameAnswers.{answered_bytes, answers_to, by_kind, each_frame, kind_by_number, one_frame, frame_of_request}
+use Rattle.message_session.specs.FrameAnswers.{answered_bytes, frame_of_each_answer, by_kind, each_frame, kind_by_number, one_frame, frame_of_request}
 use Rattle.message_session.specs.MessageSessions.{HasCarriedOut}
 use Rattle.message_session.specs.declared.answer.TheConstants.{MOST_CLIENTS}
 use Rattle.plist_state.specs.State.{WorldState}
@@ -25,7 +25,7 @@ use Rattle.prevalence_store.specs.calls.Store.{StoreView}
 use Rattle.messages.specs.MessageAnswers.{Round, first_round, by_number}
 use Rattle.user_macros.specs.Functions.{Functions}
 
-pub answers_append : (xs ys : List Sent) (ts us : List (List ℕ × Bool)) → length ts ≡ length xs → answers_to (xs ++ ys) (ts ++ us) ≡ answers_to xs ts ++ answers_to ys us
+pub answers_append : (xs ys : List Sent) (ts us : List (List ℕ × Bool)) → length ts ≡ length xs → frame_of_each_answer (xs ++ ys) (ts ++ us) ≡ frame_of_each_answer xs ts ++ frame_of_each_answer ys us
 answers_append [] ys [] us same = refl
 answers_append [] ys (t ∷ ts) us same = absurd (omega (arith, same))
 answers_append (x ∷ xs) ys [] us same = absurd (omega (arith, same))
@@ -78,15 +78,15 @@ module _ (functions : Functions) where
 
     -- the bytes of frames, by what is told of each
     by_told : (frames more : List Sent) (ts : List (List ℕ × Bool)) → (each_frame functions (each_frame functions (first_round last w) frames) more).told ≡ (each_frame functions (first_round last w) frames).told ++ ts
-        → answered_bytes functions last w (frames ++ more) ≡ answered_bytes functions last w frames ++ flat_map answer_bytes (answers_to more ts)
+        → answered_bytes functions last w (frames ++ more) ≡ answered_bytes functions last w frames ++ flat_map answer_bytes (frame_of_each_answer more ts)
     by_told frames more ts told =
         let far = each_frame functions (first_round last w) frames in
         let here = each_near frames (first_round last w) (first_round last w) itself in
         let count : length far.told ≡ length frames = ap length here.here ∙ here.count in
-        ap (λ (r : Round). flat_map answer_bytes (answers_to (frames ++ more) r.told)) (both_rounds frames more (first_round last w))
-        ∙ ap (λ us. flat_map answer_bytes (answers_to (frames ++ more) us)) told
+        ap (λ (r : Round). flat_map answer_bytes (frame_of_each_answer (frames ++ more) r.told)) (both_rounds frames more (first_round last w))
+        ∙ ap (λ us. flat_map answer_bytes (frame_of_each_answer (frames ++ more) us)) told
         ∙ ap (flat_map answer_bytes) (answers_append frames more far.told ts count)
-        ∙ flat_map-append answer_bytes (answers_to frames far.told) (answers_to more ts)
+        ∙ flat_map-append answer_bytes (frame_of_each_answer frames far.told) (frame_of_each_answer more ts)
 
     pub first_after : {D R : Type 0} (store : StoreView D R) → store.world ≡ Some w → HasCarriedOut functions last w [] last store
     first_after store known = record { left = w; known = known; near = itself }
@@ -98,7 +98,7 @@ module _ (functions : Functions) where
           let far = each_frame functions (first_round last w) frames in
           let here = each_near more far (first_round mid_last before.left) before.near in
           by_told frames more here.told here.here
-          ∙ ap (λ ts. answered_bytes functions last w frames ++ flat_map answer_bytes (answers_to more ts)) (sym here.there)
+          ∙ ap (λ ts. answered_bytes functions last w frames ++ flat_map answer_bytes (frame_of_each_answer more ts)) (sym here.there)
 
       pub more_near : (new_last : ℕ) (left : WorldState) → Near (each_frame functions (first_round mid_last before.left) more) (first_round new_last left)
           → Near (each_frame functions (first_round last w) (frames ++ more)) (first_round new_last left)

@@ -41,18 +41,18 @@ abbrev pub each_frame : Functions → Round → List Sent → Round
 each_frame functions round frames = fold (λ far frame. one_frame functions far frame) round frames
 
 -- each answer with the kind of its frame
-abbrev pub answers_to : List Sent → List (List ℕ × Bool) → List Sent
-answers_to [] told = []
-answers_to (frame ∷ frames) [] = []
-answers_to (frame ∷ frames) (one ∷ more) = (frame.0, one.0) ∷ answers_to frames more
+abbrev pub frame_of_each_answer : List Sent → List (List ℕ × Bool) → List Sent
+frame_of_each_answer [] told = []
+frame_of_each_answer (frame ∷ frames) [] = []
+frame_of_each_answer (frame ∷ frames) (one ∷ more) = (frame.0, one.0) ∷ frame_of_each_answer frames more
 
 -- the answers to frames in a world, after the message of this number
-abbrev pub answers_of : Functions → ℕ → WorldState → List Sent → List Sent
-answers_of functions last world frames = answers_to frames (each_frame functions (first_round last world) frames).told
+abbrev pub answers_to_frames : Functions → ℕ → WorldState → List Sent → List Sent
+answers_to_frames functions last world frames = frame_of_each_answer frames (each_frame functions (first_round last world) frames).told
 
 -- the answers to these frames, as they are sent
 abbrev pub answered_bytes : Functions → ℕ → WorldState → List Sent → List ℕ
-answered_bytes functions last world frames = flat_map answer_bytes (answers_of functions last world frames)
+answered_bytes functions last world frames = flat_map answer_bytes (answers_to_frames functions last world frames)
 
 -- What a session writes that begins in this world, with this position: the position, and the answer to each frame.
 abbrev pub session_bytes : Functions → ℕ → WorldState → List Sent → List ℕ

@@ -2,7 +2,7 @@
 ghost use Rattle.std.specs.Prelude.{◌≡◌, ℕ, ◌<◌, ◌≤◌, length, map, take, IfErr, IfOk, OnOk, Some};
 ghost use Rattle.std.specs.List.{flat_map};
 ghost use Rattle.message_frames.specs.Frames.{answer_bytes, sent_frame};
-ghost use Rattle.message_session.specs.FrameAnswers.{AskAlike, answers_to, frame_of_request};
+ghost use Rattle.message_session.specs.FrameAnswers.{AskAlike, frame_of_each_answer, frame_of_request};
 ghost use Rattle.message_session.specs.Standing.{AnswersMore, FramesComeNext, RestsAt, RestsOrEnds, RestsOrStops};
 ghost use Rattle.message_session.specs.Steps.{AnswersFront, AnswersFrames, RenewsForRoom, RenewsWhereDue, StopsAfter, TakesFrames, TakesWithRoom, ended_by};
 ghost use Rattle.plist_state.specs.Sound.{IsSoundWorldState};
@@ -381,7 +381,7 @@ fn bytes_of(
     answers: &[RequestAnswer],
 ) -> Result<Vec<u8>, AllocError>
     ensures { IfOk result (λ bytes. bytes.items
-        ≡ flat_map answer_bytes (answers_to (map sent_frame frames.now) (map told_in answers.now))) }
+        ≡ flat_map answer_bytes (frame_of_each_answer (map sent_frame frames.now) (map told_in answers.now))) }
 {
     let mut bytes = Vec::new(alloc);
     let mut frames = frames;

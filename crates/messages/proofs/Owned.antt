@@ -30,7 +30,7 @@ use Rattle.messages.specs.MessageCalls.{IsNotCleared, IsNotClosed, IsNotOld, IsO
 use Rattle.messages.specs.Position.{own_form, own_text, position_property}
 use Rattle.messages.specs.Rounds.{IfRefused, IsPositionNeeded, IsOwnForm, own_datum}
 use Rattle.prevalence_store.specs.steps.Batch.{IsNotAdded}
-use Rattle.prevalence_store.specs.steps.Failure.{failure_number, is_device_failure}
+use Rattle.prevalence_store.specs.steps.Failure.{failure_number, is_unlogged_by_device}
 use Rattle.prevalence_store.specs.steps.Setting.{IsWholeForm}
 use Rattle.messages.proofs.Making.{own_not_refused}
 use Rattle.user_macros.specs.Functions.{Functions}
@@ -149,7 +149,7 @@ module _ (functions : Functions) where
         refused_for cause (IsNotClosed functions far) (RefusesOwn functions first requests) (λ number closed. inr (subst (λ (r : Round). IsNotClosed functions r number) is closed)) refused
 
 -- what is no device fault has another number
-pub no_device : (cause : Unlogged) (number : ℕ) → number ≡ failure_number cause → number ≢ DEVICE → is_device_failure cause ≡ false
+pub no_device : (cause : Unlogged) (number : ℕ) → number ≡ failure_number cause → number ≢ DEVICE → is_unlogged_by_device cause ≡ false
 no_device unlogged.Full number is other = refl
 no_device unlogged.DeviceFault number is other = absurd (other is)
 no_device unlogged.OutOfMemory number is other = refl

@@ -27,7 +27,7 @@ use Rattle.messages.specs.MessageCalls.{AnswersRequests, AreAnsweredAndLogged, A
 use Rattle.messages.specs.Rounds.{MayBeLogged as IsMadeBy, round_in, told_in}
 use Rattle.messages.specs.Turn.{AreRequestsAnswered, MakesReplies, front_requests, round_of}
 use Rattle.prevalence_store.specs.steps.Batch.{FailsBatch, IsEmpty, StoresBatch, entries_in, entries_of}
-use Rattle.prevalence_store.specs.steps.Failure.{failure_number, is_device_failure}
+use Rattle.prevalence_store.specs.steps.Failure.{failure_number, is_unlogged_by_device}
 use Rattle.prevalence_store.specs.steps.Together.{IsTurnLogged, IsTurnNotLogged}
 use Rattle.user_macros.specs.Functions.{Functions}
 
@@ -87,13 +87,13 @@ module _ (functions : Functions) (w : WorldState) (round : Round) where
         (subst (λ (es : List LogRecord). StoresBatch functions state old new w left es) is.records_are stored) in
         record { told = is.told; last = is.last; logs = stores.logs; survives = stores.survives; all_or_none = stores.all_or_none }
 
-    by_device : (cause : Unlogged) (failed : Bool) → is_device_failure cause ≡ failed → AreNotAnswered functions state old new w round cause → (new ≡ old) ⊎ FailOnDevice functions state old new w round
+    by_device : (cause : Unlogged) (failed : Bool) → is_unlogged_by_device cause ≡ failed → AreNotAnswered functions state old new w round cause → (new ≡ old) ⊎ FailOnDevice functions state old new w round
     by_device cause false calm left = inl (left.unchanged calm)
     by_device cause true device left = inr (left.stopped device)
 
     -- where it was not, the store is as it was, or the device failed
     pub still_or_failed : (cause : Unlogged) → AreNotAnswered functions state old new w round cause → (new ≡ old) ⊎ FailOnDevice functions state old new w round
-    still_or_failed cause left = by_device cause (is_device_failure cause) refl left
+    still_or_failed cause left = by_device cause (is_unlogged_by_device cause) refl left
 
   -- ---- what a turn made of it
 

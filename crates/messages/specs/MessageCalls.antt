@@ -24,7 +24,7 @@ use Rattle.prevalence_store.specs.meaning.Acceptance.{accepts, after, read_in}
 use Rattle.messages.specs.MessageAnswers.{Round, round_after_requests, first_round, each_request}
 use Rattle.messages.specs.Position.{is_position_hidden, own_form, own_text, position, position_property}
 use Rattle.messages.specs.Rounds.{told_in}
-use Rattle.prevalence_store.specs.steps.Failure.{failure_number, is_device_failure}
+use Rattle.prevalence_store.specs.steps.Failure.{failure_number, is_unlogged_by_device}
 use Rattle.user_macros.specs.Functions.{Functions}
 
 -- where no message wrote nothing is left of requests
@@ -97,9 +97,9 @@ module _ (functions : Functions) {D R : Type 0} (state : D → State) (old new :
 
   -- They were not logged, and this is why. Unless the device failed all is as it was.
   pub record AreNotAnswered (cause : Unlogged) : Type 0 where
-    pub unchanged : is_device_failure cause ≡ false → new ≡ old
+    pub unchanged : is_unlogged_by_device cause ≡ false → new ≡ old
     pub full : cause ≡ Full → (0 < length records) × (old.limit < old.size + batch_size old.version records)
-    pub stopped : is_device_failure cause ≡ true → FailOnDevice
+    pub stopped : is_unlogged_by_device cause ≡ true → FailOnDevice
 
 module _ (functions : Functions) {D R : Type 0} (state : D → State) (old new : StoreView D R) (world : WorldState) where
   -- What `answer_requests` answers, each answer with its cause: a form of the store's own is refused, or what they need is not logged.

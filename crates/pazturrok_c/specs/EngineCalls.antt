@@ -4,7 +4,7 @@ use Rattle.deferred_disk.specs.Bytes.{orders_bytes}
 use Rattle.deferred_disk.specs.Disk.{ReportsOrdersDone, pending_of}
 use Rattle.lisp_object.specs.declared.refusal.TheConstants.{NO_MEMORY, REOPEN}
 use Rattle.pazturrok_c.specs.Engine.{ExecutesMany, IsBarredByOrders, ExecutesText, IsOpenedOn, StoreTakesSnapshot, IsUnopenedOn, mode_in}
-use Rattle.pazturrok_c.specs.Messages.{AnswersAll, StoreBeginsWithMessages}
+use Rattle.pazturrok_c.specs.Messages.{AnswersAll, EngineBeginsMessages}
 use Rattle.pazturrok_c.specs.declared.done.CallResult.{CallResult}
 use Rattle.pazturrok_c.specs.declared.done.RequestHead.{RequestHead}
 use Rattle.pazturrok_c.specs.declared.engine.Engine.{Engine}
@@ -62,7 +62,7 @@ TakesSnapshot old new done = EngineIsAsked old new 0 done (StoreTakesSnapshot ol
 
 -- what the call does that begins with messages, and what C is given of it
 abbrev pub BeginsWithMessages : Engine → Engine → ℕ → CallResult → Type 0
-BeginsWithMessages old new position done = EngineIsAsked old new 0 done (StoreBeginsWithMessages old.store new.store done.number position)
+BeginsWithMessages old new position done = EngineIsAsked old new 0 done (EngineBeginsMessages old.store new.store done.number position)
 
 -- what a call with several requests does, after the message of the last number, and what C is given of it
 abbrev pub AnswersEach : Engine → Engine → ℕ → List ℕ → List RequestHead → CallResult → Type 0

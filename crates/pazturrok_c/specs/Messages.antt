@@ -24,7 +24,7 @@ IsReplyOrRefusalTold (Err refusal) number answers = number ≡ refusal
 
 module _ {R : Type 0} (old new : StoreView DeferredDisk R) where
   -- the store began with messages, and this is its position
-  pub record StoreBeginsWithMessages (number position : ℕ) : Type 0 where
+  pub record EngineBeginsMessages (number position : ℕ) : Type 0 where
     pub given : Result ℕ ℕ
     pub reopen : old.world ≡ None → (given ≡ Err REOPEN) × (new ≡ old)
     pub begins : (world : WorldState) → old.world ≡ Some world → BeginsMessages six_functions state_by_calls old new world given

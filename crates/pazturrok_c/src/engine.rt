@@ -4,7 +4,7 @@ ghost use Rattle.std.specs.List.{All};
 ghost use Rattle.deferred_disk.specs.Bytes.{orders_bytes};
 ghost use Rattle.deferred_disk.specs.Disk.{pending_of};
 ghost use Rattle.pazturrok_c.specs.Engine.{AreOutcomesTold, ExecutesMany, IsOutcomeTold, IsBarredByOrders, ExecutesText, IsOpenedOn, StoreTakesSnapshot, IsUnopenedOn, mode_in};
-ghost use Rattle.pazturrok_c.specs.Messages.{AnswersAll, AreRepliesTold, StoreBeginsWithMessages, IsReplyOrRefusalTold};
+ghost use Rattle.pazturrok_c.specs.Messages.{AnswersAll, AreRepliesTold, EngineBeginsMessages, IsReplyOrRefusalTold};
 ghost use Rattle.prevalence_store.specs.calls.Execute.{IsProperOutcome};
 
 use crate::answer::{EngineStore, printed};
@@ -163,7 +163,7 @@ impl Engine {
     pub(crate) fn begin_messages(&mut self, position: &mut u64) -> u16
         ensures barred { IsBarredByOrders (pending_of self.old.store.disk) self.old self.new result }
         ensures begins { pending_of self.old.store.disk ≡ []
-            → StoreBeginsWithMessages self.old.store self.new.store result position.new }
+            → EngineBeginsMessages self.old.store self.new.store result position.new }
     {
         if !self.is_done() {
             return REOPEN;

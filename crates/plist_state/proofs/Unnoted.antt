@@ -30,7 +30,7 @@ use Rattle.plist_state.specs.Views.{Rows, room_at, lists_in, NumberedRest}
 use Rattle.plist_state.specs.Undoing.{with_value_at, with_changed_at, with_items, with_inserted, without_first, list_before, rest_before, all_undone, rests_at}
 use Rattle.plist_state.specs.KeptRows.{IsProperChange}
 use Rattle.plist_state.specs.Journal.{marks_of, CanBeUndone, FitsRows, LeadsBack, IsJournal, ContinuesJournal}
-use Rattle.plist_state.specs.OverwrittenValues.{before_change, before_note, before_notes, with_at, IsPlaceOverwritten, LeadsBackAs}
+use Rattle.plist_state.specs.OverwrittenValues.{before_change, before_note, before_notes, with_at, IsPlaceOverwritten, OverwriteLeadsBackAs}
 use Rattle.plist_state.proofs.Indices.{with_value_at-past, with_value_at-twice, length-inserted}
 use Rattle.plist_state.proofs.ListRows.{one_number, get-with_row, row-with_row, with_row_twice, property_back}
 use Rattle.plist_state.proofs.Lists.{kept}
@@ -367,7 +367,7 @@ continues_both ms ks ns t s u room former latter = record {
 
 -- the list without the property is shorter, and with it and another value it is the one before with that value
 pub removed_noted : (ms : List (List Note)) (x k count : ℕ) (p q : NumberedProperty) → q.indicator ≡ p.indicator → IsPlaceOverwritten ms x (record { index = k; length = count })
-    → LeadsBackAs ms x count (Removed k p) (Removed k q)
+    → OverwriteLeadsBackAs ms x count (Removed k p) (Removed k q)
 removed_noted ms x k count p q same gone ns t u long undoes continues =
     let ps : NumberedPlist = plist_of_number u.properties x in
     let v : Object = object_of q.value in
@@ -381,7 +381,7 @@ removed_noted ms x k count p q same gone ns t u long undoes continues =
     continues_both ms ms ns t (with_at t x k v) u (λ rows. fits_at rows t x k v) (gone.same t v long).0 (subst (λ (r : NumberedRest). ContinuesJournal ms r ns u) (sym one) continues)
 
 -- the same where a call made the rows
-pub property_noted_as : (ms ks ns : List (List Note)) → ks ≡ ms → (x count : ℕ) (change other : PropertyChange) → LeadsBackAs ks x count change other
+pub property_noted_as : (ms ks ns : List (List Note)) → ks ≡ ms → (x count : ℕ) (change other : PropertyChange) → OverwriteLeadsBackAs ks x count change other
     → ((t u : NumberedRest) → CanBeUndone (Property x other) → rest_before (Property x other) u ≡ t → ContinuesJournal ks t ns u) → IsProperChange other
     → (t : NumberedRest) (rows later : Rows) (ps : NumberedPlist) → count ≡ length (plist_of_number (lists_in rows) x)
     → lists_in later ≡ with_row (lists_in rows) x ps → list_before change (plist_of_number (lists_in later) x) ≡ plist_of_number (lists_in rows) x

@@ -46,7 +46,7 @@ pub record IsPlaceOverwritten (ms : List (List Note)) (x : ℕ) (p : PropertyPla
       → ContinuesJournal ms r ms (with_at r x p.index v) × ContinuesJournal ms (with_at r x p.index v) ms r
 
 -- Where the list of the symbol x had so many properties before a change, a note of the other change leads back as well.
-abbrev pub LeadsBackAs : List (List Note) → ℕ → ℕ → PropertyChange → PropertyChange → Type 0
-LeadsBackAs ms x count change other =
+abbrev pub OverwriteLeadsBackAs : List (List Note) → ℕ → ℕ → PropertyChange → PropertyChange → Type 0
+OverwriteLeadsBackAs ms x count change other =
     (ns : List (List Note)) (t u : NumberedRest) → length (plist_of_number t.properties x) ≡ count → rest_before (Property x change) u ≡ t
     → ContinuesJournal ms (rest_before (Property x other) u) ns u → ContinuesJournal ms t ns u

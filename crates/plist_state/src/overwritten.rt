@@ -2,7 +2,7 @@
 ghost use Rattle.std.specs.Prelude.{◌≡◌, ◌<◌, ◌≤◌, ◌-◌, ◌^◌, None, true, length};
 ghost use Rattle.plist_state.specs.Journal.{marks_of};
 ghost use Rattle.plist_state.specs.KeptRows.{IsProperChange};
-ghost use Rattle.plist_state.specs.OverwrittenValues.{before_change, before_note, before_notes, IsPlaceOverwritten, LeadsBackAs};
+ghost use Rattle.plist_state.specs.OverwrittenValues.{before_change, before_note, before_notes, IsPlaceOverwritten, OverwriteLeadsBackAs};
 
 use crate::note::{Note, PropertyChange};
 use lisp_object::Datum;
@@ -139,7 +139,7 @@ pub(crate) fn as_noted(
 ) -> PropertyChange
     requires { IsProperChange change }
     ensures proper { IsProperChange result }
-    ensures back { LeadsBackAs (marks_of marks.now) number count change result }
+    ensures back { OverwriteLeadsBackAs (marks_of marks.now) number count change result }
 {
     match change {
         PropertyChange::Removed { index, property } => {

@@ -8,7 +8,7 @@ ghost use Rattle.prevalence_store.specs.meaning.Files.{MeansWorld};
 ghost use Rattle.prevalence_store.specs.meaning.Version1.{accepts1, MeansWorld1};
 ghost use Rattle.prevalence_store.specs.meaning.Version2.{accepts2, MeansWorld2};
 ghost use Rattle.session_words.specs.declared.mode.Mode.{Mode};
-ghost use Rattle.prevalence_store.specs.calls.Open.{IsNoWord, IsUnopened, limit_of};
+ghost use Rattle.prevalence_store.specs.calls.Open.{IsNoWord, IsUnopened, limit_at_open};
 ghost use Rattle.prevalence_store.specs.Theorem.{Call, Headline, IsAfterSome, IsStoppedBetween, Keeps, KeepsSome, MeansSome, Reopens, Run, acknowledged_of, disk_after, forms_of};
 ghost use Rattle.plist_state.specs.State.{WorldState, initial};
 ghost use Rattle.user_macros.specs.Functions.{Functions};
@@ -73,7 +73,7 @@ pub fn headline<D: Disk>()
         (D.state (disk_after start earlier)).moment image
         → (D.state crashed).reads ≡ image → IsHonest (D.state crashed)
         → (refused : IsUnopened functions D.state crashed true limit number back)
-        → IsNoWord (D.state crashed).mixes (limit_of limit) image refused.fault }
+        → IsNoWord (D.state crashed).mixes (limit_at_open limit) image refused.fault }
 {}
 
 /// Openings in a row, after any calls: also where the last call met a device fault, or the process was stopped in it and
@@ -114,7 +114,7 @@ pub fn recoveries<D: Disk>()
         → (refused : IsUnopened functions D.state start whole limit number back)
         → IsHonest (D.state back) × KeepsSome functions (D.state back) world forms least
         × Throughout (D.state start) (D.state back) (MeansSome functions world forms least)
-        × IsNoWord (D.state start).mixes (limit_of limit) (D.state start).reads refused.fault }
+        × IsNoWord (D.state start).mixes (limit_at_open limit) (D.state start).reads refused.fault }
     ensures interrupted { (functions : Functions) (start now stopped : D) (world : WorldState)
         → (forms : List LogRecord) (least : ℕ)
         → Throughout (D.state start) (D.state now) (MeansSome functions world forms least)

@@ -7,9 +7,9 @@ use Rattle.package_table.specs.declared.error.PackageError.{PackageError}
 use Rattle.plist_state.specs.State.{WorldState}
 use Rattle.plist_state.specs.Changes.{with_packages}
 use Rattle.evaluator.specs.Value.{value}
-use Rattle.form_eval.specs.Acceptance.{asked_with}
+use Rattle.form_eval.specs.Acceptance.{question_after_interning}
 
 pub asked_same : (names : List Name) (s : WorldState) (r : Result (Table × Bool) PackageError) (x y : Object)
-    → ((t : WorldState) → value names t x ≡ value names t y) → asked_with names s r x ≡ asked_with names s r y
+    → ((t : WorldState) → value names t x ≡ value names t y) → question_after_interning names s r x ≡ question_after_interning names s r y
 asked_same names s (Ok p) x y same = same (with_packages s p.0)
 asked_same names s (Err e) x y same = refl

@@ -6,7 +6,7 @@ ghost use Rattle.package_table.specs.Symbols.{symbols};
 ghost use Rattle.plist_state.specs.Properties.{Symbol};
 ghost use Rattle.lisp_operators.specs.EvaluationAnswers.{Answers, done};
 ghost use Rattle.evaluator.specs.FormObjects.{if_form, progn_form, when_form};
-ghost use Rattle.form_eval.specs.Acceptance.{asked_with, with_symbols_interned};
+ghost use Rattle.form_eval.specs.Acceptance.{question_after_interning, with_symbols_interned};
 ghost use Rattle.form_eval.specs.Laws.{MayEvaluate};
 ghost use Rattle.form_eval.specs.PlaceForms.{get_form, setf_form, incf_form, decf_form, pop_form, car_form, cdr_form, prog1_form};
 
@@ -29,15 +29,15 @@ fn asked<M: Meaning>(
     requires { MayEvaluate world.old.0.packages form.now }
     ensures when { (x forms : Object) → object_of form.now.datum ≡ when_form x forms → is_proper_list forms ≡ true
         → Answers done result world.new.0
-        (asked_with M.functions.names world.old.0 (with_symbols_interned world.old.0.packages (symbols (object_of form.now.datum)))
+        (question_after_interning M.functions.names world.old.0 (with_symbols_interned world.old.0.packages (symbols (object_of form.now.datum)))
         (if_form x (progn_form forms) nil)) }
     ensures pop { (x i : Symbol) → object_of form.now.datum ≡ pop_form (get_form x i)
         → Answers done result world.new.0
-        (asked_with M.functions.names world.old.0 (with_symbols_interned world.old.0.packages (symbols (object_of form.now.datum)))
+        (question_after_interning M.functions.names world.old.0 (with_symbols_interned world.old.0.packages (symbols (object_of form.now.datum)))
         (prog1_form (car_form (get_form x i)) (setf_form (get_form x i) (cdr_form (get_form x i))))) }
     ensures decf { (x i : Symbol) (n : ℤ) → object_of form.now.datum ≡ decf_form (get_form x i) (integer n)
         → Answers done result world.new.0
-        (asked_with M.functions.names world.old.0 (with_symbols_interned world.old.0.packages (symbols (object_of form.now.datum)))
+        (question_after_interning M.functions.names world.old.0 (with_symbols_interned world.old.0.packages (symbols (object_of form.now.datum)))
         (incf_form (get_form x i) (integer (neg_ℤ n)))) }
 {
     decisions_are_those_of_if();

@@ -22,7 +22,7 @@ use Rattle.prevalence_store.specs.steps.Batch.{StoresBatch, TakesBatch, entries_
 use Rattle.prevalence_store.proofs.Surviving.{unchanged_survives}
 use Rattle.user_macros.specs.Functions.{Functions}
 use Rattle.prevalence_store.proofs.steps.Taking.{none_in, one_record, stored_one}
-use Rattle.prevalence_store.specs.steps.Failure.{is_device_failure}
+use Rattle.prevalence_store.specs.steps.Failure.{is_unlogged_by_device}
 use Rattle.prevalence_store.specs.steps.Together.{IsTurnLogged, IsTurnNotLogged}
 
 -- a form that was added to a batch of none
@@ -30,7 +30,7 @@ alone : (begun new : Batch) (taken : List LogRecord) → IsEmpty begun → entri
 alone begun new taken none is = is ∙ ap (λ (records : List LogRecord). records ++ taken) (none_in begun none)
 
 -- by the cause
-device_same : (cause : Unlogged) → is_device_failure cause ≡ is_device (of_unlogged cause)
+device_same : (cause : Unlogged) → is_unlogged_by_device cause ≡ is_device (of_unlogged cause)
 device_same unlogged.Full = refl
 device_same unlogged.DeviceFault = refl
 device_same unlogged.OutOfMemory = refl

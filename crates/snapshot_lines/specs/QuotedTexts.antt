@@ -37,8 +37,8 @@ text_of_items [] = codes "NIL"
 text_of_items (x ∷ xs) = codes "(" ++ (x ++ items_rest xs)
 
 -- how a list of texts is written
-abbrev pub texts_text : List Name → List ℕ
-texts_text names = text_of_items (map printed_text names)
+abbrev pub quoted_texts : List Name → List ℕ
+quoted_texts names = text_of_items (map printed_text names)
 
 -- how a pair of texts is written
 abbrev pub pair_text : Name × Name → List ℕ

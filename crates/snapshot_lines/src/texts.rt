@@ -5,7 +5,7 @@ ghost use Rattle.std.specs.List.{list_all};
 ghost use Rattle.lisp_object.specs.Ascii.{is_ascii};
 ghost use Rattle.canon_printer.specs.Written.{printed_text};
 ghost use Rattle.package_table.specs.Table.{Name};
-ghost use Rattle.snapshot_lines.specs.QuotedTexts.{unescaped, unescaped_pair, texts_text, pair_text, pairs_text, IsAtItems, IsNextItem, LeavesFewerBytes};
+ghost use Rattle.snapshot_lines.specs.QuotedTexts.{unescaped, unescaped_pair, quoted_texts, pair_text, pairs_text, IsAtItems, IsNextItem, LeavesFewerBytes};
 ghost use Rattle.snapshot_lines.specs.PartAnswers.{IsOfMade, SucceedsWith};
 
 use crate::error::BuildError;
@@ -120,7 +120,7 @@ fn push_item<T: Copy>(items: &mut Vec<T>, item: T) -> Result<(), AllocError>
 
 /// The texts of the list that begins here, and what stands after it. `Damaged` where something else stands there.
 pub fn texts_in(alloc: Global, bytes: &[u8]) -> Result<(Vec<&[u8]>, &[u8]), BuildError>
-    ensures texts { (names : List Name) (after : List ℕ) → bytes.now ≡ texts_text names ++ after
+    ensures texts { (names : List Name) (after : List ℕ) → bytes.now ≡ quoted_texts names ++ after
         → IsOfMade result (λ read. (map (λ b. unescaped b.now) read.0.items ≡ names)
         × (read.1.now ≡ after)) }
     ensures shorter { IfOk result (λ read. length read.1.now < length bytes.now) }

@@ -20,8 +20,8 @@ use Rattle.plist_state.specs.State.{Readtables, WorldState, standard_name, user_
 use Rattle.plist_state.specs.Readers.{readtable_names}
 use Rattle.plist_state.specs.Sound.{IsSoundWorldState, HasKeywordFunctions, IsSymbol}
 use Rattle.plist_state.proofs.Orders.{name_total, name_exact, one_name, name_tied}
-use Rattle.world_text.specs.Snapshot.{readtable_object, table_named}
-use Rattle.snapshot_text.specs.BuiltWorlds.{with_table, with_properties_of, with_readtables_of, CanBeMade}
+use Rattle.world_text.specs.Snapshot.{readtable_object, snapshot_readtable}
+use Rattle.snapshot_text.specs.BuiltWorlds.{with_table, built_with_properties, built_with_readtables, CanBeMade}
 use Rattle.snapshot_text.proofs.KeysSoFar.{at_index}
 use Rattle.snapshot_text.proofs.ReadParts.{item_at, item_count}
 
@@ -36,7 +36,7 @@ abbrev pub names : WorldState → List Name
 names s = filter other_name (readtable_names s)
 
 abbrev pub row_of : WorldState → Name → Object
-row_of s n = readtable_object n (table_named s n)
+row_of s n = readtable_object n (snapshot_readtable s n)
 
 -- ---- lists that are filtered
 passed_at : (p : Name → Bool) (xs : List Name) (k : ℕ) (d : Name) → k < length (filter p xs) → p (get_or (filter p xs) k d) ≡ true
@@ -87,16 +87,16 @@ first_of false b e = absurd cc
 -- ---- readtables put one after the other
 abbrev pub put_named : Readtables → WorldState → List Name → Readtables
 put_named m s [] = m
-put_named m s (n ∷ ns) = put_named (finite.insert m n (table_named s n)) s ns
+put_named m s (n ∷ ns) = put_named (finite.insert m n (snapshot_readtable s n)) s ns
 
-got : (m : Readtables) (s : WorldState) (ns : List Name) (q : Name) → finite.get (put_named m s ns) q ≡ cond (list_any (eq q) ns) (Some (table_named s q)) (finite.get m q)
+got : (m : Readtables) (s : WorldState) (ns : List Name) (q : Name) → finite.get (put_named m s ns) q ≡ cond (list_any (eq q) ns) (Some (snapshot_readtable s q)) (finite.get m q)
 got m s [] q = refl
 got m s (n ∷ ns) q =
-    got (finite.insert m n (table_named s n)) s ns q
-    ∙ ap (cond (list_any (eq q) ns) (Some (table_named s q))) (get-insert name_total m n (table_named s n) q)
-    ∙ elim (eq q n) as (λ b. eq q n ≡ b → cond (list_any (eq q) ns) (Some (table_named s q)) (cond b (Some (table_named s n)) (finite.get m q))
-    ≡ cond (b || list_any (eq q) ns) (Some (table_named s q)) (finite.get m q)) [
-      | true ↦ λ e. ap (λ x. cond (list_any (eq q) ns) (Some (table_named s q)) (Some (table_named s x))) (sym (one_name q n e)) ∙ either (list_any (eq q) ns) (Some (table_named s q))
+    got (finite.insert m n (snapshot_readtable s n)) s ns q
+    ∙ ap (cond (list_any (eq q) ns) (Some (snapshot_readtable s q))) (get-insert name_total m n (snapshot_readtable s n) q)
+    ∙ elim (eq q n) as (λ b. eq q n ≡ b → cond (list_any (eq q) ns) (Some (snapshot_readtable s q)) (cond b (Some (snapshot_readtable s n)) (finite.get m q))
+    ≡ cond (b || list_any (eq q) ns) (Some (snapshot_readtable s q)) (finite.get m q)) [
+      | true ↦ λ e. ap (λ x. cond (list_any (eq q) ns) (Some (snapshot_readtable s q)) (Some (snapshot_readtable s x))) (sym (one_name q n e)) ∙ either (list_any (eq q) ns) (Some (snapshot_readtable s q))
       | false ↦ λ e. refl
     ] refl
   where
@@ -114,8 +114,8 @@ grown m n t = by (finite.contains_key m n) (finite.len m) (finite.len (finite.in
 longer : (m : Readtables) (s : WorldState) (ns : List Name) → finite.len m ≤ finite.len (put_named m s ns)
 longer m s [] = omega arith
 longer m s (n ∷ ns) =
-    let one = grown m n (table_named s n) in
-    let later = longer (finite.insert m n (table_named s n)) s ns in
+    let one = grown m n (snapshot_readtable s n) in
+    let later = longer (finite.insert m n (snapshot_readtable s n)) s ns in
     omega arith
 
 -- where the readtables with one more are at most 64, there is room
@@ -130,7 +130,7 @@ room_for m n t few = by (finite.contains_key m n) (finite.len m) (finite.len (fi
     by false j k e few = small j (omega arith)
 
 -- ---- all rows
-table_is : (s : WorldState) (n : Name) → IsTrue (finite.contains_key s.readtables n) → finite.get s.readtables n ≡ Some (table_named s n)
+table_is : (s : WorldState) (n : Name) → IsTrue (finite.contains_key s.readtables n) → finite.get s.readtables n ≡ Some (snapshot_readtable s n)
 table_is s n there =
     elim (finite.get s.readtables n) as (λ o. is_some o ≡ true → o ≡ Some (unwrap_or o standard)) [
       | None ↦ λ e. absurd cc
@@ -168,14 +168,14 @@ first_standard =
 all_named : (s : WorldState) → IsSoundWorldState s → put_named first_readtables s (names s) ≡ s.readtables
 all_named s sound = same_map name_total name_exact _ _ (λ q.
     got first_readtables s (names s) q
-    ∙ ap (λ b. cond b (Some (table_named s q)) (finite.get first_readtables q)) (any_filtered other_name q (readtable_names s)
+    ∙ ap (λ b. cond b (Some (snapshot_readtable s q)) (finite.get first_readtables q)) (any_filtered other_name q (readtable_names s)
     ∙ ap (λ b. b && other_name q) (sym (contains_key-keys s.readtables q)))
-    ∙ elim (bytes_eq q standard_name) as (λ b. bytes_eq q standard_name ≡ b → cond (finite.contains_key s.readtables q && not b) (Some (table_named s q)) (finite.get first_readtables q) ≡ finite.get s.readtables q) [
+    ∙ elim (bytes_eq q standard_name) as (λ b. bytes_eq q standard_name ≡ b → cond (finite.contains_key s.readtables q && not b) (Some (snapshot_readtable s q)) (finite.get first_readtables q) ≡ finite.get s.readtables q) [
       | true ↦ λ is. let same : q ≡ standard_name = one_name q standard_name (is_eq-slice_cmp q standard_name ∙ is) in
-          neither (finite.contains_key s.readtables q) (Some (table_named s q)) (finite.get first_readtables q)
+          neither (finite.contains_key s.readtables q) (Some (snapshot_readtable s q)) (finite.get first_readtables q)
           ∙ ap (finite.get first_readtables) same ∙ first_standard ∙ sym (ap (finite.get s.readtables) same ∙ sound.readtables.standard)
       | false ↦ λ other.
-          elim (finite.contains_key s.readtables q) as (λ b. finite.contains_key s.readtables q ≡ b → cond (b && true) (Some (table_named s q)) (finite.get first_readtables q) ≡ finite.get s.readtables q) [
+          elim (finite.contains_key s.readtables q) as (λ b. finite.contains_key s.readtables q ≡ b → cond (b && true) (Some (snapshot_readtable s q)) (finite.get first_readtables q) ≡ finite.get s.readtables q) [
             | true ↦ λ there. sym (table_is s q there)
             | false ↦ λ absent. first_at s sound q other absent
           ] refl
@@ -189,16 +189,16 @@ all_named s sound = same_map name_total name_exact _ _ (λ q.
 pub record IsNaming (s : WorldState) (rows : List Datum) (k : ℕ) (now : WorldState) : Type 0 where
   pub proper : list_all is_proper rows ≡ true
   pub objects : map object_of rows ≡ map (row_of s) (names s)
-  pub is : now ≡ record (with_properties_of s) { readtables = now.readtables }
+  pub is : now ≡ record (built_with_properties s) { readtables = now.readtables }
   pub left : put_named now.readtables s (drop k (names s)) ≡ s.readtables
   pub standard : finite.get now.readtables standard_name ≡ Some standard
 
-pub first_naming : (s : WorldState) → IsSoundWorldState s → (rows : List Datum) (now : WorldState) → now ≡ with_properties_of s → list_all is_proper rows ≡ true
+pub first_naming : (s : WorldState) → IsSoundWorldState s → (rows : List Datum) (now : WorldState) → now ≡ built_with_properties s → list_all is_proper rows ≡ true
     → map object_of rows ≡ map (row_of s) (names s) → IsNaming s rows 0 now
 first_naming s sound rows now is proper objects = record {
   proper = proper;
   objects = objects;
-  is = is ∙ ap (λ (m : Readtables). record (with_properties_of s) { readtables = m }) (sym (ap (λ (x : WorldState). x.readtables) is));
+  is = is ∙ ap (λ (m : Readtables). record (built_with_properties s) { readtables = m }) (sym (ap (λ (x : WorldState). x.readtables) is));
   left = ap (λ (x : WorldState). put_named x.readtables s (names s)) is ∙ all_named s sound;
   standard = ap (λ (x : WorldState). finite.get x.readtables standard_name) is ∙ first_standard;
 }
@@ -207,18 +207,18 @@ first_naming s sound rows now is proper objects = record {
 pub record IsTableRow (s : WorldState) (rows : List Datum) (k : ℕ) (now : WorldState) (row : Datum) : Type 0 where
   pub proper : is_proper row ≡ true
   pub name : Name
-  pub object : object_of row ≡ readtable_object name (table_named s name)
-  pub named : HasKeywordFunctions now.packages (table_named s name)
+  pub object : object_of row ≡ readtable_object name (snapshot_readtable s name)
+  pub named : HasKeywordFunctions now.packages (snapshot_readtable s name)
   pub there : IsSymbol now.packages (keyword, name)
   pub can : CanBeMade now.readtables name
-  pub later : (after : WorldState) → after ≡ with_table now name (table_named s name) → IsNaming s rows (k + 1) after
+  pub later : (after : WorldState) → after ≡ with_table now name (snapshot_readtable s name) → IsNaming s rows (k + 1) after
 
 pub table_row_at : (s : WorldState) → IsSoundWorldState s → (rows : List Datum) (k : ℕ) (now : WorldState) (row : Datum) → IsNaming s rows k now → k < length rows → row ≡ get_or rows k row
     → IsTableRow s rows k now row
 table_row_at s sound rows k now row so_far few is =
     let ns = names s in
     let n = get_or ns k [] in
-    let t = table_named s n in
+    let t = snapshot_readtable s n in
     let read = item_at rows k row (map (row_of s) ns) so_far.objects so_far.proper few is in
     let count : length rows ≡ length ns = item_count rows (map (row_of s) ns) so_far.objects ∙ length-map ns (row_of s) in
     let among : k < length ns = subst (λ j. k < j) count few in
@@ -245,7 +245,7 @@ table_row_at s sound rows k now row so_far few is =
         proper = so_far.proper;
         objects = so_far.objects;
         is = made ∙ ap (λ (x : WorldState). record x { readtables = finite.insert now.readtables n t }) so_far.is
-            ∙ ap (λ (m : Readtables). record (with_properties_of s) { readtables = m }) (sym (ap (λ (x : WorldState). x.readtables) made));
+            ∙ ap (λ (m : Readtables). record (built_with_properties s) { readtables = m }) (sym (ap (λ (x : WorldState). x.readtables) made));
         left = ap (λ (x : WorldState). put_named x.readtables s (drop (k + 1) ns)) made ∙ next;
         standard = ap (λ (x : WorldState). finite.get x.readtables standard_name) made ∙ get-insert name_total now.readtables n t standard_name
             ∙ ap (λ b. cond b (Some t) (finite.get now.readtables standard_name)) ((eq_by_cmp_equiv name_total).symm standard_name n ∙ is_eq-slice_cmp n standard_name ∙ other) ∙ so_far.standard;
@@ -259,9 +259,9 @@ table_row_at s sound rows k now row so_far few is =
     within : (a b : ℕ) → a ≤ b → b ≤ 64 → a ≤ 64
     within a b e f = omega arith
 
-pub last_naming : (s : WorldState) (rows : List Datum) (k : ℕ) (now : WorldState) → IsNaming s rows k now → k ≡ length rows → now ≡ with_readtables_of s
+pub last_naming : (s : WorldState) (rows : List Datum) (k : ℕ) (now : WorldState) → IsNaming s rows k now → k ≡ length rows → now ≡ built_with_readtables s
 last_naming s rows k now so_far all =
     let ns = names s in
     let count : length rows ≡ length ns = item_count rows (map (row_of s) ns) so_far.objects ∙ length-map ns (row_of s) in
     let done : now.readtables ≡ s.readtables = ap (put_named now.readtables s) (sym (ap (λ j. drop j ns) (all ∙ count) ∙ drop-length ns)) ∙ so_far.left in
-    so_far.is ∙ ap (λ (m : Readtables). record (with_properties_of s) { readtables = m }) done
+    so_far.is ∙ ap (λ (m : Readtables). record (built_with_properties s) { readtables = m }) done

@@ -10,7 +10,7 @@ use Rattle.canon_printer.specs.Printed.{printed_prefix}
 use Rattle.world_text.specs.Snapshot.{made_names, shown_names, imported_name, package_object}
 use Rattle.world_text.specs.ObjectTexts.{object_text}
 use Rattle.world_text.proofs.PlainObjects.{no_prefix}
-use Rattle.snapshot_lines.specs.QuotedTexts.{text_of_items, items_rest, texts_text, pairs_text}
+use Rattle.snapshot_lines.specs.QuotedTexts.{text_of_items, items_rest, quoted_texts, pairs_text}
 
 -- ---- lists
 
@@ -32,13 +32,13 @@ module _ (s : Table) (p : Name) (after : List ℕ) where
   after_shown = 32 ∷ (pairs_text (imports s p) ++ 41 ∷ after)
 
   abbrev pub after_own : List ℕ
-  after_own = 32 ∷ (texts_text (shown_names s p) ++ after_shown)
+  after_own = 32 ∷ (quoted_texts (shown_names s p) ++ after_shown)
 
   abbrev pub after_used : List ℕ
-  after_used = 32 ∷ (texts_text (made_names s p) ++ after_own)
+  after_used = 32 ∷ (quoted_texts (made_names s p) ++ after_own)
 
   abbrev pub after_name : List ℕ
-  after_name = 32 ∷ (texts_text (used_names s p) ++ after_used)
+  after_name = 32 ∷ (quoted_texts (used_names s p) ++ after_used)
 
 five_apart : (a b c d e after : List ℕ) → (40 ∷ (a ++ (32 ∷ (b ++ (32 ∷ (c ++ (32 ∷ (d ++ (32 ∷ (e ++ 41 ∷ [])))))))))) ++ after ≡ 40 ∷ (a ++ (32 ∷ (b ++ (32 ∷ (c ++ (32 ∷ (d ++ (32 ∷ (e ++ 41 ∷ after)))))))))
 five_apart a b c d e after =
@@ -52,7 +52,7 @@ pub row_apart : (s : Table) → AreSoundPackages s → (p : Name) (after : List 
 row_apart s sound p after =
     (λ i. (40 ∷ (printed_text p ++ (32 ∷ (listed_are s sound (λ n. text n) (used_names s p) i ++ (32 ∷ (listed_are s sound (λ n. text n) (made_names s p) i
     ++ (32 ∷ (listed_are s sound (λ n. text n) (shown_names s p) i ++ (32 ∷ (listed_are s sound imported_name (imports s p) i ++ 41 ∷ [])))))))))) ++ after)
-    ∙ five_apart (printed_text p) (texts_text (used_names s p)) (texts_text (made_names s p)) (texts_text (shown_names s p)) (pairs_text (imports s p)) after
+    ∙ five_apart (printed_text p) (quoted_texts (used_names s p)) (quoted_texts (made_names s p)) (quoted_texts (shown_names s p)) (pairs_text (imports s p)) after
 
 -- ---- rows, one after the other
 

@@ -16,7 +16,7 @@ use Rattle.plist_state.specs.Properties.{Symbol}
 use Rattle.plist_state.specs.State.{WorldState}
 use Rattle.plist_state.specs.Readers.{symbols_with_properties}
 use Rattle.plist_state.specs.Sound.{IsSoundWorldState}
-use Rattle.snapshot_text.specs.BuiltWorlds.{with_properties_of}
+use Rattle.snapshot_text.specs.BuiltWorlds.{built_with_properties}
 use Rattle.world_text.specs.Lines.{snapshot_limits}
 use Rattle.world_text.specs.ObjectTexts.{row_of}
 use Rattle.snapshot_text.specs.Rows.{row_symbol_at, row_text, text_after, HasRowsUpTo}
@@ -125,7 +125,7 @@ pub record IsLater (s : WorldState) (bytes rest : List ℕ) (end : ℕ) (now : W
 pub record IsLast (s : WorldState) (bytes rest : List ℕ) (end : ℕ) (now : WorldState) : Type 0 where
   pub there : end < length bytes
   pub byte : get_or bytes end 0 ≡ 41
-  pub world : now ≡ with_properties_of s
+  pub world : now ≡ built_with_properties s
   pub text : (next : ℕ) → next ≡ min (end + 2) 18446744073709551615 → drop next bytes ≡ rest
 
 pub after_row : (s : WorldState) (bytes rest : List ℕ) (end : ℕ) (now : WorldState) (n : ℕ) → length bytes ≤ 4294967295 → HasRowsUpTo s n now → n ≤ length (symbols_with_properties s)

@@ -23,7 +23,7 @@ use Rattle.plist_state.specs.Sound.{IsSoundWorldState, IsSymbol, IsPlist, IsValu
 use Rattle.plist_state.proofs.Orders.{symbol_total, symbol_exact, one_symbol}
 use Rattle.plist_state.proofs.Lists.{kept, get-with_list, list-with_list, with_list_twice}
 use Rattle.world_text.specs.Snapshot.{symbol_object}
-use Rattle.snapshot_text.specs.BuiltWorlds.{with_properties, with_each, with_packages_of, with_properties_of}
+use Rattle.snapshot_text.specs.BuiltWorlds.{with_properties, with_each, built_with_packages, built_with_properties}
 use Rattle.snapshot_text.specs.Rows.{row_symbol_at, HasRowsUpTo}
 use Rattle.snapshot_text.proofs.KeysSoFar.{keys_apart, next_is_new, at_index}
 
@@ -183,9 +183,9 @@ tied = eq_by_cmp symbol_cmp
 abbrev none : Symbol
 none = ([], [])
 
-pub at_first : (s now : WorldState) → now ≡ with_packages_of s → HasRowsUpTo s 0 now
+pub at_first : (s now : WorldState) → now ≡ built_with_packages s → HasRowsUpTo s 0 now
 at_first s now is = record {
-  rest = is ∙ ap (with_properties (with_packages_of s)) (sym (ap (λ (w : WorldState). w.properties) is));
+  rest = is ∙ ap (with_properties (built_with_packages s)) (sym (ap (λ (w : WorldState). w.properties) is));
   lists = λ q. ap (λ (w : WorldState). finite.get w.properties q) is ∙ get-empty symbol_cmp q;
 }
 
@@ -238,7 +238,7 @@ next_up_to s sound n now then so_far few is =
     let listed : finite.get s.properties x ≡ kept (plist s x) = has_list s x there ∙ some_kept (plist s x) (sound.properties x (plist s x) (has_list s x there)).some in
     record {
       rest = is ∙ ap (λ (w : WorldState). with_properties w (with_list now.properties x (plist s x))) so_far.rest
-          ∙ ap (with_properties (with_packages_of s)) (sym (ap (λ (w : WorldState). w.properties) is));
+          ∙ ap (with_properties (built_with_packages s)) (sym (ap (λ (w : WorldState). w.properties) is));
       lists = λ q. ap (λ (w : WorldState). finite.get w.properties q) is ∙ get-with_list now.properties x (plist s x) q
           ∙ ap (cond (tied q x) (kept (plist s x))) (so_far.lists q)
           ∙ one_more (list_any (tied q) (take n xs)) (tied q x) (finite.get s.properties q) (kept (plist s x)) (λ t. ap (finite.get s.properties) (one_symbol q x t) ∙ listed)
@@ -249,13 +249,13 @@ next_up_to s sound n now then so_far few is =
     some_kept [] some = absurd (some refl)
     some_kept (p ∷ ps) some = refl
 
-pub at_last : (s : WorldState) (n : ℕ) (now : WorldState) → HasRowsUpTo s n now → n ≡ length (symbols_with_properties s) → now ≡ with_properties_of s
+pub at_last : (s : WorldState) (n : ℕ) (now : WorldState) → HasRowsUpTo s n now → n ≡ length (symbols_with_properties s) → now ≡ built_with_properties s
 at_last s n now so_far all =
     let xs = symbols_with_properties s in
     let same : now.properties ≡ s.properties = same_map symbol_total symbol_exact now.properties s.properties (λ q.
     so_far.lists q ∙ ap (λ ys. cond (list_any (tied q) ys) (finite.get s.properties q) None) (ap (λ k. take k xs) all ∙ take-length xs)
     ∙ ap (λ b. cond b (finite.get s.properties q) None) (sym (contains_key-keys s.properties q)) ∙ itself (finite.get s.properties q)) in
-    so_far.rest ∙ ap (with_properties (with_packages_of s)) same
+    so_far.rest ∙ ap (with_properties (built_with_packages s)) same
   where
     itself : (o : Option Plist) → cond (is_some o) o None ≡ o
     itself None = refl

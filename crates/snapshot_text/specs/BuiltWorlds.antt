@@ -32,16 +32,16 @@ abbrev pub with_table : WorldState → Name → readtable.Table → WorldState
 with_table s n t = record s { readtables = finite.insert s.readtables n t }
 
 -- the first state, with the packages of another one
-abbrev pub with_packages_of : WorldState → WorldState
-with_packages_of s = with_packages initial s.packages
+abbrev pub built_with_packages : WorldState → WorldState
+built_with_packages s = with_packages initial s.packages
 
 -- the first state, with the packages and the property lists of another one
-abbrev pub with_properties_of : WorldState → WorldState
-with_properties_of s = with_properties (with_packages_of s) s.properties
+abbrev pub built_with_properties : WorldState → WorldState
+built_with_properties s = with_properties (built_with_packages s) s.properties
 
 -- the first state, with the packages, the property lists and the readtables of another one
-abbrev pub with_readtables_of : WorldState → WorldState
-with_readtables_of s = record (with_properties_of s) { readtables = s.readtables }
+abbrev pub built_with_readtables : WorldState → WorldState
+built_with_readtables s = record (built_with_properties s) { readtables = s.readtables }
 
 -- a readtable of this name may be made from the standard one, which is as ever
 pub record CanBeMade (m : Readtables) (n : Name) : Type 0 where

@@ -8,11 +8,11 @@ use Rattle.plist_state.specs.Readers.{readtable_names}
 use Rattle.plist_state.specs.Sound.{IsSoundWorldState}
 use Rattle.snapshot_text.specs.declared.error.SnapshotError.{SnapshotError}
 use Rattle.snapshot_text.specs.declared.error.SnapshotError.TheVariants.{Damaged, MissingFunction, OutOfMemory}
-use Rattle.world_text.specs.Snapshot.{table_named, snapshot_in}
+use Rattle.world_text.specs.Snapshot.{snapshot_readtable, snapshot_in}
 
 -- each function that a readtable of the state names is standard, STD-DISPATCH or registered
 abbrev pub are_covered : List (List ℕ) → WorldState → Bool
-are_covered registered s = list_all (λ n. list_all (is_covered registered) (functions_of (table_named s n))) (readtable_names s)
+are_covered registered s = list_all (λ n. list_all (is_covered registered) (functions_of (snapshot_readtable s n))) (readtable_names s)
 
 -- Why bytes are refused: they are the text of no sound state in this version; or of one that names a function which is not
 -- there. That memory ran out is no word on them.

@@ -11,7 +11,7 @@ use Rattle.plist_state.specs.Properties.{Symbol, symbol_cmp}
 use Rattle.plist_state.specs.State.{WorldState}
 use Rattle.plist_state.specs.Readers.{symbols_with_properties}
 use Rattle.world_text.specs.ObjectTexts.{row_of}
-use Rattle.snapshot_text.specs.BuiltWorlds.{with_properties, with_packages_of}
+use Rattle.snapshot_text.specs.BuiltWorlds.{with_properties, built_with_packages}
 
 -- the symbol of the row at an index
 abbrev pub row_symbol_at : WorldState → ℕ → Symbol
@@ -27,6 +27,6 @@ text_after s n = written_rest (printed_prefix s.packages common_lisp_user) (list
 
 -- The world has the packages of s and, of its property lists, those in the rows before an index.
 pub record HasRowsUpTo (s : WorldState) (n : ℕ) (now : WorldState) : Type 0 where
-  pub rest : now ≡ with_properties (with_packages_of s) now.properties
+  pub rest : now ≡ with_properties (built_with_packages s) now.properties
   pub lists : (q : Symbol) → finite.get now.properties q
       ≡ cond (list_any (eq_by_cmp symbol_cmp q) (take n (symbols_with_properties s))) (finite.get s.properties q) None

@@ -6,7 +6,7 @@ ghost use Rattle.package_table.specs.Growth.{Grows};
 ghost use Rattle.plist_state.specs.Changes.{with_packages};
 ghost use Rattle.world_text.specs.Snapshot.{package_object, packages_object};
 ghost use Rattle.world_text.specs.ObjectTexts.{object_text};
-ghost use Rattle.snapshot_lines.specs.QuotedTexts.{unescaped, unescaped_pair, texts_text};
+ghost use Rattle.snapshot_lines.specs.QuotedTexts.{unescaped, unescaped_pair, quoted_texts};
 ghost use Rattle.snapshot_lines.specs.PartAnswers.{IsOfMade, OrNoMemory};
 ghost use Rattle.snapshot_text.specs.Part.{IsPartOf};
 ghost use Rattle.snapshot_text.specs.Phases.{IsImport, HasImport, HasOwn, HasSymbols, HasExternals, HasUses, HasItsPackages, IsRowOf, AreRowsOf, InEachPackage};
@@ -31,7 +31,7 @@ struct PackageParts<'a> {
 // The texts of the list that begins after a space, and what stands after it.
 fn later_texts(alloc: Global, bytes: &[u8]) -> Result<(Vec<&[u8]>, &[u8]), BuildError>
     ensures texts { (names : List Name) (after : List ℕ)
-        → bytes.now ≡ 32 ∷ (texts_text names ++ after)
+        → bytes.now ≡ 32 ∷ (quoted_texts names ++ after)
         → IsOfMade result (λ read. (map (λ b. unescaped b.now) read.0.items ≡ names)
         × (read.1.now ≡ after)) }
     ensures shorter { IfOk result (λ read. length read.1.now < length bytes.now) }

@@ -5,7 +5,7 @@ ghost use Rattle.readtable_core.specs.Tables.{standard};
 ghost use Rattle.plist_state.specs.State.{WorldState};
 ghost use Rattle.plist_state.specs.Readers.{symbols_with_properties};
 ghost use Rattle.plist_state.specs.Sound.{IsSoundWorldState as IsSoundState};
-ghost use Rattle.snapshot_text.specs.BuiltWorlds.{with_packages_of, with_properties_of};
+ghost use Rattle.snapshot_text.specs.BuiltWorlds.{built_with_packages, built_with_properties};
 ghost use Rattle.snapshot_text.specs.Rows.{HasRowsUpTo, row_text, text_after};
 ghost use Rattle.world_text.specs.Snapshot.{snapshot_line, properties_object};
 ghost use Rattle.snapshot_lines.specs.PartAnswers.{IsOfMade};
@@ -46,9 +46,9 @@ fn read_rows<R: MacroFunctions>(
     requires table { source.now.table.now ≡ standard }
     ensures { (s : WorldState) (rest : List ℕ) → IsSoundState s
         → length source.now.bytes.now ≤ 4294967295 → 0 < length (symbols_with_properties s)
-        → world.old.0 ≡ with_packages_of s
+        → world.old.0 ≡ built_with_packages s
         → drop at source.now.bytes.now ≡ row_text s 0 ++ (text_after s 1 ++ 10 ∷ rest)
-        → IsOfMade result (λ next. (world.new.0 ≡ with_properties_of s)
+        → IsOfMade result (λ next. (world.new.0 ≡ built_with_properties s)
         × (drop next source.now.bytes.now ≡ rest)) }
 {
     let mut next_row = at;
@@ -77,8 +77,8 @@ pub(crate) fn read_properties<R: MacroFunctions>(
     ensures { (s : WorldState) (rest : List ℕ) → IsSoundState s
         → length source.now.bytes.now ≤ 4294967295
         → drop at source.now.bytes.now ≡ snapshot_line s.packages (properties_object s) ++ rest
-        → world.old.0 ≡ with_packages_of s
-        → IsOfMade result (λ next. (world.new.0 ≡ with_properties_of s)
+        → world.old.0 ≡ built_with_packages s
+        → IsOfMade result (λ next. (world.new.0 ≡ built_with_properties s)
         × (drop next source.now.bytes.now ≡ rest)) }
 {
     let Some(byte) = source.bytes.get(at) else {

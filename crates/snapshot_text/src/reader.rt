@@ -2,7 +2,7 @@
 ghost use Rattle.std.specs.Prelude.{◌≡◌, ◌≤◌, ℕ, List, [], ◌++◌, Some, true, length, drop, IfOk, IfErr, OnOk};
 ghost use Rattle.readtable_core.specs.Tables.{standard};
 ghost use Rattle.plist_state.specs.State.{WorldState, initial};
-ghost use Rattle.snapshot_text.specs.BuiltWorlds.{with_packages_of, with_properties_of};
+ghost use Rattle.snapshot_text.specs.BuiltWorlds.{built_with_packages, built_with_properties};
 ghost use Rattle.plist_state.specs.Sound.{IsSoundWorldState as IsSoundState};
 ghost use Rattle.snapshot_text.specs.NamedFunctions.{are_covered, AreBytesRefused};
 ghost use Rattle.world_text.specs.Snapshot.{packages_object, tables_object_in, snapshot_line, snapshot_in};
@@ -28,7 +28,7 @@ fn read_packages(alloc: Global, world: &mut World, bytes: &[u8]) -> Result<usize
     ensures { (s : WorldState) (rest : List ℕ) → IsSoundState s → length bytes.now ≤ 4294967295
         → bytes.now ≡ snapshot_line s.packages (packages_object s.packages) ++ rest
         → world.old.0 ≡ initial
-        → IsOfMade result (λ next. (world.new.0 ≡ with_packages_of s)
+        → IsOfMade result (λ next. (world.new.0 ≡ built_with_packages s)
         × (drop next bytes.now ≡ rest)) }
 {
     let rest = make_packages(alloc, world, bytes)?;
@@ -48,7 +48,7 @@ fn read_tables<R: MacroFunctions>(
     ensures { (s : WorldState) (third : Object) (rest : List ℕ) → IsSoundState s
         → length source.now.bytes.now ≤ 4294967295 → tables_object_in version s ≡ Some third
         → drop at source.now.bytes.now ≡ snapshot_line s.packages third ++ rest
-        → world.old.0 ≡ with_properties_of s → OrNoMemory (world.new.0 ≡ s) result }
+        → world.old.0 ≡ built_with_properties s → OrNoMemory (world.new.0 ≡ s) result }
 {
     let (tables, _) = next_object(source, world, at)?;
     put_tables(world, version, &tables)?;

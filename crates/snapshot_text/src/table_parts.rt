@@ -15,7 +15,7 @@ ghost use Rattle.plist_state.specs.State.{WorldState, first_base};
 ghost use Rattle.plist_state.specs.Changes.{with_base};
 ghost use Rattle.plist_state.specs.Sound.{IsSymbol, HasKeywordFunctions, IsSoundWorldState as IsSoundState};
 ghost use Rattle.world_text.specs.Snapshot.{number, dispatch_objects, entry_object, entry_objects, readtable_object, readtables_object, tables_object, tables_object_1, tables_object_in};
-ghost use Rattle.snapshot_text.specs.BuiltWorlds.{with_table, with_properties_of, with_readtables_of, CanBeMade, IsWritable, IsSubFunction, IsNamedEntry};
+ghost use Rattle.snapshot_text.specs.BuiltWorlds.{with_table, built_with_properties, built_with_readtables, CanBeMade, IsWritable, IsSubFunction, IsNamedEntry};
 ghost use Rattle.snapshot_lines.specs.PartAnswers.{OrNoMemory, SucceedsWith};
 
 use crate::parts::{character_in, items_in, text_in};
@@ -206,8 +206,8 @@ fn put_readtable(world: &mut World, row: &Datum) -> Result<(), BuildError>
 // Makes the readtables of the third object of a snapshot.
 fn put_readtables(world: &mut World, readtables: &Datum) -> Result<(), BuildError>
     ensures { (s : WorldState) → IsSoundState s → is_proper readtables.now ≡ true
-        → object_of readtables.now ≡ readtables_object s → world.old.0 ≡ with_properties_of s
-        → OrNoMemory (world.new.0 ≡ with_readtables_of s) result }
+        → object_of readtables.now ≡ readtables_object s → world.old.0 ≡ built_with_properties s
+        → OrNoMemory (world.new.0 ≡ built_with_readtables s) result }
 {
     for row in items_in(readtables)? {
         put_readtable(world, row)?;
@@ -219,7 +219,7 @@ fn put_readtables(world: &mut World, readtables: &Datum) -> Result<(), BuildErro
 fn put_current(world: &mut World, home: &Datum, table: &Datum) -> Result<(), BuildError>
     ensures { (s : WorldState) → IsSoundState s → is_proper home.now ≡ true
         → object_of home.now ≡ text s.current_package → is_proper table.now ≡ true
-        → object_of table.now ≡ text s.current_readtable → world.old.0 ≡ with_readtables_of s
+        → object_of table.now ≡ text s.current_readtable → world.old.0 ≡ built_with_readtables s
         → OrNoMemory (world.new.0 ≡ with_base s first_base) result }
 {
     world.set_current_package(text_in(home)?.as_slice())?;
@@ -244,7 +244,7 @@ fn put_base(world: &mut World, base: &Datum) -> Result<(), BuildError>
 fn put_tables_1(world: &mut World, tables: &Datum) -> Result<(), BuildError>
     ensures { (s : WorldState) → IsSoundState s → is_proper tables.now ≡ true
         → object_of tables.now ≡ tables_object_1 s → s.read_base ≡ first_base
-        → world.old.0 ≡ with_properties_of s → OrNoMemory (world.new.0 ≡ s) result }
+        → world.old.0 ≡ built_with_properties s → OrNoMemory (world.new.0 ≡ s) result }
 {
     let [package, readtable, readtables] = items_in(tables)? else {
         return Err(BuildError::Damaged);
@@ -257,7 +257,7 @@ fn put_tables_1(world: &mut World, tables: &Datum) -> Result<(), BuildError>
 // The same of versions 2 and 3, which have the base too.
 fn put_tables_2(world: &mut World, tables: &Datum) -> Result<(), BuildError>
     ensures { (s : WorldState) → IsSoundState s → is_proper tables.now ≡ true
-        → object_of tables.now ≡ tables_object s → world.old.0 ≡ with_properties_of s
+        → object_of tables.now ≡ tables_object s → world.old.0 ≡ built_with_properties s
         → OrNoMemory (world.new.0 ≡ s) result }
 {
     let [package, readtable, base, readtables] = items_in(tables)? else {
@@ -274,7 +274,7 @@ fn put_tables_2(world: &mut World, tables: &Datum) -> Result<(), BuildError>
 pub(crate) fn put_tables(world: &mut World, version: u16, tables: &Datum) -> Result<(), BuildError>
     ensures { (s : WorldState) → IsSoundState s → is_proper tables.now ≡ true
         → tables_object_in version s ≡ Some (object_of tables.now)
-        → world.old.0 ≡ with_properties_of s → OrNoMemory (world.new.0 ≡ s) result }
+        → world.old.0 ≡ built_with_properties s → OrNoMemory (world.new.0 ≡ s) result }
 {
     if version == 1 {
         put_tables_1(world, tables)

@@ -5,7 +5,7 @@ use Rattle.disk_trait.specs.Disk.{Image, State, IsHonest, IsSoundDisk}
 use Rattle.gate_log.specs.Layout.{LogRecord}
 use Rattle.plist_state.specs.State.{WorldState}
 use Rattle.prevalence_store.specs.meaning.Acceptance.{Acceptance, accepts, after, mode_of}
-use Rattle.prevalence_store.specs.calls.Open.{IsNoWord, IsUnopened, limit_of}
+use Rattle.prevalence_store.specs.calls.Open.{IsNoWord, IsUnopened, limit_at_open}
 use Rattle.prevalence_store.specs.Theorem.{Call, IsAfterSome, Keeps, KeepsSome, MeansSome, Reopens, Survives}
 use Rattle.store_laws.specs.Histories.{Event, StillStands, disk_by, last_disk, last_left, world_left_by, opened, refused, called, stopped, stopped_in_call, stopped_in_opening, FollowsFromEvents, EventsHappened, EventHappens, IsCallOfStore, IsOpenedOrNot, IsStop, StandsAfterEvents}
 use Rattle.user_macros.specs.Functions.{Functions}
@@ -74,7 +74,7 @@ module _ (functions : Functions) where
       → Reopens functions (state start) (state now) world → IsAfterSome functions first line sure world)
       (refuses : (start back : D) (whole : Bool) (line : List LogRecord) (sure limit number : ℕ) → IsHonest (state start) → KeepsSome functions (state start) first line sure
       → (unopened : IsUnopened functions state start whole limit number back)
-      → IsHonest (state back) × KeepsSome functions (state back) first line sure × IsNoWord (state start).mixes (limit_of limit) (state start).reads unopened.fault) where
+      → IsHonest (state back) × KeepsSome functions (state back) first line sure × IsNoWord (state start).mixes (limit_at_open limit) (state start).reads unopened.fault) where
     -- ---- one event
 
     none_open : (line : List LogRecord) (disk : D) (world : WorldState) → ◌≡◌ {A = Option WorldState} None (Some world)
@@ -168,7 +168,7 @@ module _ (functions : Functions) where
           no_less = omega arith;
           same = refl;
           stands = record { honest = after_it.0; keeps = after_it.1; whole = none_open line back };
-          follows = λ events rest. (subst (λ f. IsNoWord (state disk).mixes (limit_of limit) (state disk).reads f) refusal.fault_is after_it.2, rest);
+          follows = λ events rest. (subst (λ f. IsNoWord (state disk).mixes (limit_at_open limit) (state disk).reads f) refusal.fault_is after_it.2, rest);
         }
     step (called call) line sure disk left stands is =
         let le = within line sure disk left stands in record {

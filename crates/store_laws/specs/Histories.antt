@@ -5,7 +5,7 @@ use Rattle.gate_log.specs.Layout.{LogRecord}
 use Rattle.plist_state.specs.State.{WorldState}
 use Rattle.prevalence_store.specs.declared.open_fault.OpenFault.{OpenFault}
 use Rattle.prevalence_store.specs.meaning.Acceptance.{after}
-use Rattle.prevalence_store.specs.calls.Open.{IsNoWord, IsUnopened, limit_of}
+use Rattle.prevalence_store.specs.calls.Open.{IsNoWord, IsUnopened, limit_at_open}
 use Rattle.prevalence_store.specs.Theorem.{Call, IsAfterSome, IsStoppedBetween, Keeps, KeepsSome, MeansAsBefore, Reopens, Survives}
 use Rattle.user_macros.specs.Functions.{Functions}
 
@@ -107,7 +107,7 @@ module _ (functions : Functions) {D : Type 0} (state : D → State) (first : Wor
   FollowsFromEvents line sure disk left (opened now world ∷ events) =
       (found : IsAfterSome functions first line sure world) × FollowsFromEvents (take found.count line) found.count now (Some world) events
   FollowsFromEvents line sure disk left (refused limit fault back ∷ events) =
-      IsNoWord (state disk).mixes (limit_of limit) (state disk).reads fault × FollowsFromEvents line sure back None events
+      IsNoWord (state disk).mixes (limit_at_open limit) (state disk).reads fault × FollowsFromEvents line sure back None events
   FollowsFromEvents line sure disk left (called call ∷ events) =
       FollowsFromEvents (line ++ call.taken) (length line + call.acknowledged) call.disk call.left events
   FollowsFromEvents line sure disk left (stopped now ∷ events) = FollowsFromEvents line sure now None events

@@ -2,7 +2,7 @@
 ghost use Rattle.std.specs.Prelude.{◌≡◌, ℕ, Bool};
 ghost use Rattle.disk_trait.specs.Disk.{IsHonest};
 ghost use Rattle.plist_state.specs.State.{WorldState};
-ghost use Rattle.prevalence_store.specs.calls.Open.{IsNoWord, IsOpened, IsUnopened, limit_of};
+ghost use Rattle.prevalence_store.specs.calls.Open.{IsNoWord, IsOpened, IsUnopened, limit_at_open};
 ghost use Rattle.prevalence_store.specs.calls.Store.{StoreView};
 ghost use Rattle.prevalence_store.specs.meaning.Version1.{MeansWorld1};
 ghost use Rattle.user_macros.specs.Functions.{Functions};
@@ -22,7 +22,7 @@ pub fn version_1_opens<D: Disk, R>()
         (world : WorldState)
         → IsHonest (D.state disk) → MeansWorld1 functions (D.state disk).reads world
         → (refused : IsUnopened functions D.state disk whole limit number back)
-        → IsNoWord (D.state disk).mixes (limit_of limit) (D.state disk).reads refused.fault }
+        → IsNoWord (D.state disk).mixes (limit_at_open limit) (D.state disk).reads refused.fault }
 {
     version_1_stays();
 }

@@ -17,7 +17,7 @@ use Rattle.store_commands.specs.Session.{half_limit}
 use Rattle.store_commands.specs.Status.{IsOfWords}
 use Rattle.store_commands.specs.declared.status.Status.{Status}
 use Rattle.store_looks.specs.CheckReports.{Checks, EndsCheck, FindsIn, IsCheckText, IsTextOf, IsWorldCheckedUnder, TellsCheckedText}
-use Rattle.store_looks.specs.LookReports.{HasWorldThat, notation_of}
+use Rattle.store_looks.specs.LookReports.{LookHasWorldThat, notation_of}
 use Rattle.store_looks.specs.FailedLooks.{status_of}
 use Rattle.store_looks.proofs.Looking.{at_world}
 use Rattle.store_reports.specs.declared.numbers.Notation.{Notation}
@@ -61,7 +61,7 @@ module _ (functions registered : Functions) {R : Type 0} (macros : R) (input hel
 -- a world that is read again from the text of that of a store that was seen
 pub seen_so : (functions : Functions) {R : Type 0} (macros : R) (sight : Sight) (store : StoreView Sight R) (opened : IsOpened functions state_of_sight sight macros half_limit store) {E : Type 0}
     (result : Result (Vec ℕ) E) (text : Vec ℕ) (bytes : List ℕ) (read : WorldState) → IfSome store.world (λ world. IsSoundWorldState world × IfOk result (λ t. t.items ≡ snapshot world)) → result ≡ Ok text
-    → bytes ≡ text.items → ((s : WorldState) → IsSoundWorldState s → snapshot_in 2 s ≡ Some bytes → s ≡ read) → (seen : Sight) × HasWorldThat functions macros (λ had. read ≡ had) seen
+    → bytes ≡ text.items → ((s : WorldState) → IsSoundWorldState s → snapshot_in 2 s ≡ Some bytes → s ≡ read) → (seen : Sight) × LookHasWorldThat functions macros (λ had. read ≡ had) seen
 seen_so functions macros sight store opened {E} result text bytes read told is same only =
     let known = at_world (λ world. IsSoundWorldState world × IfOk result (λ t. t.items ≡ snapshot world)) store.world opened.world opened.known told in
     let text_is : text.items ≡ snapshot opened.world = subst (λ (r : Result (Vec ℕ) E). IfOk r (λ t. t.items ≡ snapshot opened.world)) is known.1 in

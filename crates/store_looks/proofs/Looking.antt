@@ -22,7 +22,7 @@ use Rattle.command_words.specs.declared.looks.Records.{Records}
 use Rattle.command_words.specs.declared.looks.Shown.{Shown}
 use Rattle.command_words.specs.declared.words.Report.TheVariants as reports
 use Rattle.lisp_object.specs.declared.refusal.TheConstants.{INPUT, NO_MEMORY}
-use Rattle.log_look.specs.FirstRecords.{IsCut, IsNoPlace, LogIsUnopened as IsNoLog}
+use Rattle.log_look.specs.FirstRecords.{IsCut, IsNoPlace, LookIsUnopened as IsNoLog}
 use Rattle.log_look.specs.declared.error.LogError.{LogError}
 use Rattle.store_commands.specs.Report.{IsReport}
 use Rattle.store_commands.specs.Status.{IsOfWords}

@@ -21,7 +21,7 @@ use Rattle.sessions.specs.declared.ending.Place.{Place}
 use Rattle.store_commands.specs.Status.{IsOfWords}
 use Rattle.store_commands.specs.declared.status.Status.{Status}
 use Rattle.store_commands.specs.declared.status.Status.TheVariants as statuses
-use Rattle.store_looks.specs.LookReports.{HasWorldThat, notation_of, status_in}
+use Rattle.store_looks.specs.LookReports.{LookHasWorldThat, notation_of, status_in}
 use Rattle.store_looks.specs.declared.unlooked.Unlooked.{Unlooked}
 use Rattle.store_reports.specs.Figures.{figure}
 use Rattle.store_reports.specs.Json.{number_member, string_member}
@@ -106,7 +106,7 @@ FindsIn functions world text found =
 -- that of a new store, or that which a store in a folder had
 unfoldable pub IsWorldCheckedUnder : Functions → {R : Type 0} → R → Option Text → WorldState → Type 0
 IsWorldCheckedUnder functions macros None world = world ≡ initial
-IsWorldCheckedUnder functions macros (Some folder) world = (sight : Sight) × HasWorldThat functions macros (λ had. world ≡ had) sight
+IsWorldCheckedUnder functions macros (Some folder) world = (sight : Sight) × LookHasWorldThat functions macros (λ had. world ≡ had) sight
 
 -- of a file the text that it gave, and else that of the input
 unfoldable pub IsTextOf : Option Text → Option (List ℕ) → List ℕ → Type 0

@@ -14,7 +14,7 @@ use Rattle.disk_trait.specs.declared.host.HostError.{HostError}
 use Rattle.disk_trait.specs.declared.host.HostError.TheVariants.{NoName}
 use Rattle.disk_trait.specs.declared.host.IfMissing.{IfMissing}
 use Rattle.lisp_object.specs.declared.refusal.TheConstants.{INPUT, NO_MEMORY}
-use Rattle.log_look.specs.FirstRecords.{IsCut, IsNoPlace, LogIsUnopened as IsNoLog}
+use Rattle.log_look.specs.FirstRecords.{IsCut, IsNoPlace, LookIsUnopened as IsNoLog}
 use Rattle.log_look.specs.SeenState.{state_of_sight}
 use Rattle.log_look.specs.declared.error.LogError.{LogError}
 use Rattle.log_look.specs.declared.host.Figures.{Figures}
@@ -147,14 +147,14 @@ module _ (functions : Functions) {R : Type 0} (macros : R) where
     pub tells : TellsText status held written text
 
   -- The files that were seen opened as a store, and this is so of its world.
-  pub record HasWorldThat (Is : WorldState → Type 0) (sight : Sight) : Type 0 where
+  pub record LookHasWorldThat (Is : WorldState → Type 0) (sight : Sight) : Type 0 where
     pub opened : StoreView Sight R
     pub is_opened : IsOpened functions state_of_sight sight macros half_limit opened
     pub is : Is is_opened.world
 
   -- the files that were seen opened as a store, and a backup was made of its world
   unfoldable pub BacksUp : (WorldState → Type 0) → Sight → Status → Type 0
-  BacksUp made sight status = HasWorldThat made sight × (status ≡ statuses.Done)
+  BacksUp made sight status = LookHasWorldThat made sight × (status ≡ statuses.Done)
 
   -- what is told
 
@@ -230,7 +230,7 @@ module _ (functions : Functions) {R : Type 0} (macros : R) (whole : Bool) where
   WithholdsShown shown sight why =
       OpensAsNoStore functions whole sight why
       ⊎ ((selection : Selection) × IsSelection shown selection
-      × ((error : ShowError) × HasWorldThat functions macros (λ world. WithholdsProperties shown.count selection world error) sight × (why ≡ of_show error)))
+      × ((error : ShowError) × LookHasWorldThat functions macros (λ world. WithholdsProperties shown.count selection world error) sight × (why ≡ of_show error)))
 
   -- why `dump` tells nothing: there is no such record, or the files, cut off after it, opened as no store
   unfoldable pub WithholdsDump : RecordPlace → Sight → Unlooked → Type 0
@@ -242,7 +242,7 @@ module _ (functions : Functions) {R : Type 0} (macros : R) (whole : Bool) where
   unfoldable pub WithholdsBackup : (WorldState → BackupError → Type 0) → Sight → Unlooked → Type 0
   WithholdsBackup unmade sight why =
       OpensAsNoStore functions whole sight why
-      ⊎ ((error : BackupError) × HasWorldThat functions macros (λ world. unmade world error) sight × IsOfBackup error why)
+      ⊎ ((error : BackupError) × LookHasWorldThat functions macros (λ world. unmade world error) sight × IsOfBackup error why)
 
   -- why a look of each kind tells nothing
   unfoldable pub WithholdsLook : System → Text → Look → Sight → Unlooked → Type 0

@@ -10,7 +10,7 @@ ghost use Rattle.store_commands.specs.Status.{IsQuiet};
 ghost use Rattle.store_commands.specs.EndLines.{TellsFault};
 ghost use Rattle.store_commands.specs.declared.told.Remark.{Remark};
 ghost use Rattle.store_looks.specs.CheckReports.{AreRefusalsOf, Checks, EndsCheck, FindsIn, IsCheckText, IsRefusalOfUnreadable, IsTextOf, IsWorldCheckedUnder, TellsCheckedText, unreadable_text};
-ghost use Rattle.store_looks.specs.LookReports.{HasWorldThat};
+ghost use Rattle.store_looks.specs.LookReports.{LookHasWorldThat};
 
 use crate::looks::{end_unlooked, notation_for, opened, sight_of};
 use crate::seeds::Seeds;
@@ -181,7 +181,7 @@ where
     requires answers { M.answers macros }
     ensures macros { IfOk result (λ p. p.1 ≡ macros) }
     ensures world { IfOk result (λ p. (sight : Seen)
-        × HasWorldThat M.Meaning.functions macros (λ had. p.0.0 ≡ had) sight) }
+        × LookHasWorldThat M.Meaning.functions macros (λ had. p.0.0 ≡ had) sight) }
 {
     let alloc = rt.alloc();
     let sight = sight_of(&Looking::new(rt), folder)?;

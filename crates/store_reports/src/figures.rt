@@ -1,7 +1,7 @@
 //! Figures of a store.
 //! Where memory runs out, a part of what is to be added may be there.
 ghost use Rattle.std.specs.Prelude.{◌≡◌, ◌+◌, ◌-◌, ◌^◌, ◌<◌, ◌++◌, length, IfErr, IfOk, OnOk};
-ghost use Rattle.log_look.specs.FirstRecords.{LogIsUnopened};
+ghost use Rattle.log_look.specs.FirstRecords.{LookIsUnopened};
 ghost use Rattle.package_table.specs.Readers.{package_names};
 ghost use Rattle.plist_state.specs.Readers.{borrowed_symbols, symbols_with_properties};
 ghost use Rattle.store_reports.specs.Figures.{AreFiguresOf, counts_in, end_of_figures, file_info_text, files_text, half_figures_line, half_text, info_text, sizes_text, known_figure, property_count, symbol_count, told_number, verified_text, version_text, world_text};
@@ -41,7 +41,7 @@ pub fn half_figures(alloc: Global, sight: Sight) -> Result<(HalfFigures, Sight),
         (λ told. (⟦<Sight as Disk>⟧.state told.1).reads ≡ (⟦<Sight as Disk>⟧.state sight).reads) }
     ensures room { IfOk result
         (λ told. (⟦<Sight as Disk>⟧.state told.1).failures ≡ (⟦<Sight as Disk>⟧.state sight).failures) }
-    ensures refused { IfErr result (λ e. LogIsUnopened e (⟦<Sight as Disk>⟧.state sight).reads) }
+    ensures refused { IfErr result (λ e. LookIsUnopened e (⟦<Sight as Disk>⟧.state sight).reads) }
 {
     let log = open_sight(alloc, sight)?;
     let half = log.half();

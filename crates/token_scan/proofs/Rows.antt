@@ -5,13 +5,13 @@ use Rattle.token_scan.specs.declared.mark.Mark.{Mark}
 use Rattle.token_scan.specs.declared.mark.Mark.TheVariants.{Plain, Quoted, Bar}
 use Rattle.token_scan.specs.declared.refusal.ScanRefusal.{ScanRefusal}
 use Rattle.token_scan.specs.declared.refusal.ScanRefusal.TheVariants.{EndOfFile, InvalidCharacter, InvalidTrait, TokenTooLong}
-use Rattle.token_scan.specs.Tokens.{TokenFault, token_in, outside}
+use Rattle.token_scan.specs.Tokens.{ScanFault, token_in, outside}
 
 -- the token of at most two characters at the start of the text
-short : List ℕ → Result (List Mark × ℕ × List ℕ) TokenFault
+short : List ℕ → Result (List Mark × ℕ × List ℕ) ScanFault
 short text = token_in standard 2 0 text
 
-refused_at : ScanRefusal → ℕ → Result (List Mark × ℕ × List ℕ) TokenFault
+refused_at : ScanRefusal → ℕ → Result (List Mark × ℕ × List ℕ) ScanFault
 refused_at refusal at = Err (record { refusal = refusal; at = at })
 
 -- 1 is a character of type invalid

@@ -27,13 +27,13 @@ abbrev pub kind : TypedByte → Syntax
 kind x = if is_character x then x.syntax else Invalid
 
 -- why and where a token is refused
-pub record TokenFault : Type 0 where
+pub record ScanFault : Type 0 where
   pub refusal : ScanRefusal
   pub at : ℕ
 
 -- The marks of the token, the offset after it and the rest of the text, or the first fault. Offsets count the bytes.
 abbrev pub Scanned : Type 0
-Scanned = Result (List Mark × ℕ × List TypedByte) TokenFault
+Scanned = Result (List Mark × ℕ × List TypedByte) ScanFault
 
 -- a refusal at this offset
 abbrev pub fault_of_scan : ScanRefusal → ℕ → Scanned
@@ -121,7 +121,7 @@ typed_text table text = map (typed_byte table) text
 
 -- the marks, the offset after the token and the rest of the bytes, or the first fault
 abbrev pub ScannedBytes : Type 0
-ScannedBytes = Result (List Mark × ℕ × List ℕ) TokenFault
+ScannedBytes = Result (List Mark × ℕ × List ℕ) ScanFault
 
 abbrev pub in_bytes : Scanned → ScannedBytes
 in_bytes (Ok (marks, at, rest)) = Ok (marks, at, map (λ x. x.byte) rest)

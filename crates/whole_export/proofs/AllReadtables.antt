@@ -26,7 +26,7 @@ use Rattle.snapshot_text.specs.BuiltWorlds.{CanBeMade}
 use Rattle.snapshot_text.specs.NamedFunctions.{are_covered}
 use Rattle.snapshot_text.proofs.NamedTables.{put_named}
 use Rattle.world_forms.specs.Readtables.{named_lines, readtable_lines, table_lines}
-use Rattle.world_text.specs.Snapshot.{table_named}
+use Rattle.world_text.specs.Snapshot.{snapshot_readtable}
 use Rattle.export_laws.specs.ExportedTexts.{Makes}
 use Rattle.whole_export.specs.Standard.{ReadsStandard}
 use Rattle.whole_export.proofs.OneReadtable.{table_made}
@@ -54,7 +54,7 @@ grown m n t = by (finite.contains_key m n) (finite.len m) (finite.len (finite.in
 
 longer : (m : Readtables) (s : WorldState) (ns : List Name) → finite.len m ≤ finite.len (put_named m s ns)
 longer m s [] = omega arith
-longer m s (n ∷ ns) = omega (arith, grown m n (table_named s n), longer (finite.insert m n (table_named s n)) s ns)
+longer m s (n ∷ ns) = omega (arith, grown m n (snapshot_readtable s n), longer (finite.insert m n (snapshot_readtable s n)) s ns)
 
 room_for : (m : Readtables) (n : Name) (t : Table) → finite.len (finite.insert m n t) ≤ 64 → not (finite.contains_key m n) && nat_le 64 (finite.len m) ≡ false
 room_for m n t few = by (finite.contains_key m n) (finite.len m) (finite.len (finite.insert m n t)) (len-insert name_total m n t) few
@@ -66,14 +66,14 @@ room_for m n t few = by (finite.contains_key m n) (finite.len m) (finite.len (fi
     by true j k e few = refl
     by false j k e few = small j (omega arith)
 
-got : (m : Readtables) (s : WorldState) (ns : List Name) (q : Name) → finite.get (put_named m s ns) q ≡ cond (list_any (eq q) ns) (Some (table_named s q)) (finite.get m q)
+got : (m : Readtables) (s : WorldState) (ns : List Name) (q : Name) → finite.get (put_named m s ns) q ≡ cond (list_any (eq q) ns) (Some (snapshot_readtable s q)) (finite.get m q)
 got m s [] q = refl
 got m s (n ∷ ns) q =
-    got (finite.insert m n (table_named s n)) s ns q
-    ∙ ap (cond (list_any (eq q) ns) (Some (table_named s q))) (get-insert name_total m n (table_named s n) q)
-    ∙ elim (eq q n) as (λ b. eq q n ≡ b → cond (list_any (eq q) ns) (Some (table_named s q)) (cond b (Some (table_named s n)) (finite.get m q))
-    ≡ cond (b || list_any (eq q) ns) (Some (table_named s q)) (finite.get m q)) [
-      | true ↦ λ e. ap (λ x. cond (list_any (eq q) ns) (Some (table_named s q)) (Some (table_named s x))) (sym (one_name q n e)) ∙ either (list_any (eq q) ns) (Some (table_named s q))
+    got (finite.insert m n (snapshot_readtable s n)) s ns q
+    ∙ ap (cond (list_any (eq q) ns) (Some (snapshot_readtable s q))) (get-insert name_total m n (snapshot_readtable s n) q)
+    ∙ elim (eq q n) as (λ b. eq q n ≡ b → cond (list_any (eq q) ns) (Some (snapshot_readtable s q)) (cond b (Some (snapshot_readtable s n)) (finite.get m q))
+    ≡ cond (b || list_any (eq q) ns) (Some (snapshot_readtable s q)) (finite.get m q)) [
+      | true ↦ λ e. ap (λ x. cond (list_any (eq q) ns) (Some (snapshot_readtable s q)) (Some (snapshot_readtable s x))) (sym (one_name q n e)) ∙ either (list_any (eq q) ns) (Some (snapshot_readtable s q))
       | false ↦ λ e. refl
     ] refl
   where
@@ -93,14 +93,14 @@ first_standard =
     either start false = refl
 
 module _ (s : WorldState) (are : IsReadtables s.packages s.readtables) where
-  table_is : (n : Name) → IsTrue (finite.contains_key s.readtables n) → finite.get s.readtables n ≡ Some (table_named s n)
+  table_is : (n : Name) → IsTrue (finite.contains_key s.readtables n) → finite.get s.readtables n ≡ Some (snapshot_readtable s n)
   table_is n there =
       elim (finite.get s.readtables n) as (λ o. is_some o ≡ true → o ≡ Some (unwrap_or o standard)) [
         | None ↦ λ e. absurd cc
         | Some t ↦ λ e. refl
       ] there
 
-  standard_is : table_named s standard_name ≡ standard
+  standard_is : snapshot_readtable s standard_name ≡ standard
   standard_is = ap (λ o. unwrap_or o standard) are.standard
 
   -- ---- all of them
@@ -128,8 +128,8 @@ module _ (s : WorldState) (are : IsReadtables s.packages s.readtables) where
   all_named : put_named first_readtables s (readtable_names s) ≡ s.readtables
   all_named = same_map name_total name_exact _ _ (λ q.
       got first_readtables s (readtable_names s) q
-      ∙ ap (λ b. cond b (Some (table_named s q)) (finite.get first_readtables q)) (sym (contains_key-keys s.readtables q))
-      ∙ elim (finite.contains_key s.readtables q) as (λ b. finite.contains_key s.readtables q ≡ b → cond b (Some (table_named s q)) (finite.get first_readtables q) ≡ finite.get s.readtables q) [
+      ∙ ap (λ b. cond b (Some (snapshot_readtable s q)) (finite.get first_readtables q)) (sym (contains_key-keys s.readtables q))
+      ∙ elim (finite.contains_key s.readtables q) as (λ b. finite.contains_key s.readtables q ≡ b → cond b (Some (snapshot_readtable s q)) (finite.get first_readtables q) ≡ finite.get s.readtables q) [
         | true ↦ λ there. sym (table_is q there)
         | false ↦ λ absent. none_first q absent
       ] refl)
@@ -154,39 +154,39 @@ module _ (s : WorldState) (are : IsReadtables s.packages s.readtables) where
     Made m rest = Makes functions first whole (with_tables m) (10 ∷ rest)
 
     abbrev IsCovered : Name → Type 0
-    IsCovered n = list_all (is_covered functions.names) (functions_of (table_named s n)) ≡ true
+    IsCovered n = list_all (is_covered functions.names) (functions_of (snapshot_readtable s n)) ≡ true
 
-    one_made : (m : Readtables) (n : Name) (rest : List ℕ) → finite.get m standard_name ≡ Some standard → IsThere n → IsCovered n → finite.len (finite.insert m n (table_named s n)) ≤ 64
-        → Made m (named_lines s n ++ rest) → Made (finite.insert m n (table_named s n)) rest
+    one_made : (m : Readtables) (n : Name) (rest : List ℕ) → finite.get m standard_name ≡ Some standard → IsThere n → IsCovered n → finite.len (finite.insert m n (snapshot_readtable s n)) ≤ 64
+        → Made m (named_lines s n ++ rest) → Made (finite.insert m n (snapshot_readtable s n)) rest
     unfolding named_lines
     one_made m n rest has there covered few made =
         elim (bytes_eq n standard_name) as (λ b. bytes_eq n standard_name ≡ b → Made m ((if b then [] else option_map_or (table_lines n) (finite.get s.readtables n) []) ++ rest)
-        → Made (finite.insert m n (table_named s n)) rest) [
+        → Made (finite.insert m n (snapshot_readtable s n)) rest) [
           | true ↦ λ is made.
               let is_standard : n ≡ standard_name = one_name n standard_name (is_eq-slice_cmp n standard_name ∙ is) in
-              subst (λ k. Made k rest) (sym (table_same m n (table_named s n) (ap (finite.get m) is_standard ∙ has ∙ ap Some (sym (ap (table_named s) is_standard ∙ standard_is))))) made
+              subst (λ k. Made k rest) (sym (table_same m n (snapshot_readtable s n) (ap (finite.get m) is_standard ∙ has ∙ ap Some (sym (ap (snapshot_readtable s) is_standard ∙ standard_is))))) made
           | false ↦ λ other made.
-              let can : CanBeMade m n = record { other = other; standard = has; room = room_for m n (table_named s n) few } in
+              let can : CanBeMade m n = record { other = other; standard = has; room = room_for m n (snapshot_readtable s n) few } in
               table_made functions first whole (with_tables m) (subst packages.AreSoundPackages (sym same) sound) (record { current = reads.current; base = reads.base; user = reads.user }) n
-              (subst (λ p. IsSymbol p (keyword, n)) (sym same) (are.names n there)) can (table_named s n) (subst (λ p. HasKeywordFunctions p (table_named s n)) (sym same) (are.each n (table_named s n) (table_is n there))) covered rest
+              (subst (λ p. IsSymbol p (keyword, n)) (sym same) (are.names n there)) can (snapshot_readtable s n) (subst (λ p. HasKeywordFunctions p (snapshot_readtable s n)) (sym same) (are.each n (snapshot_readtable s n) (table_is n there))) covered rest
               (subst (λ o. Makes functions first whole (with_tables m) (10 ∷ option_map_or (table_lines n) o [] ++ rest)) (table_is n there) made)
         ] refl made
 
     -- the standard readtable is as ever
-    still_standard : (m : Readtables) (n : Name) → finite.get m standard_name ≡ Some standard → finite.get (finite.insert m n (table_named s n)) standard_name ≡ Some standard
+    still_standard : (m : Readtables) (n : Name) → finite.get m standard_name ≡ Some standard → finite.get (finite.insert m n (snapshot_readtable s n)) standard_name ≡ Some standard
     still_standard m n has =
-        get-insert name_total m n (table_named s n) standard_name
-        ∙ elim (eq standard_name n) as (λ b. eq standard_name n ≡ b → cond b (Some (table_named s n)) (finite.get m standard_name) ≡ Some standard) [
-          | true ↦ λ e. ap Some (ap (table_named s) (sym (one_name standard_name n e)) ∙ standard_is)
+        get-insert name_total m n (snapshot_readtable s n) standard_name
+        ∙ elim (eq standard_name n) as (λ b. eq standard_name n ≡ b → cond b (Some (snapshot_readtable s n)) (finite.get m standard_name) ≡ Some standard) [
+          | true ↦ λ e. ap Some (ap (snapshot_readtable s) (sym (one_name standard_name n e)) ∙ standard_is)
           | false ↦ λ e. has
         ] refl
 
-    each_made : (ns : List Name) (m : Readtables) (rest : List ℕ) → finite.get m standard_name ≡ Some standard → All IsThere ns → list_all (λ n. list_all (is_covered functions.names) (functions_of (table_named s n))) ns ≡ true
+    each_made : (ns : List Name) (m : Readtables) (rest : List ℕ) → finite.get m standard_name ≡ Some standard → All IsThere ns → list_all (λ n. list_all (is_covered functions.names) (functions_of (snapshot_readtable s n))) ns ≡ true
         → finite.len (put_named m s ns) ≤ 64 → Made m (flat_map (named_lines s) ns ++ rest) → Made (put_named m s ns) rest
     each_made [] m rest has all covered few made = made
     each_made (n ∷ ns) m rest has all covered few made =
-        let after = finite.insert m n (table_named s n) in
-        let both = and_parts (list_all (is_covered functions.names) (functions_of (table_named s n))) (list_all (λ n. list_all (is_covered functions.names) (functions_of (table_named s n))) ns) covered in
+        let after = finite.insert m n (snapshot_readtable s n) in
+        let both = and_parts (list_all (is_covered functions.names) (functions_of (snapshot_readtable s n))) (list_all (λ n. list_all (is_covered functions.names) (functions_of (snapshot_readtable s n))) ns) covered in
         each_made ns after rest (still_standard m n has) (All-tail IsThere n ns all) both.1 few
         (one_made m n (flat_map (named_lines s) ns ++ rest) has (All-head IsThere n ns all) both.0 (omega (arith, few, longer after s ns))
         (subst (λ cs. Made m cs) (append_assoc (named_lines s n) (flat_map (named_lines s) ns) rest) made))

@@ -9,7 +9,7 @@ use Rattle.canon_printer.specs.Written.{printed_text}
 use Rattle.session_words.specs.declared.content.Content.TheVariants.{World}
 use Rattle.world_forms.specs.Forms.{base_form, current_form, package_form, reading_forms, readtable_form}
 use Rattle.world_forms.specs.Readtables.{set_case_line, table_argument, table_end}
-use Rattle.world_forms.specs.NameTokens.{keyword_argument, line_of_form, value_text}
+use Rattle.world_forms.specs.NameTokens.{keyword_argument, world_form_line, value_text}
 
 left_3 : (a b c rest : List ℕ) → (a ++ b ++ c) ++ rest ≡ a ++ (b ++ (c ++ rest))
 left_3 a b c rest = append_assoc (a ++ b) c rest ∙ append_assoc a b (c ++ rest)
@@ -37,7 +37,7 @@ name_last n = table_argument n ++ codes ")"
 
 module _ (n : Name) (rest : List ℕ) where
   ending : table_end n ++ rest ≡ name_last n ++ 10 ∷ rest
-  ending = append_assoc (table_argument n) (line_of_form (codes ")")) rest ∙ sym (append_assoc (table_argument n) (codes ")") (10 ∷ rest))
+  ending = append_assoc (table_argument n) (world_form_line (codes ")")) rest ∙ sym (append_assoc (table_argument n) (codes ")") (10 ∷ rest))
 
   pub after_1 : (a : List ℕ) → (a ++ table_end n) ++ rest ≡ (a ++ name_last n) ++ 10 ∷ rest
   after_1 a = append_assoc a (table_end n) rest ∙ ap (λ cs. a ++ cs) ending ∙ sym (append_assoc a (name_last n) (10 ∷ rest))
@@ -55,7 +55,7 @@ module _ (n : Name) (rest : List ℕ) where
       let t = table_argument n in
       let k = keyword_argument name in
       let close = codes ")" in
-      left_5 a t close k (line_of_form close) rest
+      left_5 a t close k (world_form_line close) rest
       ∙ ap (λ cs. a ++ (t ++ (close ++ cs))) (sym (append_assoc k close (10 ∷ rest)))
       ∙ ap (λ cs. a ++ cs) (sym (append_assoc t close ((k ++ close) ++ 10 ∷ rest)))
       ∙ sym (right_3 a (name_last n) (k ++ close) (10 ∷ rest))

@@ -22,7 +22,7 @@ use Rattle.snapshot_text.specs.BuiltWorlds.{with_each, with_properties}
 use Rattle.snapshot_text.proofs.KeysSoFar.{AreApart, keys_apart}
 use Rattle.snapshot_text.proofs.PropertyParts.{each_is_list}
 use Rattle.world_forms.specs.Properties.{is_form, plist_lines, property_form, property_line, property_lines}
-use Rattle.world_forms.specs.NameTokens.{line_of_form}
+use Rattle.world_forms.specs.NameTokens.{world_form_line}
 use Rattle.text_laws.specs.Objects.{property_object}
 use Rattle.export_laws.specs.ExportedTexts.{Makes, ReadsAsExported}
 use Rattle.export_laws.proofs.All.{MayBe, all_may_be, each_put}
@@ -200,7 +200,7 @@ module _ (s : WorldState) (sound : IsSoundWorldState s) where
         (record { readtable = as_exported.readtable; base = as_exported.base; current = as_exported.current }) in
         let passes_over : Made now more → Made (with_each now x (filter test ps)) rest
         = list_made x ps now rest its_sound there (All-tail (λ p. IsSymbol t p.0) p ps indicators) (All-tail (λ p. IsValue t p.1) p ps values) as_exported in
-        elim (is_form t text) as (λ b. is_form t text ≡ b → Made now ((if b then line_of_form text else []) ++ more) → Made (with_each now x (cond b (p ∷ filter test ps) (filter test ps))) rest) [
+        elim (is_form t text) as (λ b. is_form t text ≡ b → Made now ((if b then world_form_line text else []) ++ more) → Made (with_each now x (cond b (p ∷ filter test ps) (filter test ps))) rest) [
           | true ↦ λ is made. goes_on (set is (subst (λ cs. Made now cs) (append_assoc text (10 ∷ []) more) made))
           | false ↦ λ is made. passes_over made
         ] refl (subst (λ cs. Made now cs) (append_assoc (property_line t x p) (flat_map (property_line t x) ps) rest) made)

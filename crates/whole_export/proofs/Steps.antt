@@ -30,7 +30,7 @@ use Rattle.canon_printer.specs.Written.{printed_character}
 use Rattle.snapshot_text.specs.BuiltWorlds.{CanBeMade, IsSubFunction, IsWritable, with_table}
 use Rattle.snapshot_text.proofs.TableParts.{made_writable, table_twice}
 use Rattle.world_forms.specs.Readtables.{like_line, set_case_line, kind_argument, macro_line, sub_line, table_argument, table_end}
-use Rattle.world_forms.specs.NameTokens.{character_argument, keyword_argument, line_of_form, symbol_text, value_text}
+use Rattle.world_forms.specs.NameTokens.{character_argument, keyword_argument, world_form_line, symbol_text, value_text}
 use Rattle.text_laws.specs.Objects.{call}
 use Rattle.export_laws.specs.ExportedTexts.{Makes, ReadsAsExported}
 use Rattle.export_laws.proofs.OneForm.{one_more_made}
@@ -199,7 +199,7 @@ module _ (functions : Functions) (first : WorldState) (whole : List ℕ) (base :
         (argument (codes ":STANDARD") z z (codes ")") [] [] (standard_argument functions.names s sound) no_argument))) in
         let begins = codes "(SET-SYNTAX-FROM-CHAR" in
         let same : like_line n c d ++ rest ≡ (40 ∷ op ++ more) ++ 10 ∷ rest
-        = left_5 begins (character_argument c) (character_argument d) (table_argument n) (line_of_form (codes " :STANDARD)")) rest
+        = left_5 begins (character_argument c) (character_argument d) (table_argument n) (world_form_line (codes " :STANDARD)")) rest
         ∙ sym (right_5 begins (character_argument c) (character_argument d) (table_argument n) (codes " :STANDARD)") (10 ∷ rest)) in
         called op is_like more xs vs arguments (omega arith) (with_character_entry t c (entry_at standard d)) rest
         (like_set functions.names s n t writable c d (character c) (character d) (table_form n) z (call_values functions.names s sound more xs vs arguments))

@@ -31,7 +31,7 @@ use Rattle.evaluator.proofs.Widening.{standard_among}
 use Rattle.evaluator.proofs.EarlierOperators.{before_deciding_among, before_places_among}
 use Rattle.form_eval.specs.Acceptance.{accept_over}
 use Rattle.form_eval.proofs.Accepted.{accepted_with_more}
-use Rattle.world_text.specs.Snapshot.{table_named}
+use Rattle.world_text.specs.Snapshot.{snapshot_readtable}
 use Rattle.snapshot_text.specs.NamedFunctions.{are_covered}
 use Rattle.session_words.specs.declared.mode.Mode.{Mode}
 use Rattle.prevalence_store.specs.meaning.Acceptance.{Acceptance, Rules, acceptance_of, accepted_reading, accepts_by, after_by, base_in, between, form_limits, mode_of, package_in, read_by, rules_in_force, setting_by, table_in, transacted_by}
@@ -135,8 +135,8 @@ module _ (fewer more : Functions) (among : AreAmong fewer more) where
 
   world_covered : (w : WorldState) → are_covered fewer.names w ≡ true → are_covered more.names w ≡ true
   world_covered w =
-      weaker (λ n. list_all (is_covered fewer.names) (functions_of (table_named w n))) (λ n. list_all (is_covered more.names) (functions_of (table_named w n)))
-      (λ n. weaker (is_covered fewer.names) (is_covered more.names) covered_too (functions_of (table_named w n))) (readtable_names w)
+      weaker (λ n. list_all (is_covered fewer.names) (functions_of (snapshot_readtable w n))) (λ n. list_all (is_covered more.names) (functions_of (snapshot_readtable w n)))
+      (λ n. weaker (is_covered fewer.names) (is_covered more.names) covered_too (functions_of (snapshot_readtable w n))) (readtable_names w)
 
   pub more_functions : KnowsMore rules_in_force rules_in_force fewer more
   more_functions = record {

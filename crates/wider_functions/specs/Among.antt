@@ -1,6 +1,6 @@
 -- When a program has the macro functions of another one, and perhaps more; and when it has its operators, and perhaps more.
 use Rattle.std.specs.Prelude.{◌≡◌, ◌⊎◌, ◌≤◌, false, List, ℕ, None, IsTrue}
-use Rattle.evaluator.specs.Operators.{AreOperatorsAmong}
+use Rattle.evaluator.specs.Operators.{IsOperatorTableWithin}
 use Rattle.package_table.specs.Table.{Name}
 use Rattle.prevalence_store.specs.meaning.Acceptance.{Rules}
 use Rattle.prevalence_store.specs.meaning.Forgetting.{forget_names}
@@ -20,5 +20,5 @@ pub record AreAmong (fewer more : Functions) : Type 0 where
 pub record AreRulesAmong (fewer more : Rules) : Type 0 where
   pub text_limit : fewer.text_limit ≤ more.text_limit
   pub based : fewer.based ≡ more.based
-  pub operators : (names : List Name) → AreOperatorsAmong (fewer.operators names) (more.operators names)
+  pub operators : (names : List Name) → IsOperatorTableWithin (fewer.operators names) (more.operators names)
   pub forgets : (fewer.forgets ≡ more.forgets) ⊎ ((fewer.forgets ≡ false) × ((names : List Name) → fewer.operators names forget_names ≡ None))

@@ -3,7 +3,7 @@ ghost use Rattle.std.specs.Prelude.{◌≡◌, ℕ, Bool, List};
 ghost use Rattle.disk_trait.specs.Disk.{Image, IsHonest};
 ghost use Rattle.gate_log.specs.Layout.{LogRecord};
 ghost use Rattle.plist_state.specs.State.{WorldState};
-ghost use Rattle.prevalence_store.specs.calls.Open.{IsNoWord, IsOpened, IsUnopened, limit_of};
+ghost use Rattle.prevalence_store.specs.calls.Open.{IsNoWord, IsOpened, IsUnopened, limit_at_open};
 ghost use Rattle.prevalence_store.specs.calls.Store.{StoreView};
 ghost use Rattle.prevalence_store.specs.meaning.Files.{MeansWorld};
 ghost use Rattle.prevalence_store.specs.Theorem.{Keeps, KeepsSome};
@@ -41,7 +41,7 @@ pub fn more_functions_open<D: Disk, R>()
         → (world : WorldState) → AreAmong fewer more
         → IsHonest (D.state disk) → MeansWorld fewer (D.state disk).reads world
         → (refused : IsUnopened more D.state disk whole limit number back)
-        → IsNoWord (D.state disk).mixes (limit_of limit) (D.state disk).reads refused.fault }
+        → IsNoWord (D.state disk).mixes (limit_at_open limit) (D.state disk).reads refused.fault }
 {
     files_keep_their_world::<D>();
 }

@@ -4,7 +4,7 @@ ghost use Rattle.disk_trait.specs.Disk.{Image, IsHonest};
 ghost use Rattle.gate_log.specs.Layout.{LogRecord};
 ghost use Rattle.plist_state.specs.State.{WorldState};
 ghost use Rattle.session_words.specs.declared.mode.Mode.{Mode};
-ghost use Rattle.prevalence_store.specs.calls.Open.{IsNoWord, IsOpened, IsUnopened, limit_of};
+ghost use Rattle.prevalence_store.specs.calls.Open.{IsNoWord, IsOpened, IsUnopened, limit_at_open};
 ghost use Rattle.prevalence_store.specs.calls.Store.{StoreView};
 ghost use Rattle.prevalence_store.specs.meaning.Acceptance.{Acceptance, Rules};
 ghost use Rattle.prevalence_store.specs.meaning.Acceptance.{accepts, accepts_by, after, after_by, rules_in_force};
@@ -51,7 +51,7 @@ pub fn newer_programs_open<D: Disk, R>()
         → (world : WorldState) → AreRulesAmong by rules_in_force → AreAmong fewer more
         → IsHonest (D.state disk) → MeansWorldBy by fewer (D.state disk).reads world
         → (refused : IsUnopened more D.state disk whole limit number back)
-        → IsNoWord (D.state disk).mixes (limit_of limit) (D.state disk).reads refused.fault }
+        → IsNoWord (D.state disk).mixes (limit_at_open limit) (D.state disk).reads refused.fault }
 {
     newer_programs_keep_files();
 }

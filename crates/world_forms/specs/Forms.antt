@@ -11,7 +11,7 @@ use Rattle.plist_state.specs.State.{WorldState}
 use Rattle.canon_printer.specs.Written.{printed_text}
 use Rattle.session_words.specs.declared.content.Content.{Content}
 use Rattle.session_words.specs.declared.content.Content.TheVariants.{World, Data}
-use Rattle.world_forms.specs.NameTokens.{line_of_form, value_text}
+use Rattle.world_forms.specs.NameTokens.{world_form_line, value_text}
 use Rattle.world_forms.specs.Packages.{package_lines}
 use Rattle.world_forms.specs.Properties.{property_lines}
 use Rattle.world_forms.specs.Readtables.{readtable_lines}
@@ -50,6 +50,6 @@ module _ (s : WorldState) where
   -- the forms of what is exported, with a newline after each
   unfoldable pub forms : Content → List ℕ
   forms World =
-      line_of_form (codes "(IN-READTABLE :STANDARD)") ++ package_lines s.packages ++ property_lines s ++ readtable_lines s ++ current_form World
+      world_form_line (codes "(IN-READTABLE :STANDARD)") ++ package_lines s.packages ++ property_lines s ++ readtable_lines s ++ current_form World
       ++ last_newline World
   forms Data = package_lines s.packages ++ property_lines s ++ current_form Data ++ last_newline Data

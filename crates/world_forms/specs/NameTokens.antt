@@ -8,8 +8,8 @@ use Rattle.canon_printer.specs.Names.{with_backslashes, is_escaped_in_bars}
 use Rattle.canon_printer.specs.Written.{printed_text, printed_character}
 
 -- a form on a line of its own
-abbrev pub line_of_form : List ℕ → List ℕ
-line_of_form form = form ++ 10 ∷ []
+abbrev pub world_form_line : List ℕ → List ℕ
+world_form_line form = form ++ 10 ∷ []
 
 -- ---- symbols
 

@@ -13,7 +13,7 @@ use Rattle.plist_state.specs.Properties.{Symbol}
 use Rattle.plist_state.specs.State.{WorldState}
 use Rattle.plist_state.specs.Changes.{plist}
 use Rattle.plist_state.specs.Readers.{symbols_with_properties}
-use Rattle.world_forms.specs.NameTokens.{line_of_form, symbol_text, quoted_text, told_text}
+use Rattle.world_forms.specs.NameTokens.{world_form_line, symbol_text, quoted_text, told_text}
 
 -- the form that sets a property of a symbol
 unfoldable pub property_form : Table → Symbol → Symbol × Object → List ℕ
@@ -33,18 +33,18 @@ ends_at _ n = false
 
 -- whether a form is read on a line of its own: what is too long or too deep is not
 unfoldable pub is_form : Table → List ℕ → Bool
-is_form t text = ends_at (reads (form_setting t) (line_of_form text)) (length text)
+is_form t text = ends_at (reads (form_setting t) (world_form_line text)) (length text)
 
 module _ (t : Table) (x : Symbol) where
   -- the line of the form that sets a property; nothing for one that no form can set
   unfoldable pub property_line : Symbol × Object → List ℕ
-  property_line p = if is_form t (property_form t x p) then line_of_form (property_form t x p) else []
+  property_line p = if is_form t (property_form t x p) then world_form_line (property_form t x p) else []
 
   -- the line on a property that no form can set, with its symbol and its indicator; nothing for another one
   unfoldable pub left_out_line : Symbol × Object → List ℕ
   left_out_line p =
       if is_form t (property_form t x p) then []
-      else line_of_form (told_text (symbol_text x.0 x.1 ++ codes " " ++ symbol_text p.0.0 p.0.1))
+      else world_form_line (told_text (symbol_text x.0 x.1 ++ codes " " ++ symbol_text p.0.0 p.0.1))
 
 module _ (s : WorldState) where
   -- the lines of the forms that set the properties of a symbol

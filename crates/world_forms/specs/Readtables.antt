@@ -16,7 +16,7 @@ use Rattle.readtable_core.specs.Tables.{Table, CharacterEntry, entry_at, standar
 use Rattle.package_table.specs.Table.{Name, keyword}
 use Rattle.plist_state.specs.State.{WorldState, standard_name}
 use Rattle.plist_state.specs.Readers.{readtable_names}
-use Rattle.world_forms.specs.NameTokens.{line_of_form, value_text, keyword_argument, character_argument}
+use Rattle.world_forms.specs.NameTokens.{world_form_line, value_text, keyword_argument, character_argument}
 
 -- the first character with this syntax type, and without a function, in the standard readtable
 unfoldable pub character_of_type : Syntax → Option ℕ
@@ -36,11 +36,11 @@ module _ (name : Name) where
 
   -- the name of the readtable as the last argument, and the end of the form
   abbrev pub table_end : List ℕ
-  table_end = table_argument ++ line_of_form (codes ")")
+  table_end = table_argument ++ world_form_line (codes ")")
 
   -- the form by which a character is as another one in the standard readtable
   unfoldable pub like_line : ℕ → ℕ → List ℕ
-  like_line c there = codes "(SET-SYNTAX-FROM-CHAR" ++ character_argument c ++ character_argument there ++ table_argument ++ line_of_form (codes " :STANDARD)")
+  like_line c there = codes "(SET-SYNTAX-FROM-CHAR" ++ character_argument c ++ character_argument there ++ table_argument ++ world_form_line (codes " :STANDARD)")
 
   -- the form that gives a character a syntax type and no function; nothing, where the standard readtable has no such
   -- character
@@ -76,7 +76,7 @@ module _ (name : Name) where
 
   -- the form that gives the readtable the case of this name
   unfoldable pub set_case_line : List ℕ → List ℕ
-  set_case_line case = codes "(SETF (READTABLE-CASE" ++ table_argument ++ codes ")" ++ keyword_argument case ++ line_of_form (codes ")")
+  set_case_line case = codes "(SETF (READTABLE-CASE" ++ table_argument ++ codes ")" ++ keyword_argument case ++ world_form_line (codes ")")
 
   -- the form that gives the readtable its case; nothing, where that is as in the standard readtable
   unfoldable pub case_line : Case → List ℕ

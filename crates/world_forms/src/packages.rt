@@ -5,9 +5,9 @@ ghost use Rattle.std.specs.List.{flat_map};
 ghost use Rattle.canon_printer.specs.Written.{AddsText};
 ghost use Rattle.package_table.specs.Table.{initial as initial_packages};
 ghost use Rattle.package_table.specs.Readers.{names_of};
-ghost use Rattle.world_forms.specs.NameTokens.{line_of_form, call_text};
+ghost use Rattle.world_forms.specs.NameTokens.{world_form_line, call_text};
 ghost use Rattle.world_forms.specs.Packages.{is_first, package_line, own_line, change_line, import_line, export_form_line, use_line};
-ghost use Rattle.world_forms.specs.Packages.{own_lines, shown_lines, use_lines, package_lines};
+ghost use Rattle.world_forms.specs.Packages.{own_lines, shown_lines, use_package_lines, package_lines};
 
 use crate::texts::{push_call, push_text, push_value};
 use lisp_object::Bytes;
@@ -36,7 +36,7 @@ fn is_first(name: &[u8]) -> bool
 /// A form of an operator and texts.
 fn push_form(text: &mut Vec<u8>, operator: &[u8], texts: &[&[u8]]) -> Result<(), AllocError>
     ensures { OnOk result (AddsText text.old text.new
-        (line_of_form (call_text operator.now (names_of texts.now)))) }
+        (world_form_line (call_text operator.now (names_of texts.now)))) }
 {
     push_call(text, operator, texts)?;
     text.push(b'\n')?;
@@ -189,14 +189,14 @@ fn push_used_names(text: &mut Vec<u8>, owner: &[u8], names: &[Bytes]) -> Result<
 }
 
 /// The packages that a package uses.
-#[tactic(auto, unfolding(crate::specs::Packages::use_lines))]
+#[tactic(auto, unfolding(crate::specs::Packages::use_package_lines))]
 fn push_uses(
     alloc: Global,
     text: &mut Vec<u8>,
     packages: &Packages,
     owner: &[u8],
 ) -> Result<(), AllocError>
-    ensures { OnOk result (AddsText text.old text.new (use_lines packages.now.0 owner.now)) }
+    ensures { OnOk result (AddsText text.old text.new (use_package_lines packages.now.0 owner.now)) }
 {
     let names = listed(packages.uses(alloc, owner))?;
     push_used_names(text, owner, names.as_slice())
@@ -249,7 +249,7 @@ fn push_each_use(
     owners: &[&[u8]],
 ) -> Result<(), AllocError>
     ensures { OnOk result (AddsText text.old text.new
-        (flat_map (use_lines packages.now.0) (names_of owners.now))) }
+        (flat_map (use_package_lines packages.now.0) (names_of owners.now))) }
 {
     for owner in owners {
         push_uses(alloc, text, packages, owner)?;

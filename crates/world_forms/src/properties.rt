@@ -9,7 +9,7 @@ ghost use Rattle.form_reader.specs.Reader.{IsOutcome};
 ghost use Rattle.plist_state.specs.Readers.{borrowed_symbol, borrowed_symbols};
 ghost use Rattle.plist_state.specs.Views.{property_of};
 ghost use Rattle.canon_printer.specs.Written.{AddsText};
-ghost use Rattle.world_forms.specs.NameTokens.{line_of_form, symbol_text, quoted_text, told_text};
+ghost use Rattle.world_forms.specs.NameTokens.{world_form_line, symbol_text, quoted_text, told_text};
 ghost use Rattle.world_forms.specs.Properties.{form_setting, ends_at, property_form, property_line, left_out_line, plist_lines, plist_left_out, property_lines, left_out_lines};
 
 use crate::texts::{push_symbol, push_told, push_value};
@@ -131,7 +131,7 @@ fn push_names(
     property: &Property<'_>,
 ) -> Result<(), AllocError>
     ensures { OnOk result
-        (AddsText left_out.old left_out.new (line_of_form (told_text (symbol_text home.now name.now
+        (AddsText left_out.old left_out.new (world_form_line (told_text (symbol_text home.now name.now
         ++ codes " " ++ symbol_text property.now.home.now property.now.name.now)))) }
 {
     let names = names_of(*left_out.allocator(), home, name, property)?;

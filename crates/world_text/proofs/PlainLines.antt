@@ -25,7 +25,7 @@ use Rattle.package_table.specs.Readers.{package_names, used_names, imports}
 use Rattle.plist_state.specs.State.{WorldState, standard_name}
 use Rattle.plist_state.specs.Sound.{IsSoundWorldState}
 use Rattle.plist_state.specs.Readers.{readtable_names}
-use Rattle.world_text.specs.Snapshot.{made_names, shown_names, imported_name, package_object, packages_object, number, dispatch_object, dispatch_objects, entry_object, entry_objects, readtable_object, table_named, readtables_object, tables_object_in}
+use Rattle.world_text.specs.Snapshot.{made_names, shown_names, imported_name, package_object, packages_object, number, dispatch_object, dispatch_objects, entry_object, entry_objects, readtable_object, snapshot_readtable, readtables_object, tables_object_in}
 use Rattle.world_text.proofs.Ascii.{is_ascii_name, are_ascii_names, all_filtered, package_names_ascii, used_names_ascii, made_names_ascii, shown_names_ascii, imports_ascii}
 use Rattle.world_text.proofs.Worlds.{readtable_names_ascii, current_package_ascii, current_readtable_ascii}
 use Rattle.world_text.proofs.Versions.{third_by}
@@ -119,23 +119,23 @@ plain_readtable : (n : Name) (t : readtable.Table) → is_ascii_name n ≡ true 
 plain_readtable n t e sound = (plain_text n e, (plain_case t.letters, (plain_list (entry_objects t) (plain_entries t sound), plain_nil)))
 
 module _ (s : WorldState) (sound : IsSoundWorldState s) where
-  named_sound : (n : Name) → IsReadtable (table_named s n)
+  named_sound : (n : Name) → IsReadtable (snapshot_readtable s n)
   named_sound n =
       elim (finite.get s.readtables n) as (λ t. finite.get s.readtables n ≡ t → IsReadtable (unwrap_or t standard)) [
         | None ↦ λ _. standard_sound
         | Some t ↦ λ got. (sound.readtables.each n t got).readtable
       ] refl
 
-  plain_tables : (ns : List Name) → are_ascii_names ns ≡ true → ArePlain (map (λ n. readtable_object n (table_named s n)) ns)
+  plain_tables : (ns : List Name) → are_ascii_names ns ≡ true → ArePlain (map (λ n. readtable_object n (snapshot_readtable s n)) ns)
   plain_tables [] e = tt
   plain_tables (n ∷ ns) e =
       let both = and_parts (is_ascii_name n) (are_ascii_names ns) e in
-      (plain_readtable n (table_named s n) both.0 (named_sound n), plain_tables ns both.1)
+      (plain_readtable n (snapshot_readtable s n) both.0 (named_sound n), plain_tables ns both.1)
 
   plain_readtables : IsPlain (readtables_object s)
   plain_readtables =
       let names = filter (λ n. not (bytes_eq n standard_name)) (readtable_names s) in
-      plain_list (map (λ n. readtable_object n (table_named s n)) names)
+      plain_list (map (λ n. readtable_object n (snapshot_readtable s n)) names)
       (plain_tables names (all_filtered is_ascii_name (λ n. not (bytes_eq n standard_name)) (readtable_names s) (readtable_names_ascii s sound)))
 
   plain_package_name : IsPlain (o.text s.current_package)

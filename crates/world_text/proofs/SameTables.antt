@@ -23,7 +23,7 @@ use Rattle.package_table.specs.Table.{Name, name_cmp}
 use Rattle.plist_state.specs.State.{WorldState, standard_name}
 use Rattle.plist_state.specs.Sound.{IsSoundWorldState}
 use Rattle.plist_state.proofs.Orders.{name_total, name_exact, one_name}
-use Rattle.world_text.specs.Snapshot.{number, dispatch_object, dispatch_objects, entry_object, entry_objects, readtable_object, table_named, readtables_object, tables_object, tables_object_1, tables_object_in}
+use Rattle.world_text.specs.Snapshot.{number, dispatch_object, dispatch_objects, entry_object, entry_objects, readtable_object, snapshot_readtable, readtables_object, tables_object, tables_object_1, tables_object_in}
 use Rattle.world_text.proofs.Versions.{IsThird, third_by}
 use Rattle.world_text.proofs.RowsByKey.{rows, same_rows, filtered_rows, same_list, same_options}
 
@@ -181,11 +181,11 @@ of_name q (object.pair a b) = of_text q a
 of_name q _ = false
 
 abbrev table_row : WorldState → Name → Option Object
-table_row s n = cond (not (bytes_eq n standard_name)) (Some (readtable_object n (table_named s n))) None
+table_row s n = cond (not (bytes_eq n standard_name)) (Some (readtable_object n (snapshot_readtable s n))) None
 
 table_of : (s : WorldState) (q x : Name) (b : Object) → table_row s x ≡ Some b → of_name q b ≡ eq_by_cmp name_cmp q x
 table_of s q x b e =
-    elim (not (bytes_eq x standard_name)) as (λ d. cond d (Some (readtable_object x (table_named s x))) None ≡ Some b → of_name q b ≡ eq_by_cmp name_cmp q x) [
+    elim (not (bytes_eq x standard_name)) as (λ d. cond d (Some (readtable_object x (snapshot_readtable s x))) None ≡ Some b → of_name q b ≡ eq_by_cmp name_cmp q x) [
       | true ↦ λ e. ap (of_name q) (ap (λ o. unwrap_or o b) (sym e))
       | false ↦ λ e. absurd cc
     ] e
@@ -203,20 +203,20 @@ same_readtables s t sound_s sound_t e =
     let xs = names s in
     let ys = names t in
     let lists : rows (table_row s) xs ≡ rows (table_row t) ys =
-    sym (filtered_rows (λ n. readtable_object n (table_named s n)) (λ n. not (bytes_eq n standard_name)) xs)
-    ∙ same_list (map (λ n. readtable_object n (table_named s n)) (filter (λ n. not (bytes_eq n standard_name)) xs)) (map (λ n. readtable_object n (table_named t n)) (filter (λ n. not (bytes_eq n standard_name)) ys)) e
-    ∙ filtered_rows (λ n. readtable_object n (table_named t n)) (λ n. not (bytes_eq n standard_name)) ys in
+    sym (filtered_rows (λ n. readtable_object n (snapshot_readtable s n)) (λ n. not (bytes_eq n standard_name)) xs)
+    ∙ same_list (map (λ n. readtable_object n (snapshot_readtable s n)) (filter (λ n. not (bytes_eq n standard_name)) xs)) (map (λ n. readtable_object n (snapshot_readtable t n)) (filter (λ n. not (bytes_eq n standard_name)) ys)) e
+    ∙ filtered_rows (λ n. readtable_object n (snapshot_readtable t n)) (λ n. not (bytes_eq n standard_name)) ys in
     same_map name_total name_exact s.readtables t.readtables (λ q.
     elim (bytes_eq q standard_name) as (λ b. bytes_eq q standard_name ≡ b → finite.get s.readtables q ≡ finite.get t.readtables q) [
       | true ↦ λ is. let first : q ≡ standard_name = one_name q standard_name (is_eq-slice_cmp q standard_name ∙ is) in
           ap (finite.get s.readtables) first ∙ sound_s.readtables.standard ∙ sym (ap (finite.get t.readtables) first ∙ sound_t.readtables.standard)
       | false ↦ λ other.
           by_tables q (finite.get s.readtables q) (finite.get t.readtables q) (λ r got. (sound_s.readtables.each q r got).readtable) (λ r got. (sound_t.readtables.each q r got).readtable)
-          (ap (λ b. cond b (Some (readtable_object q (table_named s q))) None) (contains_key-keys s.readtables q)
-          ∙ ap (λ d. cond (list_any (eq_by_cmp name_cmp q) xs) (cond (not d) (Some (readtable_object q (table_named s q))) None) None) (sym other)
+          (ap (λ b. cond b (Some (readtable_object q (snapshot_readtable s q))) None) (contains_key-keys s.readtables q)
+          ∙ ap (λ d. cond (list_any (eq_by_cmp name_cmp q) xs) (cond (not d) (Some (readtable_object q (snapshot_readtable s q))) None) None) (sym other)
           ∙ same_rows (eq_by_cmp name_cmp) of_name (table_row s) (table_row t) one_name (table_of s) (table_of t) xs ys lists q
-          ∙ ap (λ d. cond (list_any (eq_by_cmp name_cmp q) ys) (cond (not d) (Some (readtable_object q (table_named t q))) None) None) other
-          ∙ ap (λ b. cond b (Some (readtable_object q (table_named t q))) None) (sym (contains_key-keys t.readtables q)))
+          ∙ ap (λ d. cond (list_any (eq_by_cmp name_cmp q) ys) (cond (not d) (Some (readtable_object q (snapshot_readtable t q))) None) None) other
+          ∙ ap (λ b. cond b (Some (readtable_object q (snapshot_readtable t q))) None) (sym (contains_key-keys t.readtables q)))
     ] refl)
   where
     names : WorldState → List Name

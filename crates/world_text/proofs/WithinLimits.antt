@@ -27,7 +27,7 @@ use Rattle.plist_state.specs.Readers.{readtable_names, symbols_with_properties}
 use Rattle.plist_state.specs.Sound as state
 use Rattle.plist_state.specs.Sound.{IsSymbolStorable, IsValue}
 use Rattle.world_text.specs.PrintedTokens.{token_length, AreTokensWithin}
-use Rattle.world_text.specs.Snapshot.{texts, made_names, shown_names, imported_name, package_object, packages_object, symbol_object, plist_object, properties_object, number, dispatch_object, dispatch_objects, entry_object, entry_objects, readtable_object, table_named, readtables_object, tables_object, tables_object_1, tables_object_in}
+use Rattle.world_text.specs.Snapshot.{texts, made_names, shown_names, imported_name, package_object, packages_object, symbol_object, plist_object, properties_object, number, dispatch_object, dispatch_objects, entry_object, entry_objects, readtable_object, snapshot_readtable, readtables_object, tables_object, tables_object_1, tables_object_in}
 use Rattle.world_text.proofs.Versions.{third_by}
 
 -- ---- tokens
@@ -164,7 +164,7 @@ readtable_depth n t = let entries = list_depth 3 (entry_objects t) (entries_deep
 tables_depth : (s : WorldState) → object_depth (readtables_object s) ≤ 6
 tables_depth s =
     let ns = filter (λ n. not (bytes_eq n standard_name)) (readtable_names s) in
-    list_depth 5 (map (λ n. readtable_object n (table_named s n)) ns) (each_deep (λ n. readtable_object n (table_named s n)) 5 (λ n. readtable_depth n (table_named s n)) ns)
+    list_depth 5 (map (λ n. readtable_object n (snapshot_readtable s n)) ns) (each_deep (λ n. readtable_object n (snapshot_readtable s n)) 5 (λ n. readtable_depth n (snapshot_readtable s n)) ns)
 
 third_of_four : (s : WorldState) → object_depth (tables_object s) ≤ 104
 third_of_four s = let deep = tables_depth s in omega arith

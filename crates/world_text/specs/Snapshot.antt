@@ -101,13 +101,13 @@ abbrev pub readtable_object : Name → readtable.Table → Object
 readtable_object name table = list_of (text name ∷ text (case_name table.letters) ∷ list_of (entry_objects table) ∷ [])
 
 -- the readtable of this name
-abbrev pub table_named : WorldState → Name → readtable.Table
-table_named s n = unwrap_or (finite.get s.readtables n) standard
+abbrev pub snapshot_readtable : WorldState → Name → readtable.Table
+snapshot_readtable s n = unwrap_or (finite.get s.readtables n) standard
 
 -- all readtables but STANDARD
 abbrev pub readtables_object : WorldState → Object
 readtables_object s =
-    list_of (map (λ n. readtable_object n (table_named s n)) (filter (λ n. not (bytes_eq n standard_name)) (readtable_names s)))
+    list_of (map (λ n. readtable_object n (snapshot_readtable s n)) (filter (λ n. not (bytes_eq n standard_name)) (readtable_names s)))
 
 -- ---- the third object
 

@@ -10,7 +10,7 @@ ghost use Rattle.readtable_core.specs.Characters.{syntax_number};
 ghost use Rattle.readtable_core.specs.NamedFunctions.{same_entry};
 ghost use Rattle.readtable_core.specs.Tables.{entry_at, standard};
 ghost use Rattle.plist_state.specs.State.{standard_name};
-ghost use Rattle.world_text.specs.Snapshot.{table_named, readtables_object, tables_object, tables_object_1, number, dispatch_object, dispatch_objects, entry_object, entry_objects, readtable_object};
+ghost use Rattle.world_text.specs.Snapshot.{snapshot_readtable, readtables_object, tables_object, tables_object_1, number, dispatch_object, dispatch_objects, entry_object, entry_objects, readtable_object};
 
 use crate::texts::{list_of_three, text_of};
 use lisp_object::{Bytes, Datum};
@@ -221,7 +221,7 @@ fn readtable_of(
 /// The readtable of a name, or the standard one where there is none. For snapshot_text.
 pub fn table_named<'a>(world: &'a World, first: &'a Readtable, name: &[u8]) -> &'a Readtable
     requires { first.now ≡ standard }
-    ensures { result.now ≡ table_named world.now.0 name.now }
+    ensures { result.now ≡ snapshot_readtable world.now.0 name.now }
 {
     match world.readtable(name) {
         Some(table) => table,
@@ -232,7 +232,7 @@ pub fn table_named<'a>(world: &'a World, first: &'a Readtable, name: &[u8]) -> &
 // The readtables of these names, but for the standard one.
 fn readtable_rows(alloc: Global, world: &World, names: &[Bytes]) -> Result<Vec<Datum>, AllocError>
     ensures objects { IfOk result (λ rows. map object_of rows.items
-        ≡ map (λ n. readtable_object n (table_named world.now.0 n))
+        ≡ map (λ n. readtable_object n (snapshot_readtable world.now.0 n))
         (filter (λ n. not (bytes_eq n standard_name)) names.now)) }
     ensures proper { list_all (λ name. list_all is_ascii name) names.now ≡ true
         → IfOk result (λ rows. list_all is_proper rows.items ≡ true) }

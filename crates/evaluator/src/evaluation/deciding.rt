@@ -9,7 +9,7 @@ ghost use Rattle.lisp_operators.specs.EvaluationAnswers.{Answers, done, IsProper
 ghost use Rattle.lisp_operators.specs.Evaluation.{Evaluation};
 ghost use Rattle.evaluator.specs.Value.{choice, sought, guarded, has_truth};
 ghost use Rattle.evaluator.specs.ArgumentValues.{first_value, conditional, asserted, arguments_in, operation_value, HasValue};
-ghost use Rattle.evaluator.specs.Operations.{HasRightCount};
+ghost use Rattle.evaluator.specs.Operations.{OperationTakesCount};
 ghost use Rattle.evaluator.specs.StandIns.{seen};
 ghost use Rattle.evaluator.specs.declared.operation.Operation.TheVariants.{Decides};
 ghost use Rattle.evaluator.specs.declared.wanted.ValueUse.TheVariants.{Truth};
@@ -38,7 +38,7 @@ pub(crate) fn decided(
     items: &[Datum],
     wanted: ValueUse,
 ) -> Result<Evaluated, EvaluationError>
-    requires counted { HasRightCount (Decides decision) (length items.now) }
+    requires counted { OperationTakesCount (Decides decision) (length items.now) }
     requires names { AreFunctionNames names.now }
     requires items { AreArgumentsOf world.old items.now }
     ensures gives { Answers done result world.new.0

@@ -12,7 +12,7 @@ ghost use Rattle.kept_functions.specs.LocalOperators.{takes_so_many, is_own_symb
 ghost use Rattle.lexical_evaluation.specs.Values.{local_value, applied_in, other_value_in};
 ghost use Rattle.lexical_evaluation.specs.Machine.{StepsOn, KeepsOutcome, to_come};
 ghost use Rattle.lexical_evaluation.specs.Ways.{ways, parts_in, IsCallee, is_headed_by_lambda, is_headed_by_function, IsWritten, IsQuoted};
-ghost use Rattle.lexical_evaluation.specs.Arguments.{AreArguments, LeavesArguments, IsCalleeOf};
+ghost use Rattle.lexical_evaluation.specs.Arguments.{AreArguments, StepsToArguments, IsCalleeOf};
 ghost use Rattle.plist_state.specs.Sound.{IsValue};
 
 use super::conditional::headed;
@@ -164,7 +164,7 @@ impl Machine {
         ensures gives { (names : List Name) (s : WorldState)
             → KeepsOutcome (ways names) s s self.old self.new result
             (λ rules around p. local_value rules p operator (to_come forms.items) (parts_in rules around p (to_come forms.items))) }
-        ensures arguments { LeavesArguments self.old self.new result (λ u. IsValue u (to_come forms.items)) }
+        ensures arguments { StepsToArguments self.old self.new result (λ u. IsValue u (to_come forms.items)) }
     {
         match operator {
             LocalOperator::Let => self.bind(false, forms),
@@ -181,7 +181,7 @@ impl Machine {
     fn first_or_nil(&mut self, forms: Vec<Datum>) -> Result<NextStep, EvaluationError>
         ensures gives { StepsOn self.old self.new result
             (λ does rules around p. other_value_in rules around p (to_come forms.items)) }
-        ensures arguments { LeavesArguments self.old self.new result (λ u. AreArguments u forms.items) }
+        ensures arguments { StepsToArguments self.old self.new result (λ u. AreArguments u forms.items) }
     {
         let mut forms = forms;
         match forms.pop() {
@@ -195,7 +195,7 @@ impl Machine {
         requires { AreProper forms.items }
         ensures gives { StepsOn self.old self.new result
             (λ does rules around p. applied_in rules around p (to_come forms.items)) }
-        ensures arguments { LeavesArguments self.old self.new result (λ u. AreArguments u forms.items) }
+        ensures arguments { StepsToArguments self.old self.new result (λ u. AreArguments u forms.items) }
     {
         let mut others = forms;
         match others.pop() {
@@ -215,7 +215,7 @@ impl Machine {
     ) -> Result<NextStep, EvaluationError>
         ensures gives { (x : Object) → IsCallee x (Ok function) → StepsOn self.old self.new result
             (λ does rules around p. applied_in rules around p (pair x (to_come forms.items))) }
-        ensures arguments { LeavesArguments self.old self.new result
+        ensures arguments { StepsToArguments self.old self.new result
             (λ u. IsCalleeOf u function × AreArguments u forms.items) }
     {
         let values = Vec::new(self.alloc);

@@ -6,13 +6,13 @@ ghost use Rattle.package_table.specs.Table.{Name};
 ghost use Rattle.plist_state.specs.State.{WorldState};
 ghost use Rattle.lisp_operators.specs.EvaluationAnswers.{IsProper, AreProper, objects, IsArgument};
 ghost use Rattle.evaluator.specs.Operators.{first, is_interned};
-ghost use Rattle.evaluator.specs.Operations.{HasRightCount, action_of, operator};
+ghost use Rattle.evaluator.specs.Operations.{OperationTakesCount, action_of, operator};
 ghost use Rattle.evaluator.specs.ArgumentValues.{arguments_in, refusal_of_place, place_form_of};
 ghost use Rattle.kept_functions.specs.Counting.{here, then_on};
 ghost use Rattle.lexical_evaluation.specs.Values.{an_operator, steps_over_packages, value_in, values_in, choice_in, action_in, form_value, named_function};
 ghost use Rattle.lexical_evaluation.specs.Machine.{StepsOn, KeepsOutcome, to_come, finished_in, AreProperBindings};
 ghost use Rattle.lexical_evaluation.specs.Ways.{ways, head_shown, head_in, parts_in, is_call};
-ghost use Rattle.lexical_evaluation.specs.Arguments.{AreArguments, MayFinish, LeavesArguments};
+ghost use Rattle.lexical_evaluation.specs.Arguments.{AreArguments, MayFinish, StepsToArguments};
 ghost use Rattle.plist_state.specs.Sound.{IsValue};
 
 use super::head::{FormHead, head_at, toll};
@@ -36,7 +36,7 @@ impl Machine {
         ensures gives { (names : List Name)
             → KeepsOutcome (ways names) world.now.0 world.now.0 self.old self.new result
             (λ rules around p. value_in rules around p (object_of form)) }
-        ensures arguments { LeavesArguments self.old self.new result (λ u. IsArgument u form) }
+        ensures arguments { StepsToArguments self.old self.new result (λ u. IsArgument u form) }
     {
         match form.into_list() {
             Ok((items, tail)) => {
@@ -56,7 +56,7 @@ impl Machine {
         requires atom { (items : List Datum) (tail : Option Datum) → atom ≢ Datum.List items tail }
         ensures gives { StepsOn self.old self.new result
             (λ does rules around p. value_in rules around p (object_of atom)) }
-        ensures arguments { LeavesArguments self.old self.new result (λ u. IsArgument u atom) }
+        ensures arguments { StepsToArguments self.old self.new result (λ u. IsArgument u atom) }
     {
         match &atom {
             Datum::Uninterned(_) => Err(Refused(NOT_A_FORM)),
@@ -77,7 +77,7 @@ impl Machine {
         requires symbol { is_interned (object_of symbol) ≡ true }
         ensures gives { StepsOn self.old self.new result
             (λ does rules around p. value_in rules around p (object_of symbol)) }
-        ensures arguments { LeavesArguments self.old self.new result (λ u. IsArgument u symbol) }
+        ensures arguments { StepsToArguments self.old self.new result (λ u. IsArgument u symbol) }
     {
         let (home, name) = symbol_in(&symbol);
         match value_seen(self.bindings.as_slice(), home, name) {
@@ -101,7 +101,7 @@ impl Machine {
         ensures gives { (names : List Name)
             → KeepsOutcome (ways names) world.now.0 world.now.0 self.old self.new result
             (λ rules around p. value_in rules around p (list_of (objects items.items))) }
-        ensures arguments { LeavesArguments self.old self.new result
+        ensures arguments { StepsToArguments self.old self.new result
             (λ u. IsValue u (list_of (objects items.items))) }
     {
         let Ok((home, name)) = kinds::symbol(&items.as_slice()[0]) else {
@@ -126,7 +126,7 @@ impl Machine {
         ensures gives { (names : List Name) (s : WorldState)
             → KeepsOutcome (ways names) s s self.old self.new result
             (λ rules around p. form_value rules p (head_in items.items) (head_shown names head) (arguments_in items.items) (parts_in rules around p (arguments_in items.items))) }
-        ensures arguments { LeavesArguments self.old self.new result
+        ensures arguments { StepsToArguments self.old self.new result
             (λ u. IsValue u (list_of (objects items.items))) }
     {
         match head {
@@ -149,7 +149,7 @@ impl Machine {
         ensures gives { StepsOn self.old self.new result
             (λ does rules around p. then_on (values_in rules around p (arguments_in items.items))
             (λ xs later. named_function rules (head_in items.items) xs later)) }
-        ensures arguments { LeavesArguments self.old self.new result
+        ensures arguments { StepsToArguments self.old self.new result
             (λ u. IsValue u (list_of (objects items.items))) }
     {
         let mut forms = items;
@@ -176,7 +176,7 @@ impl Machine {
             → steps ≡ steps_over_packages head
             → KeepsOutcome (ways names) s s self.old self.new result
             (λ rules around p. form_value rules p head (an_operator (operator names operation)) (arguments_in items.items) (parts_in rules around p (arguments_in items.items))) }
-        ensures arguments { LeavesArguments self.old self.new result
+        ensures arguments { StepsToArguments self.old self.new result
             (λ u. IsValue u (list_of (objects items.items))) }
     {
         if !operation.counts(items.len() - 1) {
@@ -196,7 +196,7 @@ impl Machine {
         steps: u64,
         forms: Vec<Datum>,
     ) -> Result<NextStep, EvaluationError>
-        requires counted { HasRightCount operation (length forms.items + 1) }
+        requires counted { OperationTakesCount operation (length forms.items + 1) }
         requires forms { AreProper forms.items }
         requires refusal { refusal_of_place operation (to_come forms.items) ≡ None }
         requires place { place ≡ place_form_of operation (to_come forms.items) }
@@ -204,7 +204,7 @@ impl Machine {
             → steps ≡ steps_over_packages head
             → KeepsOutcome (ways names) s s self.old self.new result
             (λ rules around p. action_in head p (action_of names operation) (to_come forms.items) (parts_in rules around p (to_come forms.items))) }
-        ensures arguments { LeavesArguments self.old self.new result (λ u. IsValue u (to_come forms.items)) }
+        ensures arguments { StepsToArguments self.old self.new result (λ u. IsValue u (to_come forms.items)) }
     {
         match operation {
             Operation::Quote => self.begin_quote(forms),
@@ -233,7 +233,7 @@ impl Machine {
             → steps ≡ steps_over_packages head
             → KeepsOutcome (ways names) s s self.old self.new result
             (λ rules around p. action_in head p (action_of names operation) (to_come forms.items) (parts_in rules around p (to_come forms.items))) }
-        ensures arguments { LeavesArguments self.old self.new result (λ u. AreArguments u forms.items) }
+        ensures arguments { StepsToArguments self.old self.new result (λ u. AreArguments u forms.items) }
     {
         let values = Vec::new(self.alloc);
         self.gather(Target::Operation(operation, place, steps), forms, values)
@@ -244,7 +244,7 @@ impl Machine {
         requires { 0 < length forms.items }
         ensures gives { StepsOn self.old self.new result
             (λ does rules around p. here (first (to_come forms.items)) p) }
-        ensures arguments { LeavesArguments self.old self.new result (λ u. AreArguments u forms.items) }
+        ensures arguments { StepsToArguments self.old self.new result (λ u. AreArguments u forms.items) }
     {
         let mut forms = forms;
         match forms.pop() {
@@ -258,7 +258,7 @@ impl Machine {
         requires { 2 ≤ length forms.items }
         ensures gives { StepsOn self.old self.new result
             (λ does rules around p. choice_in rules around p (to_come forms.items)) }
-        ensures arguments { LeavesArguments self.old self.new result (λ u. AreArguments u forms.items) }
+        ensures arguments { StepsToArguments self.old self.new result (λ u. AreArguments u forms.items) }
     {
         let mut forms = forms;
         match forms.pop() {
@@ -278,7 +278,7 @@ impl Machine {
     ) -> Result<NextStep, EvaluationError>
         ensures gives { StepsOn self.old self.new result
             (λ does rules around p. finished_in rules does around target (objects (reverse forms.items)) p) }
-        ensures arguments { LeavesArguments self.old self.new result
+        ensures arguments { StepsToArguments self.old self.new result
             (λ u. MayFinish u target (reverse forms.items) × AreArguments u forms.items) }
     {
         let mut values = forms;

@@ -10,7 +10,7 @@ ghost use Rattle.kept_functions.specs.Environments.{binding};
 ghost use Rattle.kept_functions.specs.KeptFunctions.{binding_shown};
 ghost use Rattle.lexical_evaluation.specs.Values.{is_binding, is_binding_of, are_bindings, variable_named, bound_in};
 ghost use Rattle.lexical_evaluation.specs.Machine.{StepsOn, SeesMore, binding_parts, parts_shown, bound_then, to_come, variables_seen};
-ghost use Rattle.lexical_evaluation.specs.Arguments.{AreArguments, HaveArguments, IsMachineOf, LeavesArguments};
+ghost use Rattle.lexical_evaluation.specs.Arguments.{AreArguments, HaveArguments, IsMachineOf, StepsToArguments};
 ghost use Rattle.package_table.specs.Table.{Table};
 
 use super::conditional::headed;
@@ -167,7 +167,7 @@ impl Machine {
         requires { AreProper forms.items }
         ensures gives { StepsOn self.old self.new result
             (λ does rules around p. bound_in rules around in_turn p (to_come forms.items)) }
-        ensures arguments { LeavesArguments self.old self.new result (λ u. AreArguments u forms.items) }
+        ensures arguments { StepsToArguments self.old self.new result (λ u. AreArguments u forms.items) }
     {
         let mut forms = forms;
         match forms.pop() {
@@ -195,7 +195,7 @@ impl Machine {
         requires made { in_turn ≡ true → made.items ≡ [] }
         ensures gives { StepsOn self.old self.new result
             (λ does rules around p. bound_then rules in_turn around (variables_seen made.items ++ around) (to_come others.items) (to_come forms.items) p) }
-        ensures arguments { LeavesArguments self.old self.new result
+        ensures arguments { StepsToArguments self.old self.new result
             (λ u. AreArguments u others.items × HaveArguments u made.items × AreArguments u forms.items) }
     {
         let mut others = others;
@@ -230,7 +230,7 @@ impl Machine {
         requires { AreProper others.items }
         ensures gives { StepsOn self.old self.new result
             (λ does rules around p. bound_then rules in_turn around (binding_shown binding ∷ (variables_seen made.items ++ around)) (to_come others.items) (to_come forms.items) p) }
-        ensures arguments { LeavesArguments self.old self.new result
+        ensures arguments { StepsToArguments self.old self.new result
             (λ u. IsArgument u binding.value × AreArguments u others.items × HaveArguments u made.items × AreArguments u forms.items) }
     {
         let mut made = made;

@@ -9,7 +9,7 @@ ghost use Rattle.lisp_operators.specs.Members.{symbols_in};
 ghost use Rattle.kept_functions.specs.Environments.{binding};
 ghost use Rattle.kept_functions.specs.KeptFunctions.{stored_definition, IsProperDefinition};
 ghost use Rattle.lexical_evaluation.specs.Machine.{Ways, StepsOn, KeepsOutcome, RunsBody, Spends, Enters, IsCalling, progn_in, written_in, to_come};
-ghost use Rattle.lexical_evaluation.specs.Arguments.{AreArguments, HaveArguments, IsMachineOf, LeavesArguments};
+ghost use Rattle.lexical_evaluation.specs.Arguments.{AreArguments, HaveArguments, IsMachineOf, StepsToArguments};
 ghost use Rattle.plist_state.specs.Sound.{IsValue};
 
 use super::binding::bound_to;
@@ -73,7 +73,7 @@ impl Machine {
         requires definition { IsProperDefinition definition }
         ensures gives { RunsBody self.old self.new result (stored_definition definition.entry)
             (objects values.items) }
-        ensures arguments { LeavesArguments self.old self.new result
+        ensures arguments { StepsToArguments self.old self.new result
             (λ u. IsValue u (stored_definition definition.entry).body × AreArguments u values.items) }
     {
         let made = bound_to(self.alloc, definition.variables, values)?;
@@ -92,7 +92,7 @@ impl Machine {
         ensures gives { (w : Ways) (s : WorldState)
             → IsCalling w → KeepsOutcome w s s self.old self.new result
             (λ rules around p. rules.call (stored_definition definition.entry) (objects values.items) p) }
-        ensures arguments { LeavesArguments self.old self.new result
+        ensures arguments { StepsToArguments self.old self.new result
             (λ u. IsValue u (stored_definition definition.entry).body × AreArguments u values.items) }
     {
         if self.deeper == 0 {
@@ -115,7 +115,7 @@ impl Machine {
         requires { AreProper variables.now }
         ensures gives { StepsOn self.old self.new result
             (λ does rules around p. progn_in rules (binding (symbols_in variables.now) (objects values.items) around) (to_come forms.items) p) }
-        ensures arguments { LeavesArguments self.old self.new result
+        ensures arguments { StepsToArguments self.old self.new result
             (λ u. AreArguments u forms.items × AreArguments u values.items) }
     {
         let made = bound_to(self.alloc, variables, values)?;
@@ -132,7 +132,7 @@ impl Machine {
         requires { AreProper parts.items }
         ensures gives { StepsOn self.old self.new result
             (λ does rules around p. written_in rules around (list_of (objects parts.items)) (objects values.items) p) }
-        ensures arguments { LeavesArguments self.old self.new result
+        ensures arguments { StepsToArguments self.old self.new result
             (λ u. AreArguments u parts.items × AreArguments u values.items) }
     {
         let steps = weight_of_list(parts.as_slice());

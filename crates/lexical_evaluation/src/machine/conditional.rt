@@ -3,7 +3,7 @@ ghost use Rattle.lisp_object.specs.Datum.{object_of};
 ghost use Rattle.lisp_operators.specs.EvaluationAnswers.{IsProper, AreProper, IsArgument};
 ghost use Rattle.lexical_evaluation.specs.Values.{selected_in};
 ghost use Rattle.lexical_evaluation.specs.Machine.{StepsOn, IsHeaded, clause_in, to_come};
-ghost use Rattle.lexical_evaluation.specs.Arguments.{AreArguments, LeavesArguments};
+ghost use Rattle.lexical_evaluation.specs.Arguments.{AreArguments, StepsToArguments};
 
 use super::{Machine, NextStep};
 use crate::frame::Awaiting;
@@ -39,7 +39,7 @@ impl Machine {
         requires { AreProper clauses.items }
         ensures gives { StepsOn self.old self.new result
             (λ does rules around p. selected_in rules around p (to_come clauses.items)) }
-        ensures arguments { LeavesArguments self.old self.new result (λ u. AreArguments u clauses.items) }
+        ensures arguments { StepsToArguments self.old self.new result (λ u. AreArguments u clauses.items) }
     {
         let mut others = clauses;
         match others.pop() {
@@ -65,7 +65,7 @@ impl Machine {
         requires others { AreProper others.items }
         ensures gives { StepsOn self.old self.new result
             (λ does rules around p. clause_in rules around (object_of value) (to_come forms.items) (to_come others.items) p) }
-        ensures arguments { LeavesArguments self.old self.new result
+        ensures arguments { StepsToArguments self.old self.new result
             (λ u. AreArguments u forms.items × AreArguments u others.items × IsArgument u value) }
     {
         if !kinds::is_true(&value) {

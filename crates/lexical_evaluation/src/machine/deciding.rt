@@ -6,13 +6,13 @@ ghost use Rattle.lisp_object.specs.Datum.{object_of};
 ghost use Rattle.package_table.specs.Table.{Name};
 ghost use Rattle.plist_state.specs.State.{WorldState};
 ghost use Rattle.lisp_operators.specs.EvaluationAnswers.{IsProper, AreProper, objects};
-ghost use Rattle.evaluator.specs.Operations.{HasRightCount, action_of};
+ghost use Rattle.evaluator.specs.Operations.{OperationTakesCount, action_of};
 ghost use Rattle.evaluator.specs.Value.{is_clause};
 ghost use Rattle.kept_functions.specs.Counting.{then_on};
 ghost use Rattle.lexical_evaluation.specs.Values.{action_in, sought_value_in, other_value_in, selected_in};
 ghost use Rattle.lexical_evaluation.specs.Machine.{StepsOn, KeepsOutcome, to_come, asserted_in};
 ghost use Rattle.lexical_evaluation.specs.Ways.{ways, parts_in, selected_of};
-ghost use Rattle.lexical_evaluation.specs.Arguments.{AreArguments, LeavesArguments};
+ghost use Rattle.lexical_evaluation.specs.Arguments.{AreArguments, StepsToArguments};
 
 use super::{Machine, NextStep};
 use crate::frame::{Awaiting, Target};
@@ -50,12 +50,12 @@ impl Machine {
         decision: Decision,
         forms: Vec<Datum>,
     ) -> Result<NextStep, EvaluationError>
-        requires counted { HasRightCount (Operation.Decides decision) (length forms.items + 1) }
+        requires counted { OperationTakesCount (Operation.Decides decision) (length forms.items + 1) }
         requires forms { AreProper forms.items }
         ensures gives { (names : List Name) (head : Object) (s : WorldState)
             → KeepsOutcome (ways names) s s self.old self.new result
             (λ rules around p. action_in head p (action_of names (Operation.Decides decision)) (to_come forms.items) (parts_in rules around p (to_come forms.items))) }
-        ensures arguments { LeavesArguments self.old self.new result (λ u. AreArguments u forms.items) }
+        ensures arguments { StepsToArguments self.old self.new result (λ u. AreArguments u forms.items) }
     {
         match decision {
             Decision::And => self.begin_search(false, forms),
@@ -75,7 +75,7 @@ impl Machine {
     fn begin_search(&mut self, truth: bool, forms: Vec<Datum>) -> Result<NextStep, EvaluationError>
         ensures gives { StepsOn self.old self.new result
             (λ does rules around p. sought_value_in rules around truth p (to_come forms.items)) }
-        ensures arguments { LeavesArguments self.old self.new result (λ u. AreArguments u forms.items) }
+        ensures arguments { StepsToArguments self.old self.new result (λ u. AreArguments u forms.items) }
     {
         if !forms.is_empty() {
             return self.seek(truth, forms);
@@ -91,7 +91,7 @@ impl Machine {
         requires { 0 < length forms.items }
         ensures gives { StepsOn self.old self.new result
             (λ does rules around p. then_on (other_value_in rules around p (to_come forms.items)) (λ x later. asserted_in x later)) }
-        ensures arguments { LeavesArguments self.old self.new result (λ u. AreArguments u forms.items) }
+        ensures arguments { StepsToArguments self.old self.new result (λ u. AreArguments u forms.items) }
     {
         let mut forms = forms;
         match forms.pop() {
@@ -108,7 +108,7 @@ impl Machine {
         requires { AreProper forms.items }
         ensures gives { StepsOn self.old self.new result
             (λ does rules around p. selected_of (to_come forms.items) (selected_in rules around p (to_come forms.items))) }
-        ensures arguments { LeavesArguments self.old self.new result (λ u. AreArguments u forms.items) }
+        ensures arguments { StepsToArguments self.old self.new result (λ u. AreArguments u forms.items) }
     {
         if !each_is_clause(forms.as_slice()) {
             return Err(Refused(ARGUMENT_KIND));

@@ -17,7 +17,7 @@ ghost use Rattle.kept_functions.specs.Counting.{here, at_point};
 ghost use Rattle.lexical_evaluation.specs.Values.{named_function, called_operator, steps_over_packages};
 ghost use Rattle.lexical_evaluation.specs.Machine.{Ways, StepsOn, KeepsOutcome, Spends, finished_in, named_by_first, global_value};
 ghost use Rattle.lexical_evaluation.specs.Ways.{ways, performed};
-ghost use Rattle.lexical_evaluation.specs.Arguments.{AreArguments, MayFinish, IsMachineOf, IsLeftOf, LeavesArguments, LeavesGrown};
+ghost use Rattle.lexical_evaluation.specs.Arguments.{AreArguments, MayFinish, IsMachineOf, IsLeftOf, StepsToArguments, StepsToGrown};
 
 use super::head::{is_function, toll};
 use super::{Machine, NextStep};
@@ -146,7 +146,7 @@ impl Machine {
         ensures gives { KeepsOutcome (ways names.now) world.old.0 world.new.0 self.old self.new result
             (λ rules around p. finished_in rules (performed names.now) around target (objects values.items) p) }
         ensures marked { world.new.1 ≡ world.old.1 }
-        ensures arguments { LeavesGrown world.old.0.packages world.new.0.packages self.old self.new result }
+        ensures arguments { StepsToGrown world.old.0.packages world.new.0.packages self.old self.new result }
     {
         match target {
             Target::Operation(operation, place, steps) => {
@@ -185,7 +185,7 @@ impl Machine {
         ensures gives { (w : Ways) → KeepsOutcome w world.old.0 world.new.0 self.old self.new result
             (λ rules around p. at_point p (performed names.now operation place (objects values.items) p.state)) }
         ensures marked { world.new.1 ≡ world.old.1 }
-        ensures arguments { LeavesGrown world.old.0.packages world.new.0.packages self.old self.new result }
+        ensures arguments { StepsToGrown world.old.0.packages world.new.0.packages self.old self.new result }
     {
         world.soundness();
         let made = perform(self.alloc, world, names, operation, place, values);
@@ -206,7 +206,7 @@ impl Machine {
         ensures gives { KeepsOutcome (ways names.now) world.old.0 world.new.0 self.old self.new result
             (λ rules around p. named_function rules (object_of named.now) (objects values.items) p) }
         ensures marked { world.new.1 ≡ world.old.1 }
-        ensures arguments { LeavesGrown world.old.0.packages world.new.0.packages self.old self.new result }
+        ensures arguments { StepsToGrown world.old.0.packages world.new.0.packages self.old self.new result }
     {
         world.soundness();
         let Ok((home, name)) = kinds::symbol(named) else {
@@ -239,7 +239,7 @@ impl Machine {
             → KeepsOutcome w world.old.0 world.new.0 self.old self.new result
             (λ rules around p. called_operator head (operator names.now operation) (action_of names.now operation) (objects values.items) p) }
         ensures marked { world.new.1 ≡ world.old.1 }
-        ensures arguments { LeavesGrown world.old.0.packages world.new.0.packages self.old self.new result }
+        ensures arguments { StepsToGrown world.old.0.packages world.new.0.packages self.old self.new result }
     {
         if !is_function(operation) {
             return Err(Refused(UNKNOWN_OPERATOR));
@@ -263,7 +263,7 @@ impl Machine {
         ensures gives { KeepsOutcome (ways names.now) world.old.0 world.new.0 self.old self.new result
             (λ rules around p. named_by_first rules (objects values.items) p) }
         ensures marked { world.new.1 ≡ world.old.1 }
-        ensures arguments { LeavesGrown world.old.0.packages world.new.0.packages self.old self.new result }
+        ensures arguments { StepsToGrown world.old.0.packages world.new.0.packages self.old self.new result }
     {
         if values.is_empty() {
             return Err(Refused(ARGUMENT_COUNT));
@@ -278,7 +278,7 @@ impl Machine {
         requires { AreProper values.items }
         ensures gives { StepsOn self.old self.new result
             (λ does rules around p. here (first (list_of (objects values.items))) p) }
-        ensures arguments { LeavesArguments self.old self.new result (λ u. AreArguments u values.items) }
+        ensures arguments { StepsToArguments self.old self.new result (λ u. AreArguments u values.items) }
     {
         let mut values = values;
         Ok(NextStep::Give(take_first(self.alloc, &mut values)?))
@@ -294,7 +294,7 @@ impl Machine {
         ensures gives { (w : Ways) → KeepsOutcome w world.old.0 world.new.0 self.old self.new result
             (λ rules around p. at_point p (enter (first (list_of (objects values.items))) p.state)) }
         ensures marked { world.new.1 ≡ world.old.1 }
-        ensures arguments { LeavesGrown world.old.0.packages world.new.0.packages self.old self.new result }
+        ensures arguments { StepsToGrown world.old.0.packages world.new.0.packages self.old self.new result }
     {
         world.soundness();
         let mut values = values;
@@ -309,7 +309,7 @@ impl Machine {
         ensures gives { (names : List Name)
             → KeepsOutcome (ways names) world.now.0 world.now.0 self.old self.new result
             (λ rules around p. global_value rules (objects values.items) p) }
-        ensures arguments { LeavesGrown world.now.0.packages world.now.0.packages self.old self.new result }
+        ensures arguments { StepsToGrown world.now.0.packages world.now.0.packages self.old self.new result }
     {
         if values.is_empty() {
             return Err(Refused(NOT_A_FORM));
@@ -325,7 +325,7 @@ impl Machine {
         ensures gives { (names : List Name) (xs : List Object)
             → KeepsOutcome (ways names) world.now.0 world.now.0 self.old self.new result
             (λ rules around p. global_value rules (object_of symbol.now ∷ xs) p) }
-        ensures arguments { LeavesGrown world.now.0.packages world.now.0.packages self.old self.new result }
+        ensures arguments { StepsToGrown world.now.0.packages world.now.0.packages self.old self.new result }
     {
         world.soundness();
         match kinds::symbol(symbol) {
@@ -344,7 +344,7 @@ impl Machine {
         ensures gives { (w : Ways) → KeepsOutcome w world.old.0 world.new.0 self.old self.new result
             (λ rules around p. at_point p (defun_value (first (list_of (objects values.items))) (rest (list_of (objects values.items))) p.state)) }
         ensures marked { world.new.1 ≡ world.old.1 }
-        ensures arguments { LeavesGrown world.old.0.packages world.new.0.packages self.old self.new result }
+        ensures arguments { StepsToGrown world.old.0.packages world.new.0.packages self.old self.new result }
     {
         world.soundness();
         let mut values = values;
@@ -366,7 +366,7 @@ impl Machine {
             → KeepsOutcome (ways names) world.old.0 world.new.0 self.old self.new result
             (λ rules around p. rules.defined_reader (list_of (objects values.items)) p) }
         ensures marked { world.new.1 ≡ world.old.1 }
-        ensures arguments { LeavesGrown world.old.0.packages world.new.0.packages self.old self.new result }
+        ensures arguments { StepsToGrown world.old.0.packages world.new.0.packages self.old self.new result }
     {
         if values.is_empty() {
             return Err(Refused(ARGUMENT_KIND));

@@ -11,7 +11,7 @@ ghost use Rattle.kept_functions.specs.Counting.{Point, then_on};
 ghost use Rattle.lexical_evaluation.specs.Values.{LexicalRules, values_in, values_at_place_in, values_before_place_in};
 ghost use Rattle.lexical_evaluation.specs.Machine.{StepsOn, finished_in, to_come};
 ghost use Rattle.lexical_evaluation.specs.Ways.{may_be_place};
-ghost use Rattle.lexical_evaluation.specs.Arguments.{AreArguments, LeavesArguments};
+ghost use Rattle.lexical_evaluation.specs.Arguments.{AreArguments, StepsToArguments};
 ghost use Rattle.package_table.specs.Table.{Table};
 
 use super::{Machine, NextStep};
@@ -75,7 +75,7 @@ impl Machine {
         ensures gives { StepsOn self.old self.new result
             (λ does rules around p. then_on (values_at_place_in rules around p (to_come forms.items))
             (λ xs later. finished_in rules does around (Target.Operation operation place 0) xs later)) }
-        ensures arguments { LeavesArguments self.old self.new result (λ u. AreArguments u forms.items) }
+        ensures arguments { StepsToArguments self.old self.new result (λ u. AreArguments u forms.items) }
     {
         let mut others = forms;
         match others.pop() {
@@ -100,7 +100,7 @@ impl Machine {
         ensures gives { StepsOn self.old self.new result
             (λ does rules around p. then_on (values_before_place_in rules around p (to_come forms.items))
             (λ xs later. finished_in rules does around (Target.Operation Operation.Push place 0) xs later)) }
-        ensures arguments { LeavesArguments self.old self.new result (λ u. AreArguments u forms.items) }
+        ensures arguments { StepsToArguments self.old self.new result (λ u. AreArguments u forms.items) }
     {
         let mut others = forms;
         match others.pop() {

@@ -3,7 +3,7 @@ ghost use Rattle.std.specs.Prelude.{◌≡◌};
 ghost use Rattle.lisp_object.specs.Datum.{object_of};
 ghost use Rattle.lisp_operators.specs.EvaluationAnswers.{IsProper, AreProper, IsArgument};
 ghost use Rattle.lexical_evaluation.specs.Machine.{Resumes, IsProperFrame};
-ghost use Rattle.lexical_evaluation.specs.Arguments.{IsFrameOf, LeavesArguments};
+ghost use Rattle.lexical_evaluation.specs.Arguments.{IsFrameOf, StepsToArguments};
 
 use super::{Machine, NextStep};
 use crate::frame::Awaiting;
@@ -21,7 +21,7 @@ impl Machine {
         requires value { IsProper value }
         requires frame { IsProperFrame frame }
         ensures gives { Resumes self.old self.new frame (object_of value) result }
-        ensures arguments { LeavesArguments self.old self.new result
+        ensures arguments { StepsToArguments self.old self.new result
             (λ u. IsFrameOf u frame × IsArgument u value) }
     {
         match frame {

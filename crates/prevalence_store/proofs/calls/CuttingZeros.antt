@@ -6,7 +6,7 @@ use Rattle.disk_trait.specs.Moments.{weaker}
 use Rattle.batched_half.specs.Version3.{mark_of_one_sync}
 use Rattle.gate_log.specs.Layout.{Contents, LogRecord}
 use Rattle.gate_log.specs.Log as gated
-use Rattle.gate_log.specs.HalfInUse.{HalvesValue, IsAt, IsKeptWithOneSync, Shows, first_size_of, generation_at, half_of, mark_in, records_at, size_of, version_at}
+use Rattle.gate_log.specs.HalfInUse.{HalvesValue, IsAt, IsKeptWithOneSync, Shows, first_size_in_use, generation_in_use, half_of, mark_in_file, records_in_use, size_in_use, version_in_use}
 use Rattle.gate_log.specs.Step.{LeavesOther}
 use Rattle.gate_log.specs.Zeros.{LosesZeros}
 use Rattle.gate_log.specs.declared.in_use.HalfInUse.{HalfInUse}
@@ -28,7 +28,7 @@ use Rattle.prevalence_store.proofs.steps.Loading.{describes}
 use Rattle.user_macros.specs.Functions.{Functions}
 
 -- what the file says of the mark is what is kept
-not_of_one : (used : Option HalfInUse) (k : Contents) (image : Image) → Shows used (Some k) image → mark_in (version_at used) (file_of (half_of used) image) ≢ mark_of_one_sync
+not_of_one : (used : Option HalfInUse) (k : Contents) (image : Image) → Shows used (Some k) image → mark_in_file (version_in_use used) (file_of (half_of used) image) ≢ mark_of_one_sync
     → IsKeptWithOneSync used → ⊥
 not_of_one None k image shown apart one = one
 not_of_one (Some half_in_use) k image shown apart one = apart (sym shown.2.mark ∙ one)
@@ -88,7 +88,7 @@ module _ (functions : Functions) {D R : Type 0} (state : D → State) (sound : (
     module _ (calm : (state new.disk).failures ≡ (state old.disk).failures)
         (done : (k : Contents) → IsHonest (state old.disk) → IsAt old.used (state old.disk) (Some k) → IsAt new.used (state new.disk) (Some k))
         (file : (k : Contents) → IsHonest (state old.disk) → IsAt old.used (state old.disk) (Some k) → (IsKeptWithOneSync old.used → ⊥)
-        → LosesZeros (size_of old.used) (file_of (half_of old.used) (state old.disk).reads) (file_of (half_of old.used) (state new.disk).reads)) where
+        → LosesZeros (size_in_use old.used) (file_of (half_of old.used) (state old.disk).reads) (file_of (half_of old.used) (state new.disk).reads)) where
       abbrev later : StoreView D R
       later = store_view_of false new w macros
 
@@ -134,11 +134,11 @@ module _ (functions : Functions) {D R : Type 0} (state : D → State) (sound : (
         failed = record {
           unknown = refl;
           half = ap half_of used;
-          version = ap version_at used;
-          generation = ap generation_at used;
-          record_count = ap records_at used;
-          size = ap size_of used;
-          first_size = ap first_size_of used;
+          version = ap version_in_use used;
+          generation = ap generation_in_use used;
+          record_count = ap records_in_use used;
+          size = ap size_in_use used;
+          first_size = ap first_size_in_use used;
           limit = limit;
           macros = refl;
           other = λ claims.

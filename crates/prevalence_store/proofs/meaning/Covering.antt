@@ -24,7 +24,7 @@ use Rattle.lisp_operators.specs.Readtables.{AreCovered}
 use Rattle.lisp_operators.specs.Evaluation.{Evaluation}
 use Rattle.lisp_reading.specs.Reading.{ReadingResult as Reading, form, empty, refused}
 use Rattle.snapshot_text.specs.NamedFunctions.{are_covered}
-use Rattle.world_text.specs.Snapshot.{table_named}
+use Rattle.world_text.specs.Snapshot.{snapshot_readtable}
 use Rattle.world_text.proofs.Ascii.{keys_pass}
 use Rattle.prevalence_store.specs.meaning.Acceptance.{Acceptance, acceptance_of, accepted_of, accepts, after, between, mode_of, read_in, transaction_value}
 use Rattle.user_macros.specs.Functions.{Functions}
@@ -53,7 +53,7 @@ at_first n =
 
 module _ (names : List Name) where
   abbrev is_named_covered : WorldState → Name → Bool
-  is_named_covered w n = list_all (is_covered names) (named_by (table_named w n))
+  is_named_covered w n = list_all (is_covered names) (named_by (snapshot_readtable w n))
 
   pub covers : (w : WorldState) → are_covered names w ≡ true → AreCovered names w.readtables
   covers w all n t there =
@@ -119,4 +119,4 @@ module _ (functions : Functions) where
 pub registered_covers : (names registered : List Name) → ((name : Name) → is_among registered name ≡ is_among names name)
     → (w : WorldState) → are_covered registered w ≡ are_covered names w
 registered_covers names registered same w =
-    λ i. list_all (λ n. list_all (λ name. is_standard name || (is_dispatch_name name || same name i)) (named_by (table_named w n))) (readtable_names w)
+    λ i. list_all (λ n. list_all (λ name. is_standard name || (is_dispatch_name name || same name i)) (named_by (snapshot_readtable w n))) (readtable_names w)

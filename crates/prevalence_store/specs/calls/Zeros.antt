@@ -3,7 +3,7 @@ use Rattle.std.specs.Prelude.{◌≡◌, ◌≢◌, ◌⊎◌, ℕ, Bool, true, 
 use Rattle.disk_trait.specs.Disk.{State, IsHonest, file_of}
 use Rattle.disk_trait.specs.Half.{opposite_of}
 use Rattle.batched_half.specs.Version3.{mark_of_one_sync}
-use Rattle.gate_log.specs.HalfInUse.{mark_in}
+use Rattle.gate_log.specs.HalfInUse.{mark_in_file}
 use Rattle.gate_log.specs.Layout.{Contents}
 use Rattle.gate_log.specs.Zeros.{LosesZeros}
 use Rattle.lisp_object.specs.declared.refusal.TheConstants.{DEVICE, NO_MEMORY, REOPEN}
@@ -23,7 +23,7 @@ module _ (functions : Functions) {D R : Type 0} (state : D → State) (old new :
           → Describes new k (state new.disk).reads
       -- where none were written, nothing is done
       pub still : wrote ≡ false → new ≡ old
-      pub file : wrote ≡ true → IsHonest (state old.disk) → mark_in old.version (file_of old.half (state old.disk).reads) ≢ mark_of_one_sync
+      pub file : wrote ≡ true → IsHonest (state old.disk) → mark_in_file old.version (file_of old.half (state old.disk).reads) ≢ mark_of_one_sync
           → LosesZeros old.size (file_of old.half (state old.disk).reads) (file_of old.half (state new.disk).reads)
       pub other : IsHonest (state old.disk) → LeavesAlone (opposite_of old.half) (state old.disk) (state new.disk)
       pub failures : (state new.disk).failures ≡ (state old.disk).failures

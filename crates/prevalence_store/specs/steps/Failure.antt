@@ -18,12 +18,12 @@ failure_number unlogged.DeviceFault = DEVICE
 failure_number unlogged.OutOfMemory = NO_MEMORY
 
 -- whether the device failed
-abbrev pub is_device_failure : Unlogged → Bool
-is_device_failure unlogged.Full = false
-is_device_failure unlogged.DeviceFault = true
-is_device_failure unlogged.OutOfMemory = false
+abbrev pub is_unlogged_by_device : Unlogged → Bool
+is_unlogged_by_device unlogged.Full = false
+is_unlogged_by_device unlogged.DeviceFault = true
+is_unlogged_by_device unlogged.OutOfMemory = false
 
 -- the call ended with a fault of the device
 abbrev pub is_fault : {T : Type 0} → Result T Unlogged → Bool
 is_fault (Ok value) = false
-is_fault (Err cause) = is_device_failure cause
+is_fault (Err cause) = is_unlogged_by_device cause

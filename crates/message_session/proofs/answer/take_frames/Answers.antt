@@ -7,7 +7,7 @@ use Rattle.client_table.specs.declared.asked.AnyRequest.{AnyRequest}
 use Rattle.disk_trait.specs.Disk.{IsHonest}
 use Rattle.message_frames.specs.Frames.{Sent, answer_bytes, sent_frame}
 use Rattle.message_laws.proofs.Tidy.{sound_tidy}
-use Rattle.message_session.specs.FrameAnswers.{AskAlike, answered_bytes, answers_to}
+use Rattle.message_session.specs.FrameAnswers.{AskAlike, answered_bytes, frame_of_each_answer}
 use Rattle.message_session.specs.Account.{MessageAccount, AnswersAreStored, with_frames}
 use Rattle.message_session.specs.MessageSessions.{AreFramesAnswered, HasCarriedOut}
 use Rattle.message_session.specs.Standing.{FramesComeNext, RestsAt}
@@ -55,8 +55,8 @@ bytes_made : (g : Over) (c : In-Ok-bytes_of g) (w : WorldState) → c.args.store
 bytes_made g c w known =
     let asked = given g c w known in
     c.in-Ok-bytes_of.ensures
-    ∙ ap (λ answers. flat_map answer_bytes (answers_to (map sent_frame (take (count_of g c) c.args.frames.now)) (map told_in answers))) c.as_slice-2.ensures.value
-    ∙ ap (λ fs. flat_map answer_bytes (answers_to fs (map told_in c.in-Ok-answer_first_asked.replies.answers.items))) (as_taken g c)
+    ∙ ap (λ answers. flat_map answer_bytes (frame_of_each_answer (map sent_frame (take (count_of g c) c.args.frames.now)) (map told_in answers))) c.as_slice-2.ensures.value
+    ∙ ap (λ fs. flat_map answer_bytes (frame_of_each_answer fs (map told_in c.in-Ok-answer_first_asked.replies.answers.items))) (as_taken g c)
     ∙ bytes_are g.R.Meaning.Meaning.functions g.D.Disk.state c.args.store.now c.answer_first_asked.new.store w c.args.course.now.last
     (c.its_world_is_sound.ensures w known) (taken g c) asked.0 asked.1 c.in-Ok-answer_first_asked.replies asked.2.0
 

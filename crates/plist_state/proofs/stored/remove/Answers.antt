@@ -5,7 +5,7 @@ use Rattle.plist_state.specs.Properties.{without_value_by}
 use Rattle.plist_state.specs.Lists.{NumberedLists, same_number, plist_of_number}
 use Rattle.plist_state.specs.Views.{NumberedRest, Rows, rest_of, lists_in}
 use Rattle.plist_state.specs.Journal.{marks_of, ContinuesJournal}
-use Rattle.plist_state.specs.OverwrittenValues.{LeadsBackAs}
+use Rattle.plist_state.specs.OverwrittenValues.{OverwriteLeadsBackAs}
 use Rattle.plist_state.proofs.Unnoted.{property_noted_as}
 use Rattle.plist_state.proofs.Lists.{without-absent, none_shown_as}
 use Rattle.plist_state.proofs.ListRows.{with_row_same, some_in, wider_both}
@@ -26,8 +26,8 @@ returns-clause-marked c =
     let ms = marks_of c.args.marks.now.items in
     let ns = marks_of c.push_note.new.marks.items in
     let before = rest_of c.args.stored.now in
-    let alike : LeadsBackAs (marks_of c.reserve_note.new.marks.items) c.args.number c.count-count.result c.in-Some.change c.as_noted-change.result =
-    subst (λ (vs : List (Vec Note)). LeadsBackAs (marks_of vs) c.args.number c.count-count.result c.in-Some.change c.as_noted-change.result) c.as_slice-2.ensures.value c.as_noted-change.ensures.back in
+    let alike : OverwriteLeadsBackAs (marks_of c.reserve_note.new.marks.items) c.args.number c.count-count.result c.in-Some.change c.as_noted-change.result =
+    subst (λ (vs : List (Vec Note)). OverwriteLeadsBackAs (marks_of vs) c.args.number c.count-count.result c.in-Some.change c.as_noted-change.result) c.as_slice-2.ensures.value c.as_noted-change.ensures.back in
     subst (λ (u : NumberedRest). ContinuesJournal ms before ns u) (sym c.tidy_unmarked.ensures.same)
     (property_noted_as ms (marks_of c.reserve_note.new.marks.items) ns c.in_ok-reserve_note.ensures.same
     c.args.number c.count-count.result c.in-Some.change c.as_noted-change.result alike c.push_note.ensures c.as_noted-change.ensures.proper
