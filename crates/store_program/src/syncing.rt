@@ -1,7 +1,7 @@
 //! The files of a folder, of which is said what the words ask for.
-ghost use Rattle.std.specs.Prelude.{◌≡◌, IfOk};
+ghost use Rattle.std.specs.Prelude.{◌≡◌, false, IfOk};
 ghost use Rattle.disk_trait.specs.Disk.{IsMixing};
-ghost use Rattle.command_words.specs.declared.way.Syncs.TheVariants.{One};
+ghost use Rattle.command_words.specs.declared.way.Syncs.TheVariants.{One, Two};
 
 use command_words::Syncs;
 use disk_trait::{Disk, HostDisk, HostError, IfMissing};
@@ -30,7 +30,8 @@ impl Folders for Syncing<'_> {
 
     ghost opens = { λ syncing folder if_missing result. IfOk result (λ disk.
         ((⟦<HostDisk as Disk>⟧.state disk).failures ≡ 0)
-        × (syncing.syncs ≡ One → IsMixing (⟦<HostDisk as Disk>⟧.state disk))) };
+        × (syncing.syncs ≡ One → IsMixing (⟦<HostDisk as Disk>⟧.state disk))
+        × (syncing.syncs ≡ Two → (⟦<HostDisk as Disk>⟧.state disk).mixes ≡ false)) };
 
     fn open_files(&self, folder: &str, if_missing: IfMissing) -> Result<HostDisk, HostError> {
         let disk = HostDisk::open_files(self.rt, folder, if_missing)?;
@@ -40,9 +41,11 @@ impl Folders for Syncing<'_> {
 
 // The disk, of which is said what the syncs ask for.
 fn kept_by(disk: HostDisk, syncs: Syncs) -> HostDisk
-    requires { (⟦<HostDisk as Disk>⟧.state disk).failures ≡ 0 }
+    requires failures { (⟦<HostDisk as Disk>⟧.state disk).failures ≡ 0 }
+    requires unclaimed { (⟦<HostDisk as Disk>⟧.state disk).mixes ≡ false }
     ensures room { (⟦<HostDisk as Disk>⟧.state result).failures ≡ 0 }
     ensures mixes { syncs ≡ Syncs.One → IsMixing (⟦<HostDisk as Disk>⟧.state result) }
+    ensures unclaimed { syncs ≡ Syncs.Two → (⟦<HostDisk as Disk>⟧.state result).mixes ≡ false }
 {
     match syncs {
         Syncs::One => disk.with_mixing_writes(),
