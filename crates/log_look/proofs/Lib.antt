@@ -11,3 +11,4 @@ pub mod Opening
 pub mod OverZeros
 pub mod Reading
 pub mod Sights
+pub mod Unsettled

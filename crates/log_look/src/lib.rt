@@ -4,7 +4,7 @@
 //! start to its end, and the headers of both halves before and after. Where the half is still the one in use, and of the same
 //! generation, its bytes hold what it held at one moment in between (`WasMeant` in `specs/LookResults.antt`): they were read forward, and the
 //! log writes a record, or a batch, behind its closed gate before it opens that gate; or, with one sync, over zeros, and then what is held is what
-//! stands before the first 0. Else it looks again.
+//! stands before the first 0. Where a batch was seen behind that 0, and the 0 is none any more, it was written meanwhile. Else it looks again.
 //!
 //! What it rests on: nobody but the log of a store writes the two files (`AreFilesAppended` in `specs/FilesDuringLook.antt`), and a read gives
 //! what was there when it was read (`LiveFiles`). Where a half that is kept with one sync was cut short by a crash, the first append after an
@@ -16,7 +16,8 @@
 //! - `live`: the trait `LiveFiles`, two files that somebody else may be writing. `host`: `HostFiles`, two of the operating system,
 //!   and `look_into`, a look into the files of a folder.
 //! - `moments`: `MomentFiles`, two files in memory that change from read to read: an honest one, for tests.
-//! - `tries`: the look, in tries. `whole` reads a file to its end, and `heads` the headers.
+//! - `tries`: the look, in tries. `whole` reads a file to its end, `settled` sees to it that a batch that was seen was not written behind one that
+//!   was not, and `heads` reads the headers.
 //! - `sight`: `Sight`, the bytes that were seen, as a disk that takes no write.
 //! - `opened`: the log of a sight. `cut`: a sight with no more than its first records.
 //! - `error`: why a look was not had, or nothing is told of what was seen.
@@ -31,6 +32,7 @@ mod laws;
 mod live;
 mod moments;
 mod opened;
+mod settled;
 mod sight;
 mod tries;
 mod whole;

@@ -11,7 +11,7 @@ use disk_trait::Half;
 use std::alloc::Global;
 
 /// A piece of a half from offset `at` on, of `size` bytes at most.
-fn read_piece<F: LiveFiles>(
+pub(crate) fn read_piece<F: LiveFiles>(
     alloc: Global,
     files: &mut F,
     half: Half,
