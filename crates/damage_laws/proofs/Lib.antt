@@ -1,3 +1,4 @@
 pub mod Parting
 mod NearRecords
+mod LastBatch
 mod NearHalves

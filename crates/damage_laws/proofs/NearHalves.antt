@@ -5,14 +5,16 @@ use Rattle.std.specs.Int.{from_be_bytes, to_be_bytes, w32, w64}
 use Rattle.std.proofs.lemmas.Nat.{from_be_bytes-to_be_bytes_4, from_be_bytes-to_be_bytes_8}
 use Rattle.crc32c.specs.Register.{crc32c}
 use Rattle.crc32c.proofs.Bits.{sum_fits}
-use Rattle.batch_bytes.specs.Batch.{LogRecord, IsLogRecord, batch_bytes}
+use Rattle.batch_bytes.specs.Batch.{LogRecord, IsLogRecord, IsPlain, batch_bytes}
+use Rattle.batch_bytes.specs.Reading.{IsUnfinishedBatch}
 use Rattle.batch_bytes.proofs.Records.{same_pieces}
 use Rattle.batched_half.specs.Contents.{Contents}
 use Rattle.batched_half.proofs.OneVersion3.{batches_same}
 use Rattle.batched_half.specs.PlaceReading.{records_size}
-use Rattle.batched_half.specs.Version3.{BeginsWithNoMark, HoldsBatches, IsBehind, IsManner, Manner, batch_entries, batches_front, half_head, head_fields, mark_of_two_syncs}
-use Rattle.damage_laws.specs.Damage.{AgreeAsFarAsBothGo, BeginWith, DifferInOneByte, IsMarkAt}
-use Rattle.damage_laws.proofs.Parting.{first_or_later, moved, not_itself, parted, sum_changes}
+use Rattle.batched_half.specs.Version3.{BeginsWithNoMark, HoldsBatches, IsBehind, IsManner, Manner, batch_entries, batches_front, half_head, head_fields, mark_of_one_sync, mark_of_two_syncs}
+use Rattle.damage_laws.specs.Damage.{AgreeAsFarAsBothGo, BeginWith, DifferInOneByte, IsMarkAt, LacksLastBatch}
+use Rattle.damage_laws.proofs.LastBatch.{only_last}
+use Rattle.damage_laws.proofs.Parting.{DiffersPast, first_or_later, moved, not_itself, parted, sum_changes}
 use Rattle.damage_laws.proofs.NearRecords.{AreNear, all_near, hidden}
 
 length-fields : (k : Contents) (manner : Manner) → IsManner manner → length (head_fields k manner) ≡ 31
@@ -165,30 +167,72 @@ module _ (k j : Contents) (file other : List ℕ) (h : HoldsBatches k file) (g :
   none_hidden : (more : List LogRecord) → k.entries ≡ j.entries ++ more → 0 < length more → k ≡ j → ⊥
   none_hidden more is left same = absurd (omega (arith, left, ap (λ (c : Contents). length c.entries) same, ap length is, length-append j.entries more))
 
-  no_mark_behind : g.manner.mark ≡ mark_of_two_syncs → IsBehind g.manner.mark g.behind → BeginsWithNoMark g.behind
-  no_mark_behind two (inl closed) = closed.1
-  no_mark_behind two (inr one) = absurd (omega (arith, two, one.0))
+  abbrev batch_parts : List ℕ
+  batch_parts = flat_map (batch_bytes h.manner.mark) h.batches ++ h.behind
 
-  pub mark_hides : (d : DifferInOneByte file other) → h.manner.mark ≡ mark_of_two_syncs → (more : List LogRecord) → k.entries ≡ j.entries ++ more → 0 < length more
-      → IsMarkAt mark_of_two_syncs (41 + length k.snapshot + records_size j.entries) d
-  mark_hides d two more is left = elim (parted (half_head k h.manner h.followed) (half_head j g.manner g.followed) body body2 heads_long (of_parts d)) [
+  abbrev batch_parts2 : List ℕ
+  batch_parts2 = flat_map (batch_bytes g.manner.mark) g.batches ++ g.behind
+
+  -- where records are missing, the byte stands behind the snapshot
+  past_snapshot : (d : DifferInOneByte file other) (more : List LogRecord) → k.entries ≡ j.entries ++ more → 0 < length more → (fields ≡ fields2) × DiffersPast (41 + length k.snapshot) d batch_parts batch_parts2
+  past_snapshot d more is left = elim (parted (half_head k h.manner h.followed) (half_head j g.manner g.followed) body body2 heads_long (of_parts d)) [
     | inl head ↦
         let same = followed_alone head.0 head.1 in
         absurd (none_hidden more is left (batches_same k j other (followed_as_other same.0 same.1 head.1) g))
     | inr past ↦
         let same = same_fields past.0 in
-        elim (parted k.snapshot j.snapshot (flat_map (batch_bytes h.manner.mark) h.batches ++ h.behind) (flat_map (batch_bytes g.manner.mark) g.batches ++ g.behind) (same_length same.0) past.1.0) [
+        elim (parted k.snapshot j.snapshot batch_parts batch_parts2 (same_length same.0) past.1.0) [
           | inl in_snapshot ↦ absurd (sum_changes k.snapshot j.snapshot in_snapshot.0 (sym (same_sum k.snapshot j.snapshot same.1)))
-          | inr rest ↦
-              let two2 : g.manner.mark ≡ mark_of_two_syncs = sym (same_mark same.0) ∙ two in
-              let found = hidden h.batches g.batches h.behind g.behind more h.some g.some
-              (subst (AllByRecursion IsLogRecord) h.entries h.fit) (subst (AllByRecursion IsLogRecord) g.entries g.fit) (no_mark_behind two2 g.may_stand)
-              (moved (flat_map (batch_bytes h.manner.mark) h.batches ++ h.behind) (flat_map (batch_bytes mark_of_two_syncs) h.batches ++ h.behind) (flat_map (batch_bytes g.manner.mark) g.batches ++ g.behind) (flat_map (batch_bytes mark_of_two_syncs) g.batches ++ g.behind)
-              (ap (λ (m : ℕ). flat_map (batch_bytes m) h.batches ++ h.behind) two) (ap (λ (m : ℕ). flat_map (batch_bytes m) g.batches ++ g.behind) two2) rest.1.0)
-              (sym h.entries ∙ is ∙ ap (λ (l : List LogRecord). l ++ more) g.entries) left in
+          | inr rest ↦ (
+            same.0,
+            (
+              rest.1.0,
               record {
-                was_mark = past.1.1.was_is ∙ rest.1.1.was_is ∙ found.was_mark;
-                place = omega (arith, past.1.1.at, rest.1.1.at, found.place, length-head k h.manner h.followed h.manner_is, ap records_size g.entries);
-              }
+                at = omega (arith, past.1.1.at, rest.1.1.at, length-head k h.manner h.followed h.manner_is);
+                was_is = past.1.1.was_is ∙ rest.1.1.was_is;
+              },
+            ),
+          )
         ]
   ]
+
+  no_mark_behind : g.manner.mark ≡ mark_of_two_syncs → IsBehind g.manner.mark g.behind → BeginsWithNoMark g.behind
+  no_mark_behind two (inl closed) = closed.1
+  no_mark_behind two (inr one) = absurd (omega (arith, two, one.0))
+
+  unfinished_behind : g.manner.mark ≡ mark_of_one_sync → IsBehind g.manner.mark g.behind → IsUnfinishedBatch mark_of_one_sync g.behind
+  unfinished_behind one (inl two) = absurd (omega (arith, one, two.0))
+  unfinished_behind one (inr unfinished) = unfinished.1
+
+  -- batches with the mark of a manner
+  abbrev with_mark : (mark : ℕ) → h.manner.mark ≡ mark → g.manner.mark ≡ mark → DifferInOneByte batch_parts batch_parts2
+      → DifferInOneByte (flat_map (batch_bytes mark) h.batches ++ h.behind) (flat_map (batch_bytes mark) g.batches ++ g.behind)
+  with_mark mark is is2 d =
+      moved batch_parts (flat_map (batch_bytes mark) h.batches ++ h.behind) batch_parts2 (flat_map (batch_bytes mark) g.batches ++ g.behind)
+      (ap (λ (m : ℕ). flat_map (batch_bytes m) h.batches ++ h.behind) is) (ap (λ (m : ℕ). flat_map (batch_bytes m) g.batches ++ g.behind) is2) d
+
+  abbrev missing : (more : List LogRecord) → k.entries ≡ j.entries ++ more → batch_entries h.batches ≡ batch_entries g.batches ++ more
+  missing more is = sym h.entries ∙ is ∙ ap (λ (l : List LogRecord). l ++ more) g.entries
+
+  pub mark_hides : (d : DifferInOneByte file other) → h.manner.mark ≡ mark_of_two_syncs → (more : List LogRecord) → k.entries ≡ j.entries ++ more → 0 < length more
+      → IsMarkAt mark_of_two_syncs (41 + length k.snapshot + records_size j.entries) d
+  mark_hides d two more is left =
+      let past = past_snapshot d more is left in
+      let two2 : g.manner.mark ≡ mark_of_two_syncs = sym (same_mark past.0) ∙ two in
+      let found = hidden h.batches g.batches h.behind g.behind more h.some g.some
+      (subst (AllByRecursion IsLogRecord) h.entries h.fit) (subst (AllByRecursion IsLogRecord) g.entries g.fit) (no_mark_behind two2 g.may_stand)
+      (with_mark mark_of_two_syncs two two2 past.1.0) (missing more is) left in
+      record {
+        was_mark = past.1.1.was_is ∙ found.was_mark;
+        place = omega (arith, past.1.1.at, found.place, ap records_size g.entries);
+      }
+
+  pub last_hides : DifferInOneByte file other → h.manner.mark ≡ mark_of_one_sync → (more : List LogRecord) → k.entries ≡ j.entries ++ more → 0 < length more
+      → LacksLastBatch h.batches j.entries
+  last_hides d one more is left =
+      let past = past_snapshot d more is left in
+      let one2 : g.manner.mark ≡ mark_of_one_sync = sym (same_mark past.0) ∙ one in
+      subst (LacksLastBatch h.batches) (sym g.entries)
+      (only_last h.batches g.batches h.behind g.behind more h.some g.some
+      (subst (AllByRecursion IsLogRecord) h.entries h.fit) (subst (AllByRecursion IsLogRecord) g.entries g.fit) (subst (AllByRecursion IsPlain) h.entries (h.plain one))
+      (unfinished_behind one2 g.may_stand) (with_mark mark_of_one_sync one one2 past.1.0) (missing more is) left)

@@ -163,7 +163,7 @@ batches_near own (e ∷ es) (f ∷ fs) behind beyond fit fit2 on near =
     (ap (λ (x : LogRecord). x ∷ es) one.entry_is ∙ ap (λ (l : List LogRecord). f ∷ l) rest.0, rest.1)
 
 -- the same batch, and the byte stands behind it
-batches_altered : (own : ℕ) (entries others : List LogRecord) (behind beyond : List ℕ) → AllByRecursion IsLogRecord entries → AllByRecursion IsLogRecord others
+pub batches_altered : (own : ℕ) (entries others : List LogRecord) (behind beyond : List ℕ) → AllByRecursion IsLogRecord entries → AllByRecursion IsLogRecord others
     → goes_on entries ≡ goes_on others → (d : DifferInOneByte (batch_bytes own entries ++ behind) (batch_bytes own others ++ beyond))
     → (entries ≡ others) × DiffersPast (length (batch_bytes own entries)) d behind beyond
 unfolding batch_bytes
@@ -188,11 +188,11 @@ batches_altered own (e ∷ es) (f ∷ fs) behind beyond fit fit2 on d =
 
 -- ---- all batches of a half
 
-fit_parts : (xs ys : List LogRecord) → AllByRecursion IsLogRecord (xs ++ ys) → AllByRecursion IsLogRecord xs × AllByRecursion IsLogRecord ys
-fit_parts [] ys all = (tt, all)
-fit_parts (x ∷ xs) ys all = let more = fit_parts xs ys all.1 in ((all.0, more.0), more.1)
+pub parts_of_all : (P : LogRecord → Type 0) (xs ys : List LogRecord) → AllByRecursion P (xs ++ ys) → AllByRecursion P xs × AllByRecursion P ys
+parts_of_all P [] ys all = (tt, all)
+parts_of_all P (x ∷ xs) ys all = let more = parts_of_all P xs ys all.1 in ((all.0, more.0), more.1)
 
-some_go_on : (entries others : List LogRecord) → 0 < length entries → 0 < length others → goes_on entries ≡ goes_on others
+pub some_go_on : (entries others : List LogRecord) → 0 < length entries → 0 < length others → goes_on entries ≡ goes_on others
 some_go_on [] others some some2 = absurd (omega (arith, some))
 some_go_on (e ∷ es) [] some some2 = absurd (omega (arith, some2))
 some_go_on (e ∷ es) (f ∷ fs) some some2 = refl
@@ -209,8 +209,8 @@ pub all_near : (mark : ℕ) (xs ys : List (List LogRecord)) (behind beyond : Lis
 all_near mark [] ys behind beyond some some2 fit fit2 near = inr (batch_entries ys, refl)
 all_near mark (x ∷ xs) [] behind beyond some some2 fit fit2 near = inl (batch_entries (x ∷ xs), refl)
 all_near mark (x ∷ xs) (y ∷ ys) behind beyond some some2 fit fit2 near =
-    let fits = fit_parts x (batch_entries xs) fit in
-    let fits2 = fit_parts y (batch_entries ys) fit2 in
+    let fits = parts_of_all IsLogRecord x (batch_entries xs) fit in
+    let fits2 = parts_of_all IsLogRecord y (batch_entries ys) fit2 in
     let one = batches_near mark x y (flat_map (batch_bytes mark) xs ++ behind) (flat_map (batch_bytes mark) ys ++ beyond) fits.0 fits2.0 (some_go_on x y some.0 some2.0)
     (near_moved (flat_map (batch_bytes mark) (x ∷ xs) ++ behind) (batch_bytes mark x ++ (flat_map (batch_bytes mark) xs ++ behind)) (flat_map (batch_bytes mark) (y ∷ ys) ++ beyond) (batch_bytes mark y ++ (flat_map (batch_bytes mark) ys ++ beyond))
     (append_assoc (batch_bytes mark x) (flat_map (batch_bytes mark) xs) behind) (append_assoc (batch_bytes mark y) (flat_map (batch_bytes mark) ys) beyond) near) in
@@ -244,8 +244,8 @@ hidden (x ∷ xs) [] behind beyond more some some2 fit fit2 gate d is left =
     ∙ batch_first mark_of_two_syncs x (flat_map (batch_bytes mark_of_two_syncs) xs ++ behind) some.0)
     (λ same. gate.closed (sym (ap (λ (l : List ℕ). get_or l 0 0) gate.parts) ∙ same))
 hidden (x ∷ xs) (y ∷ ys) behind beyond more some some2 fit fit2 gate d is left =
-    let fits = fit_parts x (batch_entries xs) fit in
-    let fits2 = fit_parts y (batch_entries ys) fit2 in
+    let fits = parts_of_all IsLogRecord x (batch_entries xs) fit in
+    let fits2 = parts_of_all IsLogRecord y (batch_entries ys) fit2 in
     let one = batches_altered mark_of_two_syncs x y (flat_map (batch_bytes mark_of_two_syncs) xs ++ behind) (flat_map (batch_bytes mark_of_two_syncs) ys ++ beyond) fits.0 fits2.0 (some_go_on x y some.0 some2.0)
     (moved (flat_map (batch_bytes mark_of_two_syncs) (x ∷ xs) ++ behind) (batch_bytes mark_of_two_syncs x ++ (flat_map (batch_bytes mark_of_two_syncs) xs ++ behind)) (flat_map (batch_bytes mark_of_two_syncs) (y ∷ ys) ++ beyond) (batch_bytes mark_of_two_syncs y ++ (flat_map (batch_bytes mark_of_two_syncs) ys ++ beyond))
     (append_assoc (batch_bytes mark_of_two_syncs x) (flat_map (batch_bytes mark_of_two_syncs) xs) behind) (append_assoc (batch_bytes mark_of_two_syncs y) (flat_map (batch_bytes mark_of_two_syncs) ys) beyond) d) in

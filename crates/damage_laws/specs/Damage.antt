@@ -1,7 +1,8 @@
 -- Files in which a byte has changed, and what two halves have in common.
-use Rattle.std.specs.Prelude.{◌≡◌, ◌≢◌, ◌⊎◌, ℕ, ◌<◌, List, ◌∷◌, ◌++◌, length}
+use Rattle.std.specs.Prelude.{◌≡◌, ◌≢◌, ◌⊎◌, ℕ, ◌<◌, List, [], ◌∷◌, ◌++◌, length}
 use Rattle.batch_bytes.specs.Batch.{LogRecord}
 use Rattle.batched_half.specs.Contents.{Contents}
+use Rattle.batched_half.specs.Version3.{batch_entries}
 
 -- two files that are the same but for one byte
 pub record DifferInOneByte (file other : List ℕ) : Type 0 where
@@ -23,6 +24,13 @@ pub record IsMarkAt {file other : List ℕ} (mark at : ℕ) (d : DifferInOneByte
 -- the first of these records are those
 abbrev pub BeginWith : List LogRecord → List LogRecord → Type 0
 BeginWith entries first = (more : List LogRecord) × (entries ≡ first ++ more)
+
+-- these are the records of all batches but the last
+pub record LacksLastBatch (batches : List (List LogRecord)) (left : List LogRecord) : Type 0 where
+  pub earlier : List (List LogRecord)
+  pub last : List LogRecord
+  pub parts : batches ≡ earlier ++ last ∷ []
+  pub left_is : left ≡ batch_entries earlier
 
 -- The generation is the same, and so is the snapshot. Of the records one has all of the other, and perhaps more behind them.
 pub record AgreeAsFarAsBothGo (k j : Contents) : Type 0 where
