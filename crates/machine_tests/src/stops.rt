@@ -1,6 +1,7 @@
 //! Programs that are stopped at a call of the disk, and what the next one finds.
 use crate::machine::MemoryMachine;
 use crate::programs::run_on_machine;
+use command_words::Syncs;
 use disk_trait::{Crash, Disk, MemoryDisk};
 use std::alloc::Global;
 use std::cell::Cell;
@@ -46,10 +47,24 @@ pub fn answers_on(alloc: Global, machine: &MemoryMachine, option: &str, input: &
     answers_to(alloc, machine, &words, input)
 }
 
-/// Runs the program over a new disk, which stops after so many calls and crashes in this way: how many forms it answered, and what the next
+/// An empty disk on which a store is kept with so many syncs: with one, its writes mix.
+fn empty_disk(alloc: Global, syncs: Syncs) -> MemoryDisk {
+    match syncs {
+        Syncs::One => MemoryDisk::mixing(alloc),
+        Syncs::Two => MemoryDisk::new(alloc),
+    }
+}
+
+/// Runs the program over this disk, which stops after so many calls and crashes in this way: how many forms it answered, and what the next
 /// program answers to a question then. `None` for want of memory.
-fn stopped_after(alloc: Global, calls: u64, kind: Crash, option: &str) -> Option<(usize, Vec<u8>)> {
-    let machine = MemoryMachine::new(alloc, MemoryDisk::new(alloc), calls).ok()?;
+fn stopped_after(
+    alloc: Global,
+    empty: MemoryDisk,
+    calls: u64,
+    kind: Crash,
+    option: &str,
+) -> Option<(usize, Vec<u8>)> {
+    let machine = MemoryMachine::new(alloc, empty, calls).ok()?;
     let answers = answers_on(alloc, &machine, option, FORMS);
     let mut disk = machine.take_disk()?;
     if disk.failures() > 0 {
@@ -83,8 +98,8 @@ fn most_after(answered: usize, option: &str) -> usize {
 }
 
 /// Whether the next program finds what was answered, or what was under way besides.
-fn is_found(alloc: Global, calls: u64, kind: Crash, option: &str) -> bool {
-    match stopped_after(alloc, calls, kind, option) {
+fn is_found(alloc: Global, empty: MemoryDisk, calls: u64, kind: Crash, option: &str) -> bool {
+    match stopped_after(alloc, empty, calls, kind, option) {
         Some((answered, found)) => {
             found.as_slice() == answer_after(answered)
                 || found.as_slice() == answer_after(most_after(answered, option))
@@ -93,30 +108,62 @@ fn is_found(alloc: Global, calls: u64, kind: Crash, option: &str) -> bool {
     }
 }
 
-#[test]
-fn the_next_program_finds_what_was_answered(rt: HostRuntime) -> Result<(), Fail> {
-    for calls in 0..MOST_CALLS {
-        for kind in [
+/// How a disk crashes here, by how many syncs keep a store on it.
+fn crashes_with(syncs: Syncs) -> [Crash; 4] {
+    match syncs {
+        Syncs::One => [
+            Crash::Kept,
+            Crash::Lost,
+            Crash::Scattered(64),
+            Crash::Scattered(200),
+        ],
+        Syncs::Two => [
             Crash::Kept,
             Crash::Lost,
             Crash::Filled(0),
             Crash::Filled(165),
-        ] {
-            assert!(rt; is_found(rt.alloc(), calls, kind, ONE_BY_ONE));
-            assert!(rt; is_found(rt.alloc(), calls, kind, TOGETHER));
+        ],
+    }
+}
+
+/// How many stops of the program lose what was answered, or what a store on such a disk had.
+fn lost_stops(alloc: Global, syncs: Syncs) -> usize {
+    let mut lost: usize = 0;
+    for calls in 0..MOST_CALLS {
+        for kind in crashes_with(syncs) {
+            for option in [ONE_BY_ONE, TOGETHER] {
+                if !is_found(alloc, empty_disk(alloc, syncs), calls, kind, option) {
+                    lost = lost.saturating_add(1);
+                }
+            }
         }
     }
+    lost
+}
+
+#[test]
+fn the_next_program_finds_what_was_answered(rt: HostRuntime) -> Result<(), Fail> {
+    assert_eq!(rt; lost_stops(rt.alloc(), Syncs::Two), 0);
+    Ok(())
+}
+
+#[test]
+fn with_one_sync_the_next_program_finds_what_was_answered(rt: HostRuntime) -> Result<(), Fail> {
+    assert_eq!(rt; lost_stops(rt.alloc(), Syncs::One), 0);
     Ok(())
 }
 
 #[test]
 fn a_program_that_is_not_stopped_answers_all(rt: HostRuntime) -> Result<(), Fail> {
-    for option in [ONE_BY_ONE, TOGETHER] {
-        let told = stopped_after(rt.alloc(), MOST_CALLS, Crash::Lost, option);
-        assert!(rt;
-            told.is_some_and(|(answered, found)| answered == 3
-                && found.as_slice() == b"3\n".as_slice())
-        );
+    for syncs in [Syncs::One, Syncs::Two] {
+        for option in [ONE_BY_ONE, TOGETHER] {
+            let empty = empty_disk(rt.alloc(), syncs);
+            let told = stopped_after(rt.alloc(), empty, MOST_CALLS, Crash::Lost, option);
+            assert!(rt;
+                told.is_some_and(|(answered, found)| answered == 3
+                    && found.as_slice() == b"3\n".as_slice())
+            );
+        }
     }
     Ok(())
 }
