@@ -4,7 +4,6 @@ use Rattle.std.proofs.lemmas.List.{take-append-drop}
 use Rattle.client_table.specs.CallsByName.{AnswersFirstAsked}
 use Rattle.client_table.specs.declared.asked.AnyRequest.{AnyRequest}
 use Rattle.disk_trait.specs.Disk.{State}
-use Rattle.gate_log.specs.Layout.{half_base}
 use Rattle.lisp_object.specs.declared.refusal.TheConstants.{DEVICE, LOG_FULL}
 use Rattle.message_frames.specs.Frames.{Sent}
 use Rattle.message_laws.specs.NearRounds.{IsTidy}
@@ -17,6 +16,7 @@ use Rattle.message_session.specs.declared.answer.Stop.{Stop}
 use Rattle.message_session.specs.declared.answer.Stop.TheVariants as stop
 use Rattle.message_session.specs.declared.ended.MessagesEnd.{MessagesEnd}
 use Rattle.message_session.specs.declared.ended.MessagesEnd.TheVariants.{Fault}
+use Rattle.sessions.proofs.NewHalves.{text_alone}
 use Rattle.message_session.proofs.Causes.{breaks_untaken, no_room}
 use Rattle.message_session.proofs.Requests.{front_alike, refused_first}
 use Rattle.message_session.proofs.Streams.{none_written}
@@ -25,7 +25,6 @@ use Rattle.prevalence_store.specs.calls.Snapshot.{IsSnapshotted}
 use Rattle.prevalence_store.specs.calls.Store.{StoreView}
 use Rattle.messages.specs.MessageAnswers.{first_round}
 use Rattle.user_macros.specs.Functions.{Functions}
-use Rattle.world_text.specs.Snapshot.{snapshot}
 
 module _ (functions : Functions) (last : ℕ) (w : WorldState) (tidy : IsTidy w.properties) {D R : Type 0} (state : D → State) (old new : StoreView D R) (known : old.world ≡ Some w) where
   -- the store did not take the first of them
@@ -98,7 +97,7 @@ one_stopped functions last w state new held written now_last frames (stop.Ended 
 
 -- a half that was begun for one frame holds the text alone
 pub full_anew : (functions : Functions) {D R : Type 0} (state : D → State) (old new : StoreView D R) (w : WorldState) (frames : List Sent) → IsSnapshotted functions state old new w → length frames ≡ 1 → HoldsWorldAlone new w frames
-full_anew functions state old new w frames renewed one = record { one = one; none_since = renewed.renews.record_count; only_text = renewed.renews.size ∙ ap (λ version. half_base version (length (snapshot w))) (sym renewed.renews.version) }
+full_anew functions state old new w frames renewed one = record { one = one; none_since = renewed.renews.record_count; only_text = text_alone state old new w renewed.renews }
 
 -- frames are tried again, where nothing came of them
 pub taken_again : (functions : Functions) (last : ℕ) (w : WorldState) {D R : Type 0} (state : D → State) (new : StoreView D R) (held between written : Option (List ℕ)) (mid_last now_last : ℕ)

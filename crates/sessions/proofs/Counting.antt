@@ -1,5 +1,5 @@
 -- Many forms that are logged together: they are counted, and no snapshot comes after any of them.
-use Rattle.std.proofs.Common.{◌≡◌, ℕ, zero, suc, ◌+◌, ◌*◌, ◌-◌, ◌<◌, ◌≤◌, List, [], ◌∷◌, length, Some, Result, Ok, Err, refl, sym, ap, subst, ◌∙◌, inl, inr, length-append, arith}
+use Rattle.std.proofs.Common.{◌≡◌, ℕ, zero, suc, ◌+◌, ◌*◌, ◌-◌, ◌<◌, ◌≤◌, List, [], ◌∷◌, length, Some, Result, Ok, Err, refl, sym, ap, subst, ◌∙◌, inl, inr, arith}
 use Rattle.gate_log.specs.Layout.{LogRecord, batch_size}
 use Rattle.gate_log.proofs.Sizes.{count_within}
 use Rattle.plist_state.specs.State.{WorldState}

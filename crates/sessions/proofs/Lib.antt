@@ -1,4 +1,5 @@
 pub mod StreamLemmas
+pub mod NewHalves
 mod Progressing
 mod KeptMacros
 mod Pendings

@@ -34,6 +34,7 @@
 //! # Laws for the crates above
 //!
 //! - proofs/StreamLemmas.antt: known bytes of readers and writers (`appended`, `piece_written`).
+//! - proofs/NewHalves.antt: a half that was begun takes what one of its version takes with the text of the world alone (`text_alone`).
 #![tactic(auto)]
 
 mod answer;
