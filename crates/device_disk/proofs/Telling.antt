@@ -12,7 +12,7 @@ use Rattle.deferred_disk.specs.DiskRequests.{CallsValue, all_of, after_report, f
 use Rattle.deferred_disk.specs.Sound.{same_file, sound_ordered}
 use Rattle.deferred_disk.specs.State.{AllWriteBytes, OrderBinds, OrdersMayLeave, PartOfOrder, image_after, reads_by, with_file}
 use Rattle.device_disk.specs.DeviceCalls.{DeviceCall, done, failed, gave}
-use Rattle.device_disk.specs.DeviceFiles.{FilesAfter, Shows}
+use Rattle.device_disk.specs.DeviceFiles.{FilesAfter, IsUnfailed, Shows}
 use Rattle.device_disk.specs.Pieces.{IsDone, IsNotDone, IsDeviceRead, IsDeviceWrittenInPart, IsDeviceWritten, after_reads, after_writes, joined_pieces}
 use Rattle.device_disk.specs.Told.{IsToldDisk, Tells}
 use Rattle.device_disk.proofs.Tearing.{half_both, half_bytes, half_none, half_partly, put_same, put_twice, written_both, written_none}
@@ -21,14 +21,19 @@ use Rattle.device_disk.proofs.Tearing.{half_both, half_bytes, half_none, half_pa
 
 -- one call more has failed, or none
 pub tells_later : (calls : CallsValue) (n m : ℕ) (made : List DeviceCall) → n ≤ m → Tells calls n made → Tells calls m made
-tells_later calls n m made le told = record { holds = λ none. told.holds (omega (arith, le, none)); leaves = told.leaves }
+tells_later calls n m made le told = record {
+  unfailed = λ none. told.unfailed (omega (arith, le, none));
+  holds = λ none. told.holds (omega (arith, le, none));
+  leaves = told.leaves;
+}
 
 pub tells_reported : (calls : CallsValue) (n : ℕ) (made : List DeviceCall) → Tells calls n made → Tells (after_report calls) n made
-tells_reported calls n made told = record { holds = told.holds; leaves = told.leaves }
+tells_reported calls n made told = record { unfailed = told.unfailed; holds = told.holds; leaves = told.leaves }
 
 -- an order was noted, and nothing came of it
 pub tells_undone : (calls : CallsValue) (n : ℕ) (made : List DeviceCall) (order : OrderValue) → ((reads left : Image) → OrderBinds order reads left) → Tells calls n made → Tells (with_order calls order) (n + 1) made
 tells_undone calls n made order free told = record {
+  unfailed = λ none. absurd (omega (arith, none));
   holds = λ none. absurd (omega (arith, none));
   leaves = λ first holds left after. ((left, told.leaves first holds left after, inl refl), free (reads_by calls.start (all_of calls)) left);
 }
@@ -37,15 +42,17 @@ tells_undone calls n made order free told = record {
 
 pub tells_done : (calls : CallsValue) (made : List DeviceCall) (order : OrderValue) → Tells calls 0 made → Tells (with_order calls order) 0 (done order ∷ made)
 tells_done calls made order told = record {
+  unfailed = λ none. told.unfailed refl;
   holds = λ none first holds left after. after.2 ∙ ap (image_after order) (told.holds refl first after.0.0 after.0.1 after.1);
   leaves = λ first holds left after. (
     (after.0.1, told.leaves first after.0.0 after.0.1 after.1, after.3),
-    subst (λ (reads : Image). OrderBinds order reads left) (told.holds refl first after.0.0 after.0.1 after.1) after.4,
+    subst (λ (reads : Image). OrderBinds order reads left) (told.holds refl first after.0.0 after.0.1 after.1) (after.4 (told.unfailed refl)),
   );
 }
 
 pub tells_failed : (calls : CallsValue) (n : ℕ) (made : List DeviceCall) (order : OrderValue) → ((reads left : Image) → OrderBinds order reads left) → Tells calls n made → Tells (with_order calls order) (n + 1) (failed order ∷ made)
 tells_failed calls n made order free told = record {
+  unfailed = λ none. absurd (omega (arith, none));
   holds = λ none. absurd (omega (arith, none));
   leaves = λ first holds left after. ((after.0.1, told.leaves first after.0.0 after.0.1 after.1, after.3), free (reads_by calls.start (all_of calls)) left);
 }
@@ -53,6 +60,7 @@ tells_failed calls n made order free told = record {
 -- a sync changes nothing, whether it is noted or not
 pub tells_unsynced : (calls : CallsValue) (n : ℕ) (made later : List DeviceCall) (half : Half) → (later ≡ failed (syncs half) ∷ made) ⊎ (later ≡ done (syncs half) ∷ made) → Tells calls n made → Tells calls (n + 1) later
 tells_unsynced calls n made later half is told = record {
+  unfailed = λ none. absurd (omega (arith, none));
   holds = λ none. absurd (omega (arith, none));
   leaves = λ first holds left after. ⊎_elim
       (λ failing.
@@ -65,6 +73,10 @@ tells_unsynced calls n made later half is told = record {
 }
 
 -- ---- a write in pieces
+
+unfailed_writes : (half : Half) (at : ℕ) (pieces : List (List ℕ)) (before : List DeviceCall) → IsUnfailed before → IsUnfailed (after_writes half at pieces before)
+unfailed_writes half at [] before is = is
+unfailed_writes half at (piece ∷ more) before is = unfailed_writes half (at + length piece) more (done (writes half at piece) ∷ before) is
 
 -- what the files were before it, and that they are as after one write in whole
 abbrev WrittenFrom : (first : Image) (half : Half) (at : ℕ) (bytes : List ℕ) (before : List DeviceCall) (holds left : Image) → Type 0
@@ -119,6 +131,7 @@ module _ (calls : CallsValue) (half : Half) (at : ℕ) (bytes : List ℕ) (made 
 
   pub tells_written : IsDeviceWritten half at bytes made later → Tells (with_order calls (writes half at bytes)) 0 later
   tells_written written_whole = record {
+    unfailed = λ none. subst IsUnfailed (sym written_whole.calls) (unfailed_writes half at written_whole.pieces made (told.unfailed refl));
     holds = λ none first holds left after.
         let from = whole_from written_whole first holds left after in
         from.2 ∙ ap (image_after (writes half at bytes)) (told.holds refl first from.0.0 from.0.1 from.1);
@@ -158,6 +171,7 @@ module _ (calls : CallsValue) (half : Half) (at : ℕ) (bytes : List ℕ) (made 
 
   pub tells_in_part : IsDeviceWrittenInPart half at bytes made later → Tells (with_order calls (writes half at bytes)) 1 later
   tells_in_part part = record {
+    unfailed = λ none. absurd (omega (arith, none));
     holds = λ none. absurd (omega (arith, none));
     leaves = λ first holds left after.
         let from = part_from part first holds left after in
@@ -181,6 +195,13 @@ reads_shown first half room at (piece ∷ more) before holds left after =
           ∙ ap (λ (n : ℕ). take n (drop at file)) (sym long),
     )
 
+unfailed_reads : (half : Half) (room at : ℕ) (pieces : List (List ℕ)) (before : List DeviceCall) → IsUnfailed before → IsUnfailed (after_reads half room at pieces before)
+unfailed_reads half room at [] before is = is
+unfailed_reads half room at (piece ∷ more) before is = unfailed_reads half room (at + length piece) more (gave half at room piece ∷ before) is
+
+unfailed_whole : (half : Half) (bytes : List ℕ) (before later : List DeviceCall) → IsDeviceRead half bytes before later → IsUnfailed before → IsUnfailed later
+unfailed_whole half bytes before later read is = subst IsUnfailed (sym read.calls) (unfailed_reads half read.room 0 read.pieces before is)
+
 whole_shown : (first : Image) (half : Half) (bytes : List ℕ) (before later : List DeviceCall) (holds left : Image)
     → IsDeviceRead half bytes before later → FilesAfter first later holds left → FilesAfter first before holds left × (bytes ≡ file_of half holds)
 whole_shown first half bytes before later holds left read after =
@@ -198,13 +219,17 @@ same_images : (i : Image) (x y : List ℕ) → i.a ≡ x → i.b ≡ y → i ≡
 same_images i x y first second = ap (λ (l : List ℕ). image_of l i.b) first ∙ ap (image_of x) second
 
 -- a device that was synced and read tells what its files hold, and all that a crash leaves of them
-pub tells_first : (a b : List ℕ) (earlier synced_a synced_b read_a read_b : List DeviceCall) → IsDone (syncs A) earlier synced_a → IsDone (syncs B) synced_a synced_b
+pub tells_first : (a b : List ℕ) (earlier synced_a synced_b read_a read_b : List DeviceCall) → IsUnfailed earlier → IsDone (syncs A) earlier synced_a → IsDone (syncs B) synced_a synced_b
     → IsDeviceRead A a synced_b read_a → IsDeviceRead B b read_a read_b → Tells (first_calls a b) 0 read_b
-tells_first a b earlier synced_a synced_b read_a read_b sync_a sync_b a_read b_read = record {
+tells_first a b earlier synced_a synced_b read_a read_b fine sync_a sync_b a_read b_read = record {
+  unfailed = λ no. unfailed_whole B b read_a read_b b_read (unfailed_whole A a synced_b read_a a_read (subst IsUnfailed (sym sync_b) fine_a));
   holds = λ no first holds left after. (shown first holds left after).0;
   leaves = λ first holds left after. (shown first holds left after).1;
 }
   where
+    fine_a : IsUnfailed synced_a
+    fine_a = subst IsUnfailed (sym sync_a) fine
+
     shown : (first holds left : Image) → FilesAfter first read_b holds left → (holds ≡ image_of a b) × (left ≡ image_of a b)
     shown first holds left after =
         let of_b = whole_shown first B b read_a read_b holds left b_read after in
@@ -213,8 +238,8 @@ tells_first a b earlier synced_a synced_b read_a read_b sync_a sync_b a_read b_r
         let one = subst (λ (l : List DeviceCall). FilesAfter first l second.0.0 second.0.1) sync_a second.1 in
         let same : left ≡ second.0.1 = ⊎_elim (λ is. is) (λ part. absurd part) second.3 in
         let held : holds ≡ one.0.0 = second.2 ∙ one.2 in
-        let left_a : left.a ≡ a = ap (λ (i : Image). i.a) same ∙ one.4 ∙ ap (λ (i : Image). i.a) (sym held) ∙ sym of_a.1 in
-        let left_b : left.b ≡ b = second.4 ∙ ap (λ (i : Image). i.b) (sym second.2) ∙ sym of_b.1 in
+        let left_a : left.a ≡ a = ap (λ (i : Image). i.a) same ∙ one.4 fine ∙ ap (λ (i : Image). i.a) (sym held) ∙ sym of_a.1 in
+        let left_b : left.b ≡ b = second.4 fine_a ∙ ap (λ (i : Image). i.b) (sym second.2) ∙ sym of_b.1 in
         (same_images holds a b (sym of_a.1) (sym of_b.1), same_images left a b left_a left_b)
 
 -- ---- the disk

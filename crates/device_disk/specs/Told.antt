@@ -8,7 +8,7 @@ use Rattle.deferred_disk.specs.State.{OrdersMayLeave, reads_by}
 use Rattle.deferred_disk.specs.declared.disk.DeferredDisk.{DeferredDisk}
 use Rattle.deferred_disk.specs.contracts.disk.DeferredDisk as noted_contract
 use Rattle.device_disk.specs.DeviceCalls.{DeviceCall}
-use Rattle.device_disk.specs.DeviceFiles.{FilesAfter}
+use Rattle.device_disk.specs.DeviceFiles.{FilesAfter, IsUnfailed}
 
 -- the device, the calls of the disk as they are noted, and how many of them failed
 pub record DeviceDiskValue (V : Type 0) : Type 0 where
@@ -37,6 +37,7 @@ told_sound s failed sound = record { reads_stay = sound.reads_stay; counts_now =
 -- What was noted tells of the files of the device, whatever they held as it was made: what they hold, as long as no call failed, and all
 -- that a crash may leave of them.
 pub record Tells (calls : CallsValue) (failed : ℕ) (made : List DeviceCall) : Type 0 where
+  pub unfailed : failed ≡ 0 → IsUnfailed made
   pub holds : failed ≡ 0 → (first holds left : Image) → FilesAfter first made holds left → holds ≡ reads_by calls.start (all_of calls)
   pub leaves : (first holds left : Image) → FilesAfter first made holds left → OrdersMayLeave calls.start (all_of calls) left
 

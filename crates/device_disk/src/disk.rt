@@ -1,5 +1,5 @@
 // The disk over a device.
-ghost use Rattle.std.specs.Prelude.{◌≡◌, ◌+◌, ◌-◌, ◌<◌, ◌^◌, ◌∷◌, IfOk, IsErr, IsOk, List, MatchResult, ℕ};
+ghost use Rattle.std.specs.Prelude.{◌≡◌, ◌+◌, ◌-◌, ◌<◌, ◌^◌, ◌∷◌, IfOk, IsErr, IsOk, List, [], MatchResult, ℕ};
 ghost use Rattle.deferred_disk.specs.Disk.{calls_of, state_by_calls};
 ghost use Rattle.deferred_disk.specs.DiskRequests.{after_report, first_calls};
 ghost use Rattle.deferred_disk.specs.Sound.{sound_ordered};
@@ -45,12 +45,13 @@ impl<V: Device> Model for DeviceDisk<V> {
 }
 
 impl<V: Device + Drop> DeviceDisk<V> {
-    /// Syncs both files, and reads them: a crash leaves just what they hold then.
+    /// Syncs both files of a device that was asked for nothing yet, and reads them: a crash leaves just what they hold then.
     ///
     /// # Errors
     ///
     /// What the device answered, or out of memory.
     pub fn open(alloc: Global, device: V) -> io::Result<DeviceDisk<V>>
+        requires { V.calls device ≡ [] }
         ensures failed { IfOk result (λ it. it.failed ≡ 0) }
         ensures calls { IfOk result (λ it. (a : List ℕ) × (b : List ℕ) × (read : List DeviceCall)
             × (calls_of it.noted ≡ first_calls a b)
