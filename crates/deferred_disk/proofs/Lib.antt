@@ -1,4 +1,5 @@
 mod Between
 mod FirstByte
+mod Growing
 mod Pending
 mod Walks

@@ -16,9 +16,9 @@ calls_of disk = disk.past.calls
 abbrev pub pending_of : DeferredDisk → List OrderValue
 pending_of disk = disk.past.calls.pending
 
--- the state of a disk, from the calls that it noted
+-- the state of a disk, from the calls that it noted and whether its writes mix
 abbrev pub state_by_calls : DeferredDisk → State
-state_by_calls disk = state_after_orders disk.past.calls disk.failures
+state_by_calls disk = state_after_orders disk.mixes disk.past.calls disk.failures
 
 -- All bytes of both files are in memory. So it is until the first change and the first report.
 abbrev pub KeepsAll : DeferredDisk → Type 0

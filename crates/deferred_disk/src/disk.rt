@@ -1,11 +1,11 @@
 // The disk.
-ghost use Rattle.std.specs.Prelude.{◌≡◌, ◌↔◌, ◌+◌, ◌-◌, ◌<◌, ◌≤◌, ◌^◌, [], IsOk, IsTrue, OnErr, OnOk, length};
+ghost use Rattle.std.specs.Prelude.{◌≡◌, ◌↔◌, ◌+◌, ◌-◌, ◌<◌, ◌≤◌, ◌^◌, [], false, IsOk, IsTrue, OnErr, OnOk, length};
 ghost use Rattle.std.proofs.Props.{props};
 ghost use Rattle.disk_trait.specs.Disk.{HoldsBytes};
 ghost use Rattle.deferred_disk.specs.Bytes.{orders_bytes};
 ghost use Rattle.deferred_disk.specs.DiskRequests.{all_of};
 ghost use Rattle.deferred_disk.specs.KeptFiles.{IsKeptOf, IsKeptWhole};
-ghost use Rattle.deferred_disk.specs.State.{AllWriteBytes, all_write-prop, holds-prop, state_after_orders, reads_by};
+ghost use Rattle.deferred_disk.specs.State.{AllAreWithin, AllWriteBytes, all_within-prop, all_write-prop, holds-prop, state_after_orders, reads_by};
 ghost use Rattle.deferred_disk.specs.Sound.{sound_ordered};
 
 use crate::kept::KeptBytes;
@@ -25,6 +25,7 @@ const KEPT: usize = 65_536;
 #[derive(Drop)]
 pub struct DeferredDisk {
     alloc: Global,
+    mixes: bool,
     a: KeptBytes,
     b: KeptBytes,
     orders: Vec<u8>,
@@ -35,6 +36,7 @@ pub struct DeferredDisk {
     ghost orders_are: { orders.items ≡ orders_bytes past.calls.pending } by { Prim.hlevel props },
     ghost began: { HoldsBytes past.calls.start } by { holds-prop past.calls.start },
     ghost wrote: { AllWriteBytes (all_of past.calls) } by { all_write-prop (all_of past.calls) },
+    ghost within: { AllAreWithin past.calls.start (all_of past.calls) } by { all_within-prop past.calls.start (all_of past.calls) },
 }
 
 impl DeferredDisk {
@@ -43,15 +45,29 @@ impl DeferredDisk {
     ghost use Rattle.deferred_disk.specs.Disk.{Asks, KeepsAll, calls_of, pending_of, state_by_calls};
     ghost use Rattle.disk_trait.specs.Orders.{writes, cuts, syncs};
 
-    /// Two files that hold these bytes now, of which a crash leaves just that: they were synced before they were read.
+    /// Two files that hold these bytes now, of which a crash leaves just that: they were synced before they were read. A crash may leave any
+    /// bytes of a write that was not synced.
     pub fn new(alloc: Global, a: Vec<u8>, b: Vec<u8>) -> DeferredDisk
         ensures calls { calls_of result ≡ first_calls a.items b.items }
+        ensures tears { (state_by_calls result).mixes ≡ false }
+        ensures all { KeepsAll result }
+        ensures failures { (state_by_calls result).failures ≡ 0 }
+    {
+        DeferredDisk::holding(alloc, false, a, b)
+    }
+
+    /// Two such files of a disk that mixes, or does not. That it mixes is said by whoever does its orders: then of a write that was not synced a
+    /// crash leaves of each byte the old one or the new one.
+    pub fn holding(alloc: Global, mixes: bool, a: Vec<u8>, b: Vec<u8>) -> DeferredDisk
+        ensures calls { calls_of result ≡ first_calls a.items b.items }
+        ensures mixes { (state_by_calls result).mixes ≡ mixes }
         ensures all { KeepsAll result }
         ensures failures { (state_by_calls result).failures ≡ 0 }
     {
         let past = Past::of(&a, &b);
         DeferredDisk {
             alloc,
+            mixes,
             a: KeptBytes::new(a),
             b: KeptBytes::new(b),
             orders: Vec::new(alloc),
@@ -88,6 +104,7 @@ impl DeferredDisk {
         requires { at ≤ length (file_of half (state_by_calls self.old).reads) }
         ensures asks { Asks (writes half at bytes.now) self.old self.new result }
         ensures failures { self.new.failures ≡ self.old.failures }
+        ensures mixes { self.new.mixes ≡ self.old.mixes }
     {
         let Some(end) = at.checked_add(bytes.len() as u64) else {
             return Err(AllocError);
@@ -106,6 +123,7 @@ impl DeferredDisk {
         requires { len ≤ length (file_of half (state_by_calls self.old).reads) }
         ensures asks { Asks (cuts half len) self.old self.new result }
         ensures failures { self.new.failures ≡ self.old.failures }
+        ensures mixes { self.new.mixes ≡ self.old.mixes }
     {
         let order = Order::Cut { half, len };
         push(&mut self.orders, &order)?;
@@ -121,6 +139,7 @@ impl DeferredDisk {
         ensures asks { Asks (syncs half) self.old self.new result }
         ensures all { KeepsAll self.old → KeepsAll self.new }
         ensures failures { self.new.failures ≡ self.old.failures }
+        ensures mixes { self.new.mixes ≡ self.old.mixes }
     {
         let order = Order::Sync { half };
         push(&mut self.orders, &order)?;
@@ -142,16 +161,16 @@ impl Disk for DeferredDisk {
     ghost use Rattle.deferred_disk.specs.Disk.{Asks, KeepsAll, calls_of, state_by_calls};
     ghost use Rattle.disk_trait.specs.Orders.{writes, cuts, syncs};
 
-    ghost state = { λ d. state_after_orders d.past.calls d.failures };
+    ghost state = { λ d. state_after_orders d.mixes d.past.calls d.failures };
 
-    ghost sound = { λ d honest. sound_ordered d.past.calls d.failures d.began d.wrote };
+    ghost sound = { λ d honest. sound_ordered d.mixes d.past.calls d.failures d.began d.wrote d.within };
 
     fn failures(&self) -> u64 {
         self.failures
     }
 
     fn mixes(&self) -> bool {
-        false
+        self.mixes
     }
 
     fn len(&mut self, half: Half) -> Result<u64, DeviceFault>

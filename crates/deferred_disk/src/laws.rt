@@ -14,12 +14,14 @@ ghost use Rattle.deferred_disk.specs.declared.disk.DeferredDisk.{DeferredDisk};
 pub fn between_orders()
     ensures none_open { (old new : DeferredDisk) (first later : List OrderValue) (image : Image)
         → (state_by_calls new).performed ≡ (state_by_calls old).performed
+        → (state_by_calls new).mixes ≡ (state_by_calls old).mixes
         → pending_of old ≡ [] → pending_of new ≡ later ++ first
-        → OrdersMayLeave (calls_of old).start (first ++ (calls_of old).done) image
+        → OrdersMayLeave (state_by_calls old).mixes (calls_of old).start (first ++ (calls_of old).done) image
         → (state_by_calls new).left_since (state_by_calls old).moment image }
     ensures some_open { (old new : DeferredDisk) (first later : List OrderValue) (image : Image)
         → (state_by_calls new).performed ≡ (state_by_calls old).performed
+        → (state_by_calls new).mixes ≡ (state_by_calls old).mixes
         → pending_of new ≡ later ++ first
-        → OrdersMayLeave (calls_of old).start (first ++ (calls_of old).done) image
+        → OrdersMayLeave (state_by_calls old).mixes (calls_of old).start (first ++ (calls_of old).done) image
         → (state_by_calls new).left_since (length (calls_of old).done) image }
 {}

@@ -1,13 +1,19 @@
 -- A write that was made in pieces is torn as one in whole.
-use Rattle.std.proofs.Common.{◌≡◌, inl, inr, ⊎_elim, ℕ, zero, suc, ◌+◌, ◌≤◌, List, [], ◌∷◌, ◌++◌, length, take, drop, refl, sym, ap, subst, ◌∙◌, arith, append-nil, append_assoc, length-append, length-take, length-drop}
+use Rattle.std.proofs.Common.{◌≡◌, inl, inr, ⊎_elim, Bool, true, false, ℕ, zero, suc, ◌+◌, ◌≤◌, List, [], ◌∷◌, ◌++◌, length, take, drop, refl, sym, ap, subst, ◌∙◌, arith, append-nil, append_assoc, length-append, length-take, length-drop}
 use Rattle.std.proofs.lemmas.List.{drop-drop, drop_all, drop_at, take_all, take_at, take-append-drop}
 use Rattle.std.proofs.lemmas.Bool.{cases_lt}
 use Rattle.disk_trait.specs.Disk.{Image, AreBytes, HoldsBytes, OnHalf, Partly, Torn, file_of, other_of, written}
 use Rattle.disk_trait.specs.declared.half.Half.{Half}
 use Rattle.disk_trait.specs.declared.half.Half.TheVariants.{A, B}
-use Rattle.deferred_disk.specs.State.{with_file}
+use Rattle.deferred_disk.specs.MixedWrites.{both_in_place, none_in_place}
+use Rattle.deferred_disk.specs.State.{PartOfWrite, with_file}
 
 -- ---- bytes in lists
+
+-- they are bytes, where a write may tear: then a part of it that is undone is bytes too
+abbrev pub BytesIfTorn : (mixes : Bool) → List ℕ → Type 0
+BytesIfTorn false file = AreBytes file
+BytesIfTorn true file = Unit {0}
 
 bytes_taken : (n : ℕ) (bytes : List ℕ) → AreBytes bytes → AreBytes (take n bytes)
 bytes_taken zero bytes are = tt
@@ -23,7 +29,7 @@ bytes_joined : (xs ys : List ℕ) → AreBytes xs → AreBytes ys → AreBytes (
 bytes_joined [] ys first second = second
 bytes_joined (x ∷ xs) ys first second = (first.0, bytes_joined xs ys first.1 second)
 
-pub bytes_torn : (at n : ℕ) (old new : List ℕ) → Torn at n old new → AreBytes old → AreBytes new
+bytes_torn : (at n : ℕ) (old new : List ℕ) → Torn at n old new → AreBytes old → AreBytes new
 bytes_torn at n old new torn are =
     subst AreBytes (sym torn.parts)
     (bytes_joined (take at old ++ torn.middle) (drop (at + n) old) (bytes_joined (take at old) torn.middle (bytes_taken at old are) torn.bytes) (bytes_dropped (at + n) old are))
@@ -109,26 +115,52 @@ written_both at first second file =
 pub written_none : (at : ℕ) (file : List ℕ) → written at [] file ≡ file
 written_none at file = ap (λ (l : List ℕ). l ++ drop (at + 0) file) (append-nil (take at file)) ∙ (let e : at + 0 ≡ at = omega arith in ap (λ (k : ℕ). take at file ++ drop k file) e) ∙ take-append-drop at file
 
+-- ---- a write that tears or mixes
+
+part_none : (mixes : Bool) (at : ℕ) (bytes file : List ℕ) → BytesIfTorn mixes file → PartOfWrite mixes at bytes file file
+part_none false at bytes file are = torn_none at (length bytes) file are
+part_none true at bytes file are = none_in_place at bytes file
+
+part_both : (mixes : Bool) (at : ℕ) (first second old mid new : List ℕ) → PartOfWrite mixes at first old mid → PartOfWrite mixes (at + length first) second mid new
+    → PartOfWrite mixes at (first ++ second) old new
+part_both false at first second old mid new one two =
+    subst (λ (n : ℕ). Torn at n old new) (sym (length-append first second)) (torn_both at (length first) (length second) old mid new one two)
+part_both true at first second old mid new one two = both_in_place at first second old mid new one two
+
+part_bytes : (mixes : Bool) (at : ℕ) (bytes old new : List ℕ) → PartOfWrite mixes at bytes old new → BytesIfTorn mixes old → BytesIfTorn mixes new
+part_bytes false at bytes old new torn are = bytes_torn at (length bytes) old new torn are
+part_bytes true at bytes old new mixed are = tt
+
 -- ---- on a half of two files
 
-pub half_bytes : (half : Half) (at n : ℕ) (old new : Image) → OnHalf half (Torn at n) old new → HoldsBytes old → HoldsBytes new
-half_bytes A at n old new taken holds = (bytes_torn at n old.a new.a taken.changed holds.0, subst AreBytes (sym taken.other) holds.1)
-half_bytes B at n old new taken holds = (subst AreBytes (sym taken.other) holds.0, bytes_torn at n old.b new.b taken.changed holds.1)
+-- both hold bytes, where a write may tear
+abbrev pub HoldsIfTorn : (mixes : Bool) → Image → Type 0
+HoldsIfTorn mixes image = BytesIfTorn mixes image.a × BytesIfTorn mixes image.b
 
-pub half_none : (half : Half) (at n : ℕ) (image : Image) → HoldsBytes image → OnHalf half (Torn at n) image image
-half_none A at n image holds = record { changed = torn_none at n image.a holds.0; other = refl }
-half_none B at n image holds = record { changed = torn_none at n image.b holds.1; other = refl }
+pub holds_if_torn : (mixes : Bool) (image : Image) → HoldsBytes image → HoldsIfTorn mixes image
+holds_if_torn false image holds = holds
+holds_if_torn true image holds = (tt, tt)
 
-pub half_both : (half : Half) (at n m : ℕ) (old mid new : Image) → OnHalf half (Torn at n) old mid → OnHalf half (Torn (at + n) m) mid new → OnHalf half (Torn at (n + m)) old new
-half_both half at n m old mid new first second = record {
-  changed = torn_both at n m (file_of half old) (file_of half mid) (file_of half new) first.changed second.changed;
-  other = second.other ∙ first.other;
+pub half_bytes : (mixes : Bool) (half : Half) (at : ℕ) (bytes : List ℕ) (old new : Image) → OnHalf half (PartOfWrite mixes at bytes) old new → HoldsIfTorn mixes old → HoldsIfTorn mixes new
+half_bytes mixes A at bytes old new taken holds = (part_bytes mixes at bytes old.a new.a taken.changed holds.0, subst (BytesIfTorn mixes) (sym taken.other) holds.1)
+half_bytes mixes B at bytes old new taken holds = (subst (BytesIfTorn mixes) (sym taken.other) holds.0, part_bytes mixes at bytes old.b new.b taken.changed holds.1)
+
+pub half_none : (mixes : Bool) (half : Half) (at : ℕ) (bytes : List ℕ) (image : Image) → HoldsIfTorn mixes image → OnHalf half (PartOfWrite mixes at bytes) image image
+half_none mixes A at bytes image holds = record { changed = part_none mixes at bytes image.a holds.0; other = refl }
+half_none mixes B at bytes image holds = record { changed = part_none mixes at bytes image.b holds.1; other = refl }
+
+pub half_both : (mixes : Bool) (half : Half) (at : ℕ) (first second : List ℕ) (old mid new : Image) → OnHalf half (PartOfWrite mixes at first) old mid
+    → OnHalf half (PartOfWrite mixes (at + length first) second) mid new → OnHalf half (PartOfWrite mixes at (first ++ second)) old new
+half_both mixes half at first second old mid new one two = record {
+  changed = part_both mixes at first second (file_of half old) (file_of half mid) (file_of half new) one.changed two.changed;
+  other = two.other ∙ one.other;
 }
 
--- undone or in part, it is torn
-pub half_partly : (half : Half) (at n : ℕ) (old new : Image) → HoldsBytes old → Partly (OnHalf half (Torn at n)) old new → OnHalf half (Torn at n) old new
-half_partly half at n old new holds partly =
-    ⊎_elim (λ same. subst (λ (i : Image). OnHalf half (Torn at n) old i) (sym same) (half_none half at n old holds)) (λ torn. torn) partly
+-- undone or in part, it is in part
+pub half_partly : (mixes : Bool) (half : Half) (at : ℕ) (bytes : List ℕ) (old new : Image) → HoldsIfTorn mixes old → Partly (OnHalf half (PartOfWrite mixes at bytes)) old new
+    → OnHalf half (PartOfWrite mixes at bytes) old new
+half_partly mixes half at bytes old new holds partly =
+    ⊎_elim (λ same. subst (λ (i : Image). OnHalf half (PartOfWrite mixes at bytes) old i) (sym same) (half_none mixes half at bytes old holds)) (λ part. part) partly
 
 -- ---- a file put in place
 

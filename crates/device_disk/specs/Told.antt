@@ -1,14 +1,17 @@
 -- What a disk over a device is: what its calls say, and how many of them failed.
-use Rattle.std.specs.Prelude.{◌≡◌, ◌≤◌, ℕ, List, refl}
+use Rattle.std.specs.Prelude.{◌≡◌, ◌≤◌, ℕ, Bool, List, ◌∷◌, refl}
 use Rattle.std.specs.Coded.{Coded, code_by, coded×, coded_ℕ}
 use Rattle.disk_trait.specs.Disk.{Image, IsSoundDisk, State, at_once}
-use Rattle.deferred_disk.specs.DiskRequests.{CallsValue, all_of}
+use Rattle.disk_trait.specs.Orders.{syncs}
+use Rattle.disk_trait.specs.declared.half.Half.TheVariants.{A, B}
+use Rattle.deferred_disk.specs.DiskRequests.{CallsValue, all_of, first_calls}
 use Rattle.deferred_disk.specs.Disk.{calls_of, state_by_calls}
 use Rattle.deferred_disk.specs.State.{OrdersMayLeave, reads_by}
 use Rattle.deferred_disk.specs.declared.disk.DeferredDisk.{DeferredDisk}
 use Rattle.deferred_disk.specs.contracts.disk.DeferredDisk as noted_contract
-use Rattle.device_disk.specs.DeviceCalls.{DeviceCall}
-use Rattle.device_disk.specs.DeviceFiles.{FilesAfter, IsUnfailed}
+use Rattle.device_disk.specs.DeviceCalls.{DeviceCall, done}
+use Rattle.device_disk.specs.DeviceFiles.{FilesAfterBy, IsUnfailed}
+use Rattle.device_disk.specs.Pieces.{IsDeviceRead}
 
 -- the device, the calls of the disk as they are noted, and how many of them failed
 pub record DeviceDiskValue (V : Type 0) : Type 0 where
@@ -34,14 +37,23 @@ told_of disk = told_by (state_by_calls disk.noted) disk.failed
 pub told_sound : (s : State) (failed : ℕ) → IsSoundDisk s → IsSoundDisk (told_by s failed)
 told_sound s failed sound = record { reads_stay = sound.reads_stay; counts_now = sound.counts_now; only_now = sound.only_now; bytes = sound.bytes }
 
--- What was noted tells of the files of the device, whatever they held as it was made: what they hold, as long as no call failed, and all
--- that a crash may leave of them.
-pub record Tells (calls : CallsValue) (failed : ℕ) (made : List DeviceCall) : Type 0 where
+-- What was noted tells of the files of the device, whatever they held as it was made, and by whether its writes mix: what they hold, as long as
+-- no call failed, and all that a crash may leave of them.
+pub record Tells (mixes : Bool) (calls : CallsValue) (failed : ℕ) (made : List DeviceCall) : Type 0 where
   pub unfailed : failed ≡ 0 → IsUnfailed made
-  pub holds : failed ≡ 0 → (first holds left : Image) → FilesAfter first made holds left → holds ≡ reads_by calls.start (all_of calls)
-  pub leaves : (first holds left : Image) → FilesAfter first made holds left → OrdersMayLeave calls.start (all_of calls) left
+  pub holds : failed ≡ 0 → (first holds left : Image) → FilesAfterBy mixes first made holds left → holds ≡ reads_by calls.start (all_of calls)
+  pub leaves : (first holds left : Image) → FilesAfterBy mixes first made holds left → OrdersMayLeave mixes calls.start (all_of calls) left
 
 -- What is always true of a disk over a device, of which this was asked.
 pub record IsToldDisk (noted : DeferredDisk) (failed : ℕ) (made : List DeviceCall) : Type 0 where
   pub fewer : (state_by_calls noted).failures ≤ failed
-  pub tells : Tells (calls_of noted) failed made
+  pub tells : Tells noted.mixes (calls_of noted) failed made
+
+-- Both files were synced, and then each was read whole; nothing else was asked. What was read is what was noted.
+pub record IsSyncedAndRead (noted : DeferredDisk) (made after : List DeviceCall) : Type 0 where
+  pub a : List ℕ
+  pub b : List ℕ
+  pub between : List DeviceCall
+  pub holds : calls_of noted ≡ first_calls a b
+  pub first : IsDeviceRead A a (done (syncs B) ∷ done (syncs A) ∷ made) between
+  pub second : IsDeviceRead B b between after

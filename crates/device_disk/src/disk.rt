@@ -1,20 +1,20 @@
 // The disk over a device.
-ghost use Rattle.std.specs.Prelude.{◌≡◌, ◌+◌, ◌-◌, ◌<◌, ◌^◌, ◌∷◌, IfOk, IsErr, IsOk, List, [], MatchResult, ℕ};
+ghost use Rattle.std.specs.Prelude.{◌≡◌, ◌+◌, ◌-◌, ◌<◌, ◌^◌, [], false, IfOk, IsErr, IsOk, MatchResult};
 ghost use Rattle.deferred_disk.specs.Disk.{calls_of, state_by_calls};
-ghost use Rattle.deferred_disk.specs.DiskRequests.{after_report, first_calls};
+ghost use Rattle.deferred_disk.specs.DiskRequests.{after_report};
 ghost use Rattle.deferred_disk.specs.Sound.{sound_ordered};
 ghost use Rattle.disk_trait.specs.Calls.{CutsFile, GivesBytes, GivesLength, IsWithinFile, SyncsFile, WritesBytes};
-ghost use Rattle.disk_trait.specs.Disk.{Image};
+ghost use Rattle.disk_trait.specs.Disk.{Image, IsMixing};
 ghost use Rattle.disk_trait.specs.Orders.{cuts, syncs};
-ghost use Rattle.device_disk.specs.DeviceCalls.{DeviceCall, done};
-ghost use Rattle.device_disk.specs.DeviceFiles.{FilesAfter};
-ghost use Rattle.device_disk.specs.Pieces.{IsDone, IsNotDone, IsDeviceRead, IsTried, IsDeviceWrittenInPart, IsDeviceWritten};
-ghost use Rattle.device_disk.specs.Told.{told_of, told_sound};
+ghost use Rattle.device_disk.specs.DeviceFiles.{FilesAfter, MixingFilesAfter};
+ghost use Rattle.device_disk.specs.Pieces.{IsDone, IsNotDone, IsTried, IsDeviceWrittenInPart, IsDeviceWritten};
+ghost use Rattle.device_disk.specs.Told.{IsSyncedAndRead, told_of, told_sound};
 
 use crate::device::Device;
-use crate::whole::{cut_whole, read_whole, sync_whole, write_whole};
+use crate::opening::{read_file, sync_file};
+use crate::whole::{cut_whole, sync_whole, write_whole};
 use deferred_disk::DeferredDisk;
-use disk_trait::{DeviceFault, Disk, FailedCall, Half, HostCall, HostFile};
+use disk_trait::{DeviceFault, Disk, FailedCall, Half, HostCall, HostError, HostFile};
 use gate_log::DefersCalls;
 use std::alloc::Global;
 use std::io;
@@ -45,27 +45,50 @@ impl<V: Device> Model for DeviceDisk<V> {
 }
 
 impl<V: Device + Drop> DeviceDisk<V> {
-    /// Syncs both files of a device that was asked for nothing yet, and reads them: a crash leaves just what they hold then.
+    /// Syncs both files of a device that was asked for nothing yet, and reads them: a crash leaves just what they hold then. Of a write that was
+    /// not synced it may leave any bytes.
     ///
     /// # Errors
     ///
-    /// What the device answered, or out of memory.
-    pub fn open(alloc: Global, device: V) -> io::Result<DeviceDisk<V>>
+    /// The call of the device that failed, with its error; out of memory.
+    pub fn open(alloc: Global, device: V) -> Result<DeviceDisk<V>, HostError>
         requires { V.calls device ≡ [] }
         ensures failed { IfOk result (λ it. it.failed ≡ 0) }
-        ensures calls { IfOk result (λ it. (a : List ℕ) × (b : List ℕ) × (read : List DeviceCall)
-            × (calls_of it.noted ≡ first_calls a b)
-            × IsDeviceRead Half.A a (done (syncs Half.B) ∷ done (syncs Half.A) ∷ V.calls device) read
-            × IsDeviceRead Half.B b read (V.calls it.device)) }
+        ensures tears { IfOk result (λ it. (told_of it).mixes ≡ false) }
+        ensures calls { IfOk result (λ it. IsSyncedAndRead it.noted (V.calls device) (V.calls it.device)) }
+    {
+        DeviceDisk::open_by(alloc, device, false)
+    }
+
+    /// The same of a device of which is said that its writes mix. Nothing here shows that: it is a premise of whoever says it
+    /// (`MixingFilesAfter`).
+    ///
+    /// # Errors
+    ///
+    /// Those of `open`.
+    pub fn open_mixing(alloc: Global, device: V) -> Result<DeviceDisk<V>, HostError>
+        requires { V.calls device ≡ [] }
+        ensures failed { IfOk result (λ it. it.failed ≡ 0) }
+        ensures mixes { IfOk result (λ it. IsMixing (told_of it)) }
+        ensures calls { IfOk result (λ it. IsSyncedAndRead it.noted (V.calls device) (V.calls it.device)) }
+    {
+        DeviceDisk::open_by(alloc, device, true)
+    }
+
+    fn open_by(alloc: Global, device: V, mixes: bool) -> Result<DeviceDisk<V>, HostError>
+        requires { V.calls device ≡ [] }
+        ensures failed { IfOk result (λ it. it.failed ≡ 0) }
+        ensures mixes { IfOk result (λ it. (told_of it).mixes ≡ mixes) }
+        ensures calls { IfOk result (λ it. IsSyncedAndRead it.noted (V.calls device) (V.calls it.device)) }
     {
         let mut device = device;
-        sync_whole(&mut device, Half::A)?;
-        sync_whole(&mut device, Half::B)?;
-        let a = read_whole(alloc, &mut device, Half::A)?;
-        let b = read_whole(alloc, &mut device, Half::B)?;
+        sync_file(&mut device, Half::A)?;
+        sync_file(&mut device, Half::B)?;
+        let a = read_file(alloc, &mut device, Half::A)?;
+        let b = read_file(alloc, &mut device, Half::B)?;
         Ok(DeviceDisk {
             device,
-            noted: DeferredDisk::new(alloc, a, b),
+            noted: DeferredDisk::holding(alloc, mixes, a, b),
             failed: 0,
             cause: None,
         })
@@ -101,6 +124,33 @@ fn fail(failed: &mut u64) -> DeviceFault
     DeviceFault
 }
 
+// One call more has failed, with this error.
+fn fail_with(
+    failed: &mut u64,
+    cause: &mut Option<FailedCall>,
+    asked: (HostCall, HostFile),
+    error: io::Error,
+) -> DeviceFault
+    requires { failed.old < 2 ^ 64 - 1 }
+    ensures { failed.new ≡ failed.old + 1 }
+{
+    let (call, file) = asked;
+    *cause = Some(FailedCall { call, file, error });
+    fail(failed)
+}
+
+// One call more has failed, as there is no memory to note it.
+fn fail_in_memory(
+    failed: &mut u64,
+    cause: &mut Option<FailedCall>,
+    asked: (HostCall, HostFile),
+) -> DeviceFault
+    requires { failed.old < 2 ^ 64 - 1 }
+    ensures { failed.new ≡ failed.old + 1 }
+{
+    fail_with(failed, cause, asked, io::ErrorKind::OutOfMemory.into())
+}
+
 // What was noted was made, or it failed.
 fn end(
     noted: &mut DeferredDisk,
@@ -114,6 +164,7 @@ fn end(
     ensures noted { MatchResult result
         (λ _. (calls_of noted.new ≡ after_report (calls_of noted.old)) × (noted.new.failures ≡ noted.old.failures))
         (λ _. noted.new ≡ noted.old) }
+    ensures mixes { noted.new.mixes ≡ noted.old.mixes }
     ensures failed { MatchResult result (λ _. failed.new ≡ failed.old) (λ _. failed.new ≡ failed.old + 1) }
 {
     match made {
@@ -122,11 +173,7 @@ fn end(
             noted.report_done(count);
             Ok(())
         }
-        Err(error) => {
-            let (call, file) = asked;
-            *cause = Some(FailedCall { call, file, error });
-            Err(fail(failed))
-        }
+        Err(error) => Err(fail_with(failed, cause, asked, error)),
     }
 }
 
@@ -134,14 +181,15 @@ impl<V: Device> Disk for DeviceDisk<V> {
     ghost state = { told_of };
 
     ghost sound = { λ d honest. told_sound (state_by_calls d.noted) d.failed
-        (sound_ordered d.noted.past.calls d.noted.failures d.noted.began d.noted.wrote) };
+        (sound_ordered d.noted.mixes d.noted.past.calls d.noted.failures
+        d.noted.began d.noted.wrote d.noted.within) };
 
     fn failures(&self) -> u64 {
         self.failed
     }
 
     fn mixes(&self) -> bool {
-        false
+        self.noted.mixes()
     }
 
     fn len(&mut self, half: Half) -> Result<u64, DeviceFault>
@@ -184,11 +232,11 @@ impl<V: Device> Disk for DeviceDisk<V> {
         if self.failed > 0 || at.checked_add(bytes.len() as u64).is_none() {
             return Err(fail(&mut self.failed));
         }
+        let asked = (HostCall::Write, HostFile::of_half(half));
         // it is noted first, as a write that fails may have done any part
         match self.noted.write_at(half, at, bytes) {
             Ok(()) => {
                 let made = write_whole(&mut self.device, half, at, bytes);
-                let asked = (HostCall::Write, HostFile::of_half(half));
                 end(
                     &mut self.noted,
                     &mut self.failed,
@@ -197,7 +245,7 @@ impl<V: Device> Disk for DeviceDisk<V> {
                     made,
                 )
             }
-            Err(_) => Err(fail(&mut self.failed)),
+            Err(_) => Err(fail_in_memory(&mut self.failed, &mut self.cause, asked)),
         }
     }
 
@@ -213,11 +261,11 @@ impl<V: Device> Disk for DeviceDisk<V> {
         if self.failed > 0 {
             return Err(fail(&mut self.failed));
         }
+        let asked = (HostCall::Cut, HostFile::of_half(half));
         // it is noted first, as a write is
         match self.noted.cut(half, len) {
             Ok(()) => {
                 let made = cut_whole(&mut self.device, half, len);
-                let asked = (HostCall::Cut, HostFile::of_half(half));
                 end(
                     &mut self.noted,
                     &mut self.failed,
@@ -226,7 +274,7 @@ impl<V: Device> Disk for DeviceDisk<V> {
                     made,
                 )
             }
-            Err(_) => Err(fail(&mut self.failed)),
+            Err(_) => Err(fail_in_memory(&mut self.failed, &mut self.cause, asked)),
         }
     }
 
@@ -241,34 +289,34 @@ impl<V: Device> Disk for DeviceDisk<V> {
         if self.failed > 0 {
             return Err(fail(&mut self.failed));
         }
-        let (call, file) = (HostCall::Sync, HostFile::of_half(half));
+        let asked = (HostCall::Sync, HostFile::of_half(half));
         // it is noted once it is made, as a sync that failed binds nothing
         match sync_whole(&mut self.device, half) {
             Ok(()) => match self.noted.sync(half) {
-                Ok(()) => {
-                    let asked = (call, file);
-                    end(
-                        &mut self.noted,
-                        &mut self.failed,
-                        &mut self.cause,
-                        asked,
-                        Ok(()),
-                    )
-                }
-                Err(_) => Err(fail(&mut self.failed)),
+                Ok(()) => end(
+                    &mut self.noted,
+                    &mut self.failed,
+                    &mut self.cause,
+                    asked,
+                    Ok(()),
+                ),
+                Err(_) => Err(fail_in_memory(&mut self.failed, &mut self.cause, asked)),
             },
-            Err(error) => {
-                self.cause = Some(FailedCall { call, file, error });
-                Err(fail(&mut self.failed))
-            }
+            Err(error) => Err(fail_with(&mut self.failed, &mut self.cause, asked, error)),
         }
     }
 }
 
 /// All that a crash may leave of the files of the device, whatever they held as it was made, is among what the state of the disk says: what
-/// is proved of an honest disk is so of these files, as far as the device does what its calls say (`specs/DeviceFiles.antt`).
+/// is proved of an honest disk is so of these files, as far as the device does what its calls say (`specs/DeviceFiles.antt`). A disk that says
+/// that its writes mix stands on more: that writes of the device do.
+#[tactic(auto, using(crate::proofs::Telling::left_told, crate::proofs::Telling::left_mixing))]
 pub fn a_crash_leaves_what_is_told<V: Device>(disk: &DeviceDisk<V>)
-    ensures { (first holds left : Image) → FilesAfter first (V.calls disk.now.device) holds left
+    ensures tears { (told_of disk.now).mixes ≡ false
+        → (first holds left : Image) → FilesAfter first (V.calls disk.now.device) holds left
+        → (told_of disk.now).may_leave left }
+    ensures mixes { IsMixing (told_of disk.now)
+        → (first holds left : Image) → MixingFilesAfter first (V.calls disk.now.device) holds left
         → (told_of disk.now).may_leave left }
 {
     // no effect at run time: the proof reads here what is always true of the disk

@@ -1,7 +1,7 @@
 //! A fault at each call of the device in turn.
 use crate::script::{STEPS, held_after, run, step, synced_after};
 use device_disk::{DeviceDisk, InjectedFault, MemoryDevice, a_crash_leaves_what_is_told};
-use disk_trait::{Disk, Half};
+use disk_trait::{Disk, Half, HostCall, HostError, HostFile};
 use std::io;
 use std::test::Fail;
 
@@ -55,6 +55,44 @@ fn a_call_that_fails_is_the_last_one(rt: HostRuntime) -> Result<(), Fail> {
             assert!(rt; is_synced(&device, done), "call {call}");
         }
     }
+    Ok(())
+}
+
+#[test]
+fn an_opening_tells_the_call_that_failed(rt: HostRuntime) -> Result<(), Fail> {
+    let asked = [
+        (HostCall::Sync, HostFile::HalfA),
+        (HostCall::Sync, HostFile::HalfB),
+        (HostCall::Read, HostFile::HalfA),
+        (HostCall::Read, HostFile::HalfB),
+    ];
+    for (number, (call, file)) in asked.into_iter().enumerate() {
+        let kind = io::ErrorKind::StorageFull;
+        let fault = Some((number as u64, InjectedFault::Failed(kind)));
+        let device = MemoryDevice::new(rt.alloc(), fault);
+        match DeviceDisk::open(rt.alloc(), device) {
+            Err(HostError::Failed(failed)) => {
+                assert_eq!(rt; failed.call, call);
+                assert_eq!(rt; failed.file, file);
+                assert_eq!(rt; failed.error.kind(), kind);
+            }
+            _ => assert!(rt; false, "call {number}"),
+        }
+    }
+    Ok(())
+}
+
+#[test]
+fn a_disk_says_that_its_writes_mix_where_that_is_asked_for(rt: HostRuntime) -> Result<(), Fail> {
+    let device = MemoryDevice::new(rt.alloc(), None);
+    assert!(rt; !DeviceDisk::open(rt.alloc(), device)?.mixes());
+    let device = MemoryDevice::new(rt.alloc(), None);
+    let mut disk = DeviceDisk::open_mixing(rt.alloc(), device)?;
+    assert!(rt; disk.mixes());
+    a_crash_leaves_what_is_told(&disk);
+    assert_eq!(rt; run(&mut disk), STEPS);
+    assert!(rt; disk.mixes());
+    assert!(rt; is_synced(&disk.into_device(), STEPS));
     Ok(())
 }
 

@@ -16,7 +16,8 @@ use std::test::Fail;
 fn write_and_sync(disk: &mut DeferredDisk, bytes: &[u8]) -> Result<(), DeviceFault>
     requires room { (state_by_calls disk.old).failures < 2 ^ 64 - 1 }
     ensures { OnOk result (pending_of disk.old ≡ [] → (image : Image)
-        → OrdersMayLeave (calls_of disk.old).start (writes Half.A 0 bytes.now ∷ (calls_of disk.old).done) image
+        → OrdersMayLeave (state_by_calls disk.old).mixes (calls_of disk.old).start
+        (writes Half.A 0 bytes.now ∷ (calls_of disk.old).done) image
         → (state_by_calls disk.new).left_since (state_by_calls disk.old).moment image) }
 {
     between_orders();
