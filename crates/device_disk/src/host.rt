@@ -1,6 +1,7 @@
 // A device that is two files of the operating system. Each of its four calls is one call of the system, and a note of it: that the system
 // does in it what the note says is to be read here.
-ghost use Rattle.std.specs.Prelude.{◌≡◌, ◌≤◌, ◌∷◌, [], length, take};
+ghost use Rattle.std.specs.Prelude.{◌≡◌, ◌≤◌, ◌∷◌, [], IfOk, length, take};
+ghost use Rattle.disk_trait.specs.Host.{IsAboveStreams};
 ghost use Rattle.disk_trait.specs.Orders.{writes, cuts, syncs};
 ghost use Rattle.device_disk.specs.DeviceCalls.{done, failed, gave};
 ghost use Rattle.device_disk.specs.DeviceAnswers.{MatchAnswer};
@@ -9,22 +10,43 @@ ghost use Rattle.device_disk.specs.Notes.{order_value};
 use crate::device::{Device, DeviceAnswer};
 use crate::note::{DeviceNote, DeviceOrder};
 use crate::past::DevicePast;
-use disk_trait::Half;
+use disk_trait::{Half, HostDisk, HostError, IfMissing};
 use std::fs::File;
 use std::io;
 use std::os::unix::fs::FileExt;
+use std::rt::Files;
 
-/// Two files of the operating system, open for reading and for writing.
+/// Two files of the operating system, open for reading and for writing. Neither has a descriptor of a standard stream.
 #[derive(Drop)]
 pub struct HostDevice {
     a: File,
     b: File,
     past: DevicePast,
+    ghost a_descriptor: { IsAboveStreams a },
+    ghost b_descriptor: { IsAboveStreams b },
 }
 
 impl HostDevice {
+    /// The two files of a folder, opened and locked as those of a `HostDisk` are. They stay locked as long as the device lives.
+    ///
+    /// # Errors
+    ///
+    /// Those of `HostDisk::open_files`.
+    pub fn open_files<R: Files<File = File> + AllocGlobal>(
+        rt: &R,
+        dir: &str,
+        if_missing: IfMissing,
+    ) -> Result<HostDevice, HostError>
+        ensures { IfOk result (λ device. ⟦<HostDevice as Device>⟧.calls device ≡ []) }
+    {
+        let (a, b) = HostDisk::open_files(rt, dir, if_missing)?.into_files();
+        Ok(HostDevice::of_files(a, b))
+    }
+
     /// These two files, of which nothing was asked yet.
     pub fn of_files(a: File, b: File) -> HostDevice
+        requires a { IsAboveStreams a }
+        requires b { IsAboveStreams b }
         ensures { ⟦<HostDevice as Device>⟧.calls result ≡ [] }
     {
         let past = DevicePast::new();

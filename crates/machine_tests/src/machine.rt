@@ -1,8 +1,12 @@
 //! A machine in memory with one folder, whose disk outlives the program that opened it.
+//!
+//! `device`: the same over a device in memory, one of whose calls goes wrong.
 ghost use Rattle.std.specs.Prelude.{⊤, IfOk};
 ghost use Rattle.disk_trait.specs.Disk.{IsHonest};
 ghost use Rattle.disk_trait.specs.Faulty.{faulty};
 ghost use Rattle.disk_trait.specs.Memory.{state_of};
+
+pub mod device;
 
 use disk_trait::{DeviceFault, Disk, FailedCall, FuseDisk, Half, HostError, IfMissing, MemoryDisk};
 use std::alloc::{Alloc, AllocError, Global};

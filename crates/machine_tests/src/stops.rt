@@ -1,4 +1,6 @@
 //! Programs that are stopped at a call of the disk, and what the next one finds.
+ghost use Rattle.machine_tests.specs.Machine.{IsHonestMachine};
+
 use crate::machine::MemoryMachine;
 use crate::programs::run_on_machine;
 use command_words::Syncs;
@@ -6,22 +8,29 @@ use disk_trait::{Crash, Disk, MemoryDisk};
 use std::alloc::Global;
 use std::cell::Cell;
 use std::mem;
+use std::random::RandomSource;
 use std::test::Fail;
-use store_commands::{Heard, History, Lines, Piped, Reasons, RefusalTeller, SessionOutput};
+use store_commands::{
+    Folders, Heard, History, Lines, Piped, Reasons, RefusalTeller, SessionOutput,
+};
 use user_macros::{Macros, NoFunctions};
 
 /// More calls of the disk than the program makes here.
 const MOST_CALLS: u64 = 60;
 
 /// Three forms that write. The answer to each is a digit on a line.
-const FORMS: &[u8] = b"(SETF (GET 'A 'B) 1)\n(SETF (GET 'A 'B) 2)\n(SETF (GET 'A 'B) 3)\n";
+pub const FORMS: &[u8] = b"(SETF (GET 'A 'B) 1)\n(SETF (GET 'A 'B) 2)\n(SETF (GET 'A 'B) 3)\n";
 
-const ONE_BY_ONE: &str = "--strict";
+pub const ONE_BY_ONE: &str = "--strict";
 
-const TOGETHER: &str = "--group";
+pub const TOGETHER: &str = "--group";
 
 /// What the program with these words answers to this input on a machine.
-fn answers_to(alloc: Global, machine: &MemoryMachine, words: &[&str], input: &[u8]) -> Vec<u8> {
+pub fn answers_to<R>(alloc: Global, machine: &R, words: &[&str], input: &[u8]) -> Vec<u8>
+where
+    R: Folders + RandomSource + AllocGlobal,
+    requires honest { IsHonestMachine R.Disk.state (R.opens machine.now) }
+{
     let mut text = Vec::new(alloc);
     if text.extend_from_slice(input).is_err() {
         return Vec::new(alloc);
@@ -42,7 +51,11 @@ fn answers_to(alloc: Global, machine: &MemoryMachine, words: &[&str], input: &[u
 }
 
 /// What the program answers to this input on a machine, with an option of `run`.
-pub fn answers_on(alloc: Global, machine: &MemoryMachine, option: &str, input: &[u8]) -> Vec<u8> {
+pub fn answers_on<R>(alloc: Global, machine: &R, option: &str, input: &[u8]) -> Vec<u8>
+where
+    R: Folders + RandomSource + AllocGlobal,
+    requires honest { IsHonestMachine R.Disk.state (R.opens machine.now) }
+{
     let words = ["pazturrok", "run", "store", option];
     answers_to(alloc, machine, &words, input)
 }
@@ -79,7 +92,7 @@ fn stopped_after(
 }
 
 /// The answer to the question after so many of the forms.
-fn answer_after(forms: usize) -> &'static [u8] {
+pub fn answer_after(forms: usize) -> &'static [u8] {
     match forms {
         0 => b"NIL\n".as_slice(),
         1 => b"1\n".as_slice(),
@@ -89,7 +102,7 @@ fn answer_after(forms: usize) -> &'static [u8] {
 }
 
 /// How many forms may be there where so many were answered: the next one, or all of a group.
-fn most_after(answered: usize, option: &str) -> usize {
+pub fn most_after(answered: usize, option: &str) -> usize {
     if option == TOGETHER {
         3
     } else {

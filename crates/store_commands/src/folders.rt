@@ -1,13 +1,15 @@
 // What opens the files of a store in a folder.
-ghost use Rattle.std.specs.Prelude.{◌≡◌, ◌≢◌, ◌⊎◌, ◌<◌, ◌-◌, ◌^◌, ⊤, [], true, Decides, Err, IfOk, Option, Result, option_map};
+ghost use Rattle.std.specs.Prelude.{◌≡◌, ◌≢◌, ◌⊎◌, ◌<◌, ◌-◌, ◌^◌, ⊤, [], true, Decides, Err, IfOk, Option, Result, false, option_map};
 ghost use Rattle.clap.specs.Words.{Text};
-ghost use Rattle.disk_trait.specs.Disk.{file_of};
+ghost use Rattle.device_disk.specs.Told.{told_of};
+ghost use Rattle.disk_trait.specs.Disk.{IsHonest, file_of};
 ghost use Rattle.disk_trait.specs.declared.host.HostError.{HostError};
 ghost use Rattle.disk_trait.specs.declared.host.IfMissing.{IfMissing};
 ghost use Rattle.gate_log.specs.Layout.{HasOpenGate};
 ghost use Rattle.store_commands.specs.Folders.{HoldsStore, IsFailureOf, LooksWhether, OpensStore};
 
-use disk_trait::{DeviceFault, Disk, FailedCall, Half, HostDisk, HostError, IfMissing};
+use device_disk::{DeviceDisk, HostDevice};
+use disk_trait::{DeviceFault, Disk, FailedCall, Half, HostError, IfMissing};
 use std::io;
 
 /// The byte that a half in use begins with.
@@ -23,7 +25,7 @@ pub trait TellsCause: Disk {
         ensures { tells self.now (option_map HostError.Failed result) };
 }
 
-impl TellsCause for HostDisk {
+impl TellsCause for DeviceDisk<HostDevice> {
     ghost tells = { λ disk cause. ⊤ };
 
     fn cause(&self) -> Option<FailedCall> {
@@ -46,12 +48,18 @@ pub trait Folders {
 }
 
 impl Folders for HostRuntime {
-    type Disk = HostDisk;
+    type Disk = DeviceDisk<HostDevice>;
 
-    ghost opens = { λ host folder if_missing result. IfOk result (λ disk. (⟦<HostDisk as Disk>⟧.state disk).failures ≡ 0) };
+    ghost opens = { λ host folder if_missing result. IfOk result (λ disk.
+        IsHonest (told_of disk) × ((told_of disk).mixes ≡ false)) };
 
-    fn open_files(&self, folder: &str, if_missing: IfMissing) -> Result<HostDisk, HostError> {
-        HostDisk::open_files(self, folder, if_missing)
+    fn open_files(
+        &self,
+        folder: &str,
+        if_missing: IfMissing,
+    ) -> Result<DeviceDisk<HostDevice>, HostError> {
+        let files = HostDevice::open_files(self, folder, if_missing)?;
+        DeviceDisk::open(self.alloc(), files)
     }
 }
 

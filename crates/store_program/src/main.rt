@@ -4,7 +4,7 @@
 //! - `opening`: at a terminal, how much there is to open; `pages`: where prompts go, and what the pages say
 //! - `counted`: the refusals among answers, and how many answers there were; `reasons`: which refused forms standard error tells of;
 //!   `ends`: what it tells at the end
-//! - `given`: the words, and the stack; `syncing`: the files, of which is said what the words ask for
+//! - `given`: the words, and the stack
 //! - `kept`: what to do where the store is kept with one sync; `heads`: what the files of a store begin with
 #![tactic(auto)]
 
@@ -16,7 +16,6 @@ mod kept;
 mod opening;
 mod pages;
 mod reasons;
-mod syncing;
 
 ghost use Rattle.std.specs.Prelude.{◌≡◌, true, IfErr, is_ok};
 ghost use Rattle.user_macros.specs.Sound.{IsSoundCall};
@@ -29,7 +28,6 @@ use crate::kept::tell_way;
 use crate::opening::Telling;
 use crate::pages::Pages;
 use crate::reasons::{reasons_for, tell_unread};
-use crate::syncing::Syncing;
 use command_words::{CommandWay, asks_for_quiet, syncs_asked, way_of};
 use lisp_object::refusal::NO_MEMORY;
 use message_command::run_messages;
@@ -51,6 +49,7 @@ use store_commands::{
     Status, Terminal, end_with, program, program_at_terminal,
 };
 use store_looks::{check, look};
+use system_folders::Syncing;
 use user_macros::{Answer, Call, Cause, MacroFn, MacroFunctions, Macros, RegistryRefusal};
 
 // Does what the words ask for, with macro functions that are all registered.

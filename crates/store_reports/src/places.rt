@@ -3,7 +3,8 @@ ghost use Rattle.std.specs.Prelude.{◌≡◌, ℕ, List, IfOk, MatchResult, ⊤
 ghost use Rattle.store_reports.specs.NewStorePlaces.{Deed, begun, not_begun, opened, told, placed, not_placed, taken_away};
 
 use crate::backups::BackupError;
-use disk_trait::{Disk, HostDisk, HostError, IfMissing};
+use device_disk::{DeviceDisk, HostDevice};
+use disk_trait::{Disk, HostError, IfMissing};
 use std::fs::File;
 use std::path::Path;
 use std::rt::Files;
@@ -62,7 +63,7 @@ pub trait StorePlaces {
 }
 
 impl StorePlaces for HostRuntime {
-    type Disk = HostDisk;
+    type Disk = DeviceDisk<HostDevice>;
 
     ghost may = { λ host dir. ⊤ };
 
@@ -73,12 +74,13 @@ impl StorePlaces for HostRuntime {
         make_beside(self, dir)
     }
 
-    fn open(&self, dir: &str, if_missing: IfMissing) -> Result<HostDisk, HostError> {
+    fn open(&self, dir: &str, if_missing: IfMissing) -> Result<DeviceDisk<HostDevice>, HostError> {
         let partial = format!(in self.alloc(); "{}.partial", without_slashes(dir))?;
-        HostDisk::open_files(self, partial.as_str(), if_missing)
+        let files = HostDevice::open_files(self, partial.as_str(), if_missing)?;
+        DeviceDisk::open(self.alloc(), files)
     }
 
-    fn cause(&self, disk: &HostDisk) -> Option<HostError> {
+    fn cause(&self, disk: &DeviceDisk<HostDevice>) -> Option<HostError> {
         match disk.failed_call() {
             Some(failed) => Some(HostError::Failed(failed)),
             None => None,
