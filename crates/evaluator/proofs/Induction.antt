@@ -1,6 +1,8 @@
 -- One induction over the value of a form: what holds of each step holds of the value of every form.
 --     Operators      what is asked of the operators
 --     Steps      what is asked of each step
+--     default_place_numbered, get_place_numbered, place_numbered      why an object is no place
+--     of_head, set_place_holds      what holds of an operator by its head
 --     every_value      the value of a form
 use Rattle.std.proofs.Common.{◌≡◌, pos, refl, Bool, true, false, not, ◌&&◌, ◌||◌, ◌==◌, cond, List, [], ◌∷◌, ◌++◌, Option, Some, None, option_map, Err, codes, bytes_eq, arith}
 use Rattle.std.specs.Option.{option_or}
@@ -26,7 +28,7 @@ use Rattle.evaluator.specs.Operators.{Operator, Action, quotes, sequence, choose
 use Rattle.evaluator.specs.Value.{value_by, values_by, choice_by, other_value_by, values_at_place_by, values_before_place_by, sought_by, selected_by, guarded_by, symbol_value_by, Parts, action_value_by, form_value_by, unless, last, has_truth, are_clauses, is_base_by, is_case_place, place_refusal_by, case_place_refusal, get_place_refusal, set_place_by, rest, value_over, default_place_refusal, has_default}
 
 -- ---- why an object is no place
-abbrev IsNumbered : Option ℕ → Type 0
+abbrev pub IsNumbered : Option ℕ → Type 0
 IsNumbered (Some code) = IsNumber code
 IsNumbered None = Unit {0}
 
@@ -34,13 +36,13 @@ either_numbered : (b : Bool) (x y : Option ℕ) → IsNumbered x → IsNumbered 
 either_numbered true x y first second = first
 either_numbered false x y first second = second
 
-default_place_numbered : (place : Object) → IsNumbered (default_place_refusal place)
+pub default_place_numbered : (place : Object) → IsNumbered (default_place_refusal place)
 default_place_numbered (pair operator subforms) =
     either_numbered (not (is_standard (codes "GET") operator && is_proper_list subforms)) _ _ (omega arith, omega arith)
     (either_numbered (count subforms == 3 || count subforms == 2) _ _ tt (omega arith, omega arith))
 default_place_numbered _ = (omega arith, omega arith)
 
-get_place_numbered : (place : Object) → IsNumbered (get_place_refusal place)
+pub get_place_numbered : (place : Object) → IsNumbered (get_place_refusal place)
 get_place_numbered (pair operator subforms) =
     either_numbered (not (is_standard (codes "GET") operator && is_proper_list subforms)) _ _ (omega arith, omega arith) (either_numbered (count subforms == 2) _ _ tt (omega arith, omega arith))
 get_place_numbered _ = (omega arith, omega arith)
@@ -50,7 +52,7 @@ case_place_numbered (pair operator subforms) =
     either_numbered (not (is_standard (codes "READTABLE-CASE") operator && is_proper_list subforms)) _ _ (omega arith, omega arith) (either_numbered (count subforms == 1) _ _ tt (omega arith, omega arith))
 case_place_numbered _ = (omega arith, omega arith)
 
-place_numbered : (based : Bool) (place : Object) → IsNumbered (place_refusal_by based place)
+pub place_numbered : (based : Bool) (place : Object) → IsNumbered (place_refusal_by based place)
 place_numbered based place =
     either_numbered (is_base_by based place) None _ tt
     (either_numbered (is_case_place place) (case_place_refusal place) (get_place_refusal place) (case_place_numbered place) (get_place_numbered place))
@@ -117,12 +119,12 @@ module _ (based : Bool) (names : List Name) (Asks : WorldState → Object → Ty
 
   module _ (steps : Steps) where
     -- ---- the operators
-    abbrev ActionHolds : Action → Type 0
+    abbrev pub ActionHolds : Action → Type 0
     ActionHolds (calls function) = Function function
     ActionHolds (changes function) = (has_default : Bool) → Function (function has_default)
     ActionHolds _ = Unit {0}
 
-    abbrev OperatorHolds : Option Operator → Type 0
+    abbrev pub OperatorHolds : Option Operator → Type 0
     OperatorHolds (Some operator) = ActionHolds operator.action
     OperatorHolds None = Unit {0}
 
@@ -178,7 +180,7 @@ module _ (based : Bool) (names : List Name) (Asks : WorldState → Object → Ty
         (either (bytes_eq name (codes "ASSERT")) _ _ tt
         (of_function (function_named name) (world_operator name) (of_world (look_up_named name) (change_named name)))))))))
 
-    of_head : (head : Object) → OperatorHolds (operator_of names head)
+    pub of_head : (head : Object) → OperatorHolds (operator_of names head)
     of_head (symbol home name) =
         either (bytes_eq home common_lisp) (operator_named names name) _ (of_name name)
         (either (bytes_eq home pazturrok) (pazturrok_operator name) None (of_pazturrok name) tt)
@@ -214,7 +216,7 @@ module _ (based : Bool) (names : List Name) (Asks : WorldState → Object → Ty
     unless_one s (Some code) on number is = steps.refused s code number
     unless_one s None on number is = is
 
-    set_place_holds : (place : Object) → Function (set_place_by based place)
+    pub set_place_holds : (place : Object) → Function (set_place_by based place)
     set_place_holds place =
         elim (is_base_by based place) as (λ b. is_base_by based place ≡ b → Function (cond b set_base (cond (is_case_place place) set_case set))) [
           | true ↦ λ is. steps.operators.sets_base (and_parts based (is_standard (codes "*READ-BASE*") place) is).0

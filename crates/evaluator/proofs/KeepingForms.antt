@@ -1,4 +1,5 @@
 -- That a relation between the state before a form and the state after it holds, where it holds of each change.
+--     steps      what holds of each step
 --     value_keeps      the value of a form
 use Rattle.std.proofs.Common.{◌≡◌, ℕ, Bool, true, List}
 use Rattle.lisp_object.specs.Object.{Object}
@@ -57,7 +58,7 @@ module _ (based : Bool) (names : List Name) (Kept : WorldState → WorldState �
     changes_place = change_keeps Kept (λ s x i v. changes.properties s _);
   }
 
-  steps : Steps based names Asks Keeps Keeps IsKeeping
+  pub steps : Steps based names Asks Keeps Keeps IsKeeping
   steps = record {
     operators = operators;
     last_one = λ xs later. record { kept = changes.none later };

@@ -1,4 +1,5 @@
 -- That a form is refused under a number of evaluation.
+--     steps      what holds of each step
 --     value_numbered      the value of a form
 use Rattle.std.proofs.Common.{true, List}
 use Rattle.lisp_object.specs.Object.{Object}
@@ -50,7 +51,7 @@ module _ (names : List Name) where
     changes_place = change_numbered;
   }
 
-  steps : Steps true names Asks Of Of IsNumberedFunction
+  pub steps : Steps true names Asks Of Of IsNumberedFunction
   steps = record {
     operators = operators;
     last_one = λ xs later. record { number = tt };

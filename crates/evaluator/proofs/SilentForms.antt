@@ -1,4 +1,5 @@
 -- That a form which does not write leaves the state as it was.
+--     steps      what holds of each step
 --     value_silent      the value of a form
 use Rattle.std.proofs.Common.{true, List, refl}
 use Rattle.lisp_object.specs.Object.{Object}
@@ -46,7 +47,7 @@ module _ (names : List Name) where
     changes_place = change_silent;
   }
 
-  steps : Steps true names Asks Keeps Keeps IsSilent
+  pub steps : Steps true names Asks Keeps Keeps IsSilent
   steps = record {
     operators = operators;
     last_one = λ xs later. record { same = λ _. refl };

@@ -6,3 +6,4 @@ pub mod Operations
 pub mod ArgumentValues
 pub mod StandIns
 pub mod Direct
+pub mod FormsGivenBack

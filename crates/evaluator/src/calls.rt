@@ -1,5 +1,5 @@
 //! The calls of this crate: the value of a form, and what a form does.
-ghost use Rattle.std.specs.Prelude.{◌≡◌, IfOk, None, codes, length};
+ghost use Rattle.std.specs.Prelude.{◌≡◌, IfErr, IfOk, None, codes, length};
 ghost use Rattle.lisp_object.specs.Object.{pair, symbol};
 ghost use Rattle.lisp_object.specs.Datum.{object_of};
 ghost use Rattle.package_table.specs.Table.{common_lisp};
@@ -8,6 +8,7 @@ ghost use Rattle.lisp_operators.specs.Readtables.{AreFunctionNames};
 ghost use Rattle.lisp_operators.specs.EvaluationAnswers.{IsArgument, KeepsArguments};
 ghost use Rattle.evaluator.specs.Value.{value};
 ghost use Rattle.evaluator.specs.ArgumentValues.{arguments_in, Evaluates};
+ghost use Rattle.evaluator.specs.FormsGivenBack.{GivesBack, without_form};
 
 use crate::direct::{into_call, is_literal, set_moved};
 use crate::evaluation::evaluate_for;
@@ -38,16 +39,19 @@ pub fn evaluate(
 
 /// What a form does, as `evaluate` does it, where its value is not asked for. Gives whether anything was written. Where it is
 /// refused, or memory runs out, what was carried out before stays, and the marks are as they were. What the form is to store is
-/// moved out of it where it is SETF of a property to a literal.
+/// moved out of it where it is SETF of a property to a literal. A form that is refused for want of an operator or a macro function comes
+/// back beside the refusal.
 pub fn apply(
     alloc: Global,
     world: &mut World,
     names: &[FnName],
     form: Datum,
-) -> Result<bool, EvaluationError>
+) -> Result<bool, (EvaluationError, Option<Datum>)>
     requires names { AreFunctionNames names.now }
     requires form { IsArgument world.old.0.packages form }
-    ensures gives { Leaves result world.new.0 (value names.now world.old.0 (object_of form)) }
+    ensures gives { Leaves (without_form result) world.new.0
+        (value names.now world.old.0 (object_of form)) }
+    ensures kept { IfErr result (GivesBack form) }
     ensures marked { world.new.1 ≡ world.old.1 }
 {
     if is_literal(&form) {
@@ -55,7 +59,7 @@ pub fn apply(
     }
     match into_call(form, b"SETF", 3) {
         Ok(items) => assign(alloc, world, names, items),
-        Err(form) => carry_out(alloc, world, names, &form),
+        Err(form) => carry_out(alloc, world, names, form),
     }
 }
 
@@ -65,25 +69,35 @@ fn assign(
     world: &mut World,
     names: &[FnName],
     items: Vec<Datum>,
-) -> Result<bool, EvaluationError>
+) -> Result<bool, (EvaluationError, Option<Datum>)>
     requires names { AreFunctionNames names.now }
     requires counted { length items.items ≡ 3 }
     requires setf { object_of (Datum.List items.items None)
         ≡ pair (symbol common_lisp (codes "SETF")) (arguments_in items.items) }
     requires form { IsArgument world.old.0.packages (Datum.List items.items None) }
-    ensures gives { Leaves result world.new.0
+    ensures gives { Leaves (without_form result) world.new.0
         (value names.now world.old.0 (object_of (Datum.List items.items None))) }
+    ensures kept { IfErr result (GivesBack (Datum.List items.items None)) }
     ensures marked { world.new.1 ≡ world.old.1 }
 {
     let mut items = items;
     let value = items.remove(2);
-    match set_moved(world, &items[1], value) {
+    let set = match set_moved(world, &items[1], value) {
         Ok(set) => set,
         Err(value) => {
-            items.push(value)?;
-            let items = Items::from_vec(items);
-            carry_out(alloc, world, names, &Datum::List { items, tail: None })
+            return match items.push(value) {
+                Ok(()) => {
+                    let items = Items::from_vec(items);
+                    carry_out(alloc, world, names, Datum::List { items, tail: None })
+                }
+                Err(_) => Err((EvaluationError::OutOfMemory, None)),
+            };
         }
+    };
+    // of such a form memory alone can lack
+    match set {
+        Ok(wrote) => Ok(wrote),
+        Err(error) => Err((error, None)),
     }
 }
 
@@ -92,15 +106,17 @@ fn carry_out(
     alloc: Global,
     world: &mut World,
     names: &[FnName],
-    form: &Datum,
-) -> Result<bool, EvaluationError>
+    form: Datum,
+) -> Result<bool, (EvaluationError, Option<Datum>)>
     requires names { AreFunctionNames names.now }
-    requires form { IsArgument world.old.0.packages form.now }
-    ensures gives { Leaves result world.new.0 (value names.now world.old.0 (object_of form.now)) }
+    requires form { IsArgument world.old.0.packages form }
+    ensures gives { Leaves (without_form result) world.new.0
+        (value names.now world.old.0 (object_of form)) }
+    ensures kept { IfErr result (GivesBack form) }
     ensures marked { world.new.1 ≡ world.old.1 }
 {
-    match evaluate_for(alloc, world, names, form, ValueUse::Nothing) {
+    match evaluate_for(alloc, world, names, &form, ValueUse::Nothing) {
         Ok(evaluated) => Ok(evaluated.wrote),
-        Err(error) => Err(error),
+        Err(error) => Err((error, Some(form))),
     }
 }

@@ -293,14 +293,15 @@ fn put(
 ) -> Result<bool, EvaluationError>
     requires { IsStorable world.old.0.packages property literal }
     ensures gives { Leaves result world.new.0 (value_set property.entry (object_of literal) world.old.0) }
+    ensures errors { IfErr result (λ error. error ≡ EvaluationError.OutOfMemory) }
     ensures marked { world.new.1 ≡ world.old.1 }
 {
     world.put_at(property.symbol, property.indicator, trimmed(literal))?;
     Ok(true)
 }
 
-/// What SETF of a place to a form does, where they are such a property and a literal, which is moved out of the form. If they are
-/// not, nothing is done, and the form is given back.
+/// What SETF of a place to a form does, where they are such a property and a literal, which is moved out of the form. It is
+/// refused under no number. If they are not, nothing is done, and the form is given back.
 pub(crate) fn set_moved(
     world: &mut World,
     place: &Datum,
@@ -310,6 +311,7 @@ pub(crate) fn set_moved(
     requires form { IsArgument world.old.0.packages form }
     ensures gives { (names : List Name) → IfOk result (λ set. Leaves set world.new.0
         (value names world.old.0 (setf (object_of place.now) (object_of form)))) }
+    ensures errors { IfOk result (λ set. IfErr set (λ error. error ≡ EvaluationError.OutOfMemory)) }
     ensures same { IfErr result (λ same. same ≡ form) }
     ensures unchanged { IfErr result (λ _. world.new ≡ world.old) }
     ensures marked { world.new.1 ≡ world.old.1 }

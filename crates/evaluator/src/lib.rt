@@ -5,7 +5,8 @@
 //! `World` exactly what the definition says. Where the form is refused, or memory runs out, what was carried out before stays,
 //! and no clause says more of the world then but that its marks are as they were: the crate `form_eval` takes it back.
 //!
-//! - `calls`: the value of a form (`evaluate`), and what a form does, where its value is not asked for (`apply`)
+//! - `calls`: the value of a form (`evaluate`), and what a form does, where its value is not asked for (`apply`, which
+//!   gives back a form that is refused for want of a function)
 //! - `evaluation`: the value of a form, by recursion on it; `wanted`: what is asked of a value, and what stands for it. Of PROGN
 //!   all values but the last are not made. Of IF's test it is only asked whether it is true, and of a value behind those that are
 //!   too large for a LIST whether it is too deep
@@ -19,6 +20,8 @@
 //!
 //! # Laws for the crates above
 //!
+//! - proofs/Forms.antt, proofs/Heads.antt, proofs/Places.antt and proofs/Steps.antt: a form by what is at its head, and by the items of
+//!   its list.
 //! - proofs/SilentForms.antt: a form that does not write leaves the state as it was.
 //! - proofs/SoundForms.antt: a form that is evaluated in a sound state leaves a sound one.
 //! - proofs/KeepingForms.antt: a relation that holds of each change holds of a form.

@@ -1,4 +1,5 @@
 -- What holds of a form as one transaction.
+--     symbol_still, symbol_numbered      a symbol is interned
 --     accepted_silent      one that does not write leaves the state as it was
 --     accepted_covers      it leaves no readtables which name other functions than those that may be named
 --     accepted_without_base      one that is accepted where *READ-BASE* is no variable is accepted where it is one
@@ -33,7 +34,7 @@ use Rattle.package_table.specs.Symbols.{symbols}
 use Rattle.form_eval.specs.Acceptance.{packages_of_interning, after_symbol_interned, with_symbols_interned, accepted_over, accept_over, accepted_by, accept_by, accept, question_after_interning, question_value}
 
 -- ---- one that does not write
-symbol_still : (t : Table) (x : Symbol) (u : Table) → after_symbol_interned t x ≡ Ok u → intern_changes t x.0 x.1 ≡ false → u ≡ t
+pub symbol_still : (t : Table) (x : Symbol) (u : Table) → after_symbol_interned t x ≡ Ok u → intern_changes t x.0 x.1 ≡ false → u ≡ t
 symbol_still t x u is none =
     elim (after_intern t x.0 x.1) as (λ r. after_intern t x.0 x.1 ≡ r → packages_of_interning r ≡ Ok u → u ≡ t) [
       | Ok q ↦ λ made same. sym (same_ok q.1 u same) ∙ intern_still t x.0 x.1 q.0 q.1 made none
@@ -116,7 +117,7 @@ pub accepted_as_before : (based : Bool) (names : List Name) (s : WorldState) (x 
 accepted_as_before based names s x d is = accepted_with_more based (standard_operator_of names) (operator_of names) (standard_among names) s x d is
 
 -- ---- numbers
-symbol_numbered : (u : Table) (y : Symbol) → IsPackagesNumbered (after_symbol_interned u y)
+pub symbol_numbered : (u : Table) (y : Symbol) → IsPackagesNumbered (after_symbol_interned u y)
 symbol_numbered u y = of_table (after_intern u y.0 y.1) (numbered_intern u y.0 y.1)
   where
     of_table : (r : Result (Name × Table) PackageError) → IsPackagesNumbered r → IsPackagesNumbered (packages_of_interning r)

@@ -2,8 +2,11 @@
 --     accepted      its value
 --     applied_left      what it leaves where it is carried out
 --     applied_refused, answered_refused      where it is refused, or memory runs out
-use Rattle.std.proofs.Common.{◌≡◌, ℕ, Bool, true, ◌||◌, List, Result, Ok, Err, ap, sym, refl, ◌∙◌}
+--     interning_wants_none      no symbol is refused for want of a function
+use Rattle.std.proofs.Common.{◌≡◌, ℕ, Bool, true, false, ◌||◌, List, Result, Ok, Err, ap, sym, refl, ◌∙◌}
 use Rattle.lisp_object.specs.Object.{Object}
+use Rattle.package_table.specs.declared.error.PackageError.{PackageError}
+use Rattle.package_table.specs.declared.error.PackageError.TheVariants.{NoPackage, NotExternal, LockedPackage, EmptyName, NoSuchPackage, PackageExists, PackageIsLocked, NameConflict, NotAccessible, Limit, OutOfMemory as NoRoom}
 use Rattle.package_table.specs.Symbols.{symbols}
 use Rattle.package_table.specs.Table.{Name}
 use Rattle.plist_state.specs.State.{WorldState}
@@ -13,8 +16,23 @@ use Rattle.lisp_operators.specs.declared.error.EvaluationError.TheVariants.{Refu
 use Rattle.lisp_operators.specs.Effects.{Leaves, effect}
 use Rattle.lisp_operators.specs.EvaluationAnswers.{Answers}
 use Rattle.lisp_operators.specs.Evaluation.{Done, Evaluation, also}
+use Rattle.lisp_operators.specs.ErrorNumbers.{of_package}
+use Rattle.evaluator.specs.FormsGivenBack.{wants_function}
 use Rattle.evaluator.specs.Value.{value}
 use Rattle.form_eval.specs.Acceptance.{accept, accepted_by, with_symbols_interned}
+
+pub interning_wants_none : (e : PackageError) → wants_function (of_package e) ≡ false
+interning_wants_none NoPackage = refl
+interning_wants_none NotExternal = refl
+interning_wants_none LockedPackage = refl
+interning_wants_none EmptyName = refl
+interning_wants_none NoSuchPackage = refl
+interning_wants_none PackageExists = refl
+interning_wants_none PackageIsLocked = refl
+interning_wants_none NameConflict = refl
+interning_wants_none NotAccessible = refl
+interning_wants_none Limit = refl
+interning_wants_none NoRoom = refl
 
 abbrev written_before : Bool → Result (WorldState × Bool) ℕ → Result (WorldState × Bool) ℕ
 written_before interned (Ok p) = Ok (p.0, interned || p.1)

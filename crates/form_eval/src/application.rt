@@ -2,12 +2,14 @@
 ghost use Rattle.std.specs.Prelude.{◌≡◌, ◌∷◌, ◌++◌, [], IfOk, IfErr};
 ghost use Rattle.lisp_object.specs.Datum.{object_of};
 ghost use Rattle.form_eval.specs.Acceptance.{accept};
+ghost use Rattle.evaluator.specs.FormsGivenBack.{GivesBack, without_form};
 ghost use Rattle.lisp_operators.specs.Effects.{Leaves};
 ghost use Rattle.lisp_operators.specs.Readtables.{AreFunctionNames};
 ghost use Rattle.form_eval.specs.Laws.{MayEvaluate};
 
 use crate::read_form::ReadForm;
 use crate::transaction::{are_names, intern_symbols};
+use lisp_object::Datum;
 use lisp_operators::{EvaluationError, either};
 use plist_state::World;
 use readtable_core::FnName;
@@ -32,6 +34,29 @@ pub fn apply<M: Meaning>(
     ensures marked { IfOk result (λ _. world.new.1 ≡ world.old.1 ++ world.old.0 ∷ []) }
     ensures unchanged { IfErr result (λ _. world.new ≡ world.old) }
 {
+    match apply_keeping(alloc, world, macros, form) {
+        Ok(wrote) => Ok(wrote),
+        Err((error, _form)) => Err(error),
+    }
+}
+
+/// Does what `apply` does. A form that is refused for want of an operator or a macro function comes back beside the refusal.
+///
+/// # Errors
+/// Those of `accept`. The world is then as it was, its marks too.
+pub fn apply_keeping<M: Meaning>(
+    alloc: Global,
+    world: &mut World,
+    macros: &M,
+    form: ReadForm,
+) -> Result<bool, (EvaluationError, Option<Datum>)>
+    requires form { MayEvaluate world.old.0.packages form }
+    ensures gives { Leaves (without_form result) world.new.0
+        (accept M.functions.names world.old.0 (object_of form.datum)) }
+    ensures kept { IfErr result (GivesBack form.datum) }
+    ensures marked { IfOk result (λ _. world.new.1 ≡ world.old.1 ++ world.old.0 ∷ []) }
+    ensures unchanged { IfErr result (λ _. world.new ≡ world.old) }
+{
     let names = macros.names();
     are_names(names);
     perform(alloc, world, names, form)
@@ -43,20 +68,24 @@ fn perform(
     world: &mut World,
     names: &[FnName],
     form: ReadForm,
-) -> Result<bool, EvaluationError>
+) -> Result<bool, (EvaluationError, Option<Datum>)>
     requires names { AreFunctionNames names.now }
     requires form { MayEvaluate world.old.0.packages form }
-    ensures gives { Leaves result world.new.0
+    ensures gives { Leaves (without_form result) world.new.0
         (accept names.now world.old.0 (object_of form.datum)) }
+    ensures kept { IfErr result (GivesBack form.datum) }
     ensures marked { IfOk result (λ _. world.new.1 ≡ world.old.1 ++ world.old.0 ∷ []) }
     ensures unchanged { IfErr result (λ _. world.new ≡ world.old) }
 {
-    let mark = world.mark()?;
+    let mark = match world.mark() {
+        Ok(mark) => mark,
+        Err(_) => return Err((EvaluationError::OutOfMemory, None)),
+    };
     match run(alloc, world, names, form) {
         Ok(wrote) => Ok(wrote),
-        Err(error) => {
+        Err(refused) => {
             world.back_to(mark);
-            Err(error)
+            Err(refused)
         }
     }
 }
@@ -67,20 +96,21 @@ fn run(
     world: &mut World,
     names: &[FnName],
     form: ReadForm,
-) -> Result<bool, EvaluationError>
+) -> Result<bool, (EvaluationError, Option<Datum>)>
     requires names { AreFunctionNames names.now }
     requires form { MayEvaluate world.old.0.packages form }
-    ensures gives { Leaves result world.new.0
+    ensures gives { Leaves (without_form result) world.new.0
         (accept names.now world.old.0 (object_of form.datum)) }
+    ensures kept { IfErr result (GivesBack form.datum) }
     ensures marked { world.new.1 ≡ world.old.1 }
 {
     world.soundness();
     let interned = match intern_symbols(alloc, world, &form) {
         Ok(interned) => interned,
-        Err(error) => return Err(EvaluationError::from(error)),
+        Err(error) => return Err((EvaluationError::from(error), None)),
     };
     match evaluator::apply(alloc, world, names, form.datum) {
         Ok(wrote) => Ok(either(interned, wrote)),
-        Err(error) => Err(error),
+        Err(refused) => Err(refused),
     }
 }

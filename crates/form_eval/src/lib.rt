@@ -5,7 +5,8 @@
 //! definition says, and leaves the world as it was where a form is refused.
 //!
 //! - `read_form`: a form that was read, and whether its symbols are known to be there
-//! - `transaction`: `accept`; `application`: `apply`, which does the same and gives no value
+//! - `transaction`: `accept`; `application`: `apply`, which does the same and gives no value, and `apply_keeping`, which gives back a form
+//!   that is refused for want of a function
 //! - `asking`: `question`, the same form as a question, which tells whether its evaluation alone wrote
 //! - `symbols`: the symbols of a datum; `interning`: they are interned in their homes
 //!
@@ -26,8 +27,8 @@ mod read_form;
 mod symbols;
 mod transaction;
 
-pub use application::apply;
+pub use application::{apply, apply_keeping};
 pub use asking::question;
 pub use lisp_operators::{Evaluated, EvaluationError};
 pub use read_form::ReadForm;
-pub use transaction::accept;
+pub use transaction::{accept, are_names, intern_symbols};

@@ -3,3 +3,4 @@ pub mod Items
 pub mod Members
 pub mod Variables
 pub mod Readers
+pub mod Keeping

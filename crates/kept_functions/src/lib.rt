@@ -6,6 +6,7 @@
 //!
 //! - `definition`: variables, the definition that a datum is, and the function of a symbol
 //! - `reader_definition`: the macro function of a name
+//! - `defining`: DEFUN and DEFINE-READER
 //! - `environment`: variables that have values
 //! - `local_operator`: the operators that bind variables, take functions or define them, by their names
 //! - `weights`: how many steps data are
@@ -13,12 +14,14 @@
 #![tactic(auto)]
 
 pub mod bounds;
+mod defining;
 mod definition;
 mod environment;
 mod local_operator;
 mod reader_definition;
 mod weights;
 
+pub use defining::{define, define_reader};
 pub use definition::{
     FUNCTION_INDICATOR, PAZTURROK, StoredDefinition, definition_in, definition_of, function_in,
     is_definable, is_variable, proper_items, symbol_in, variables_in,

@@ -21,7 +21,7 @@ use Rattle.lisp_operators.specs.declared.error.EvaluationError.TheVariants.{Refu
 use Rattle.evaluator.specs.Operators.{is_standard, count, first}
 use Rattle.evaluator.specs.Value.{rest}
 use Rattle.evaluator.specs.ArgumentValues.{arguments_in}
-use Rattle.lexical_evaluation.proofs.Items.{head_at, arguments_proper}
+use Rattle.evaluator.proofs.Forms.{head_at, arguments_proper}
 use Rattle.kept_functions.specs.Environments.{Environment, variables_of}
 use Rattle.kept_functions.specs.Counting.{Point, Counting, here, then_on}
 use Rattle.kept_functions.specs.LocalOperators.{is_own_symbol}

@@ -17,7 +17,7 @@ use Rattle.lisp_operators.specs.Properties.{t}
 use Rattle.lisp_operators.specs.declared.error.EvaluationError.{EvaluationError}
 use Rattle.evaluator.specs.Operators.{count}
 use Rattle.evaluator.specs.Value.{is_clause, are_clauses}
-use Rattle.lexical_evaluation.proofs.Items.{count_pairs}
+use Rattle.evaluator.proofs.Places.{count_pairs}
 use Rattle.evaluator.specs.declared.decision.Decision.{Decision}
 use Rattle.evaluator.specs.declared.operation.Operation.TheVariants.{Decides}
 use Rattle.evaluator.specs.Operations.{action_of}

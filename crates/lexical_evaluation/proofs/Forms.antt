@@ -25,7 +25,7 @@ use Rattle.evaluator.specs.declared.operation.Operation.{Operation}
 use Rattle.evaluator.specs.Operators.{is_interned}
 use Rattle.evaluator.specs.Operations.{action_of}
 use Rattle.evaluator.specs.ArgumentValues.{refusal_of_place, RefusesIfSome}
-use Rattle.lexical_evaluation.proofs.Items.{is_constant}
+use Rattle.evaluator.proofs.Steps.{is_constant}
 use Rattle.kept_functions.specs.declared.bounds.TheConstants.{TOO_MANY_STEPS}
 use Rattle.kept_functions.specs.Environments.{Environment, bound}
 use Rattle.kept_functions.specs.Counting.{Point, Counting, here, spending}

@@ -12,7 +12,6 @@ pub mod Scopes
 pub mod Bound
 pub mod Calling
 pub mod Running
-pub mod Keeping
 pub mod Callees
 pub mod Choosing
 pub mod Applying
@@ -20,8 +19,12 @@ pub mod Beginning
 pub mod Places
 pub mod Made
 pub mod Forms
-pub mod Items
 pub mod Finishing
 pub mod Safe
 pub mod Handing
 pub mod Stepping
+pub mod Relating
+pub mod Lasting
+pub mod LastingLaws
+pub mod Agreeing
+pub mod MoreNames

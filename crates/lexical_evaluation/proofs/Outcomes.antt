@@ -8,7 +8,8 @@ use Rattle.plist_state.specs.State.{WorldState}
 use Rattle.user_macros.specs.Calls.{MacroCall}
 use Rattle.user_macros.specs.Functions.{Functions}
 use Rattle.lisp_operators.specs.Evaluation.{Done, Evaluation}
-use Rattle.lexical_evaluation.specs.Calls.{or_with_functions, asks_for_functions}
+use Rattle.lexical_evaluation.specs.Calls.{or_with_functions}
+use Rattle.evaluator.specs.FormsGivenBack.{asks_for_functions}
 use Rattle.kept_functions.specs.ReaderFunctions.{is_lisp_name, reader_function_in, ReaderDefinition}
 use Rattle.lexical_evaluation.specs.InForce.{functions_in_force, answer_or_refusal}
 

@@ -1,13 +1,14 @@
 -- Calls of functions of the world: how deep they are in one another, and the value of a form that has them.
-use Rattle.std.specs.Prelude.{ℕ, zero, suc, ◌==◌, Bool, ◌||◌, if◌then◌else◌, List, [], length, Ok, Err}
+use Rattle.std.specs.Prelude.{ℕ, zero, suc, ◌==◌, if◌then◌else◌, List, [], length, Ok, Err}
 use Rattle.lisp_object.specs.Object.{Object}
-use Rattle.lisp_object.specs.declared.refusal.TheConstants.{UNKNOWN_OPERATOR, ARGUMENT_COUNT, NO_MACRO}
+use Rattle.lisp_object.specs.declared.refusal.TheConstants.{ARGUMENT_COUNT}
 use Rattle.kept_functions.specs.declared.bounds.TheConstants.{CALLS_TOO_DEEP, MOST_CALLS, MOST_STEPS}
 use Rattle.package_table.specs.Table.{Name}
 use Rattle.plist_state.specs.State.{WorldState}
 use Rattle.lisp_operators.specs.Evaluation.{Evaluation}
 use Rattle.evaluator.specs.Operators.{operator_of}
 use Rattle.evaluator.specs.Value.{value, symbol_value}
+use Rattle.evaluator.specs.FormsGivenBack.{asks_for_functions}
 use Rattle.kept_functions.specs.Environments.{binding}
 use Rattle.kept_functions.specs.Definitions.{Definition, function_in}
 use Rattle.kept_functions.specs.Counting.{spending, weight, at_point, without_count}
@@ -45,10 +46,7 @@ rules_of names = rules_with names (call_at (rules_with names) MOST_CALLS)
 abbrev pub lexical_value : List Name → WorldState → Object → Evaluation Object
 lexical_value names s x = without_count (value_in (rules_of names) [] (record { state = s; left = MOST_STEPS }) x)
 
--- The language without functions refuses what only the other one may know: an operator, or a macro function.
-abbrev pub asks_for_functions : ℕ → Bool
-asks_for_functions code = code == UNKNOWN_OPERATOR || code == NO_MACRO
-
+-- the first, or the second where the first is refused for want of a function
 abbrev pub or_with_functions : Evaluation Object → Evaluation Object → Evaluation Object
 or_with_functions (Ok d) other = Ok d
 or_with_functions (Err code) other = if asks_for_functions code then other else Err code

@@ -1,7 +1,8 @@
--- What holds of the language with functions, beside the language without them. None of these is proved yet but where a contract says it.
-use Rattle.std.specs.Prelude.{◌≡◌, ℕ, true, false, List, [], Ok, Err}
+-- What holds of the language with functions, beside the language without them.
+use Rattle.std.specs.Prelude.{◌≡◌, ◌⊎◌, ℕ, true, false, List, [], Ok, Err}
 use Rattle.std.specs.List.{list_any}
 use Rattle.lisp_object.specs.Object.{Object}
+use Rattle.lisp_object.specs.declared.refusal.TheConstants.{UNKNOWN_OPERATOR}
 use Rattle.kept_functions.specs.declared.bounds.TheConstants.{TOO_MANY_STEPS}
 use Rattle.package_table.specs.Table.{Name}
 use Rattle.plist_state.specs.State.{WorldState}
@@ -9,7 +10,8 @@ use Rattle.user_macros.specs.Calls.{MacroCall}
 use Rattle.user_macros.specs.Functions.{Functions}
 use Rattle.lisp_operators.specs.Evaluation.{Done}
 use Rattle.evaluator.specs.Value.{value}
-use Rattle.lexical_evaluation.specs.Calls.{lexical_value, asks_for_functions, value_with_functions}
+use Rattle.lexical_evaluation.specs.Calls.{lexical_value, value_with_functions}
+use Rattle.evaluator.specs.FormsGivenBack.{asks_for_functions}
 use Rattle.kept_functions.specs.ReaderFunctions.{is_lisp_name, own_readers}
 use Rattle.lexical_evaluation.specs.InForce.{functions_in_force}
 
@@ -32,6 +34,14 @@ LanguagesAgree =
     (names : List Name) (s : WorldState) (x : Object) (d : Done Object)
     → own_readers s ≡ [] → value names s x ≡ Ok d
     → (lexical_value names s x ≡ Err TOO_MANY_STEPS → ⊥) → lexical_value names s x ≡ Ok d
+
+-- A form that is refused in the language without functions, but not for want of an operator, is refused in the one with them, under the same
+-- number or for want of steps.
+abbrev pub RefusalsAgree : Type 0
+RefusalsAgree =
+    (names : List Name) (s : WorldState) (x : Object) (number : ℕ)
+    → value names s x ≡ Err number → (number ≡ UNKNOWN_OPERATOR → ⊥)
+    → (code : ℕ) × (lexical_value names s x ≡ Err code) × ((code ≡ number) ⊎ (code ≡ TOO_MANY_STEPS))
 
 -- In a world without macro functions of its own those of the program are in force, but for names that no program may have.
 abbrev pub OldWorldsReadTheSame : Type 0

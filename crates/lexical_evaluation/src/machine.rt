@@ -27,7 +27,6 @@ mod head;
 mod places;
 mod resuming;
 mod stepping;
-mod variables;
 
 /// What is done next: a form is evaluated, a value is given to what waits for it, or the values of arguments are all there.
 #[derive(Drop)]

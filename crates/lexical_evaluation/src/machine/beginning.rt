@@ -17,11 +17,10 @@ ghost use Rattle.plist_state.specs.Sound.{IsValue};
 
 use super::head::{FormHead, head_at, toll};
 use super::places::arguments;
-use super::variables::value_seen;
 use super::{Machine, NextStep};
 use crate::frame::{Awaiting, Target};
 use evaluator::{Operation, PlaceForm, check_place};
-use kept_functions::{symbol_in, weight};
+use kept_functions::{bound_in, symbol_in, weight};
 use lisp_object::Datum;
 use lisp_object::refusal::{ARGUMENT_COUNT, NOT_A_FORM, UNKNOWN_OPERATOR};
 use lisp_operators::EvaluationError::Refused;
@@ -80,7 +79,7 @@ impl Machine {
         ensures arguments { StepsToArguments self.old self.new result (λ u. IsArgument u symbol) }
     {
         let (home, name) = symbol_in(&symbol);
-        match value_seen(self.bindings.as_slice(), home, name) {
+        match bound_in(self.bindings.as_slice(), home, name) {
             Some(value) => {
                 let value = value.copy(self.alloc)?;
                 self.spend(weight(&value))?;

@@ -21,10 +21,9 @@ ghost use Rattle.lexical_evaluation.specs.Arguments.{AreArguments, MayFinish, Is
 
 use super::head::{is_function, toll};
 use super::{Machine, NextStep};
-use crate::defining::{define, define_reader};
 use crate::frame::Target;
 use evaluator::{Operation, PlaceForm, carry_out, computed_of_list, symbol_value};
-use kept_functions::{function_in, weight};
+use kept_functions::{define, define_reader, function_in, weight};
 use lisp_object::refusal::{ARGUMENT_COUNT, ARGUMENT_KIND, NOT_A_FORM, UNKNOWN_OPERATOR};
 use lisp_object::{Datum, Items};
 use lisp_operators::EvaluationError::Refused;

@@ -1,5 +1,5 @@
 -- What each call answers.
-use Rattle.std.proofs.Common.{◌≡◌, ◌+◌, [], ◌∷◌, ◌++◌, true, false, cond, Ok, Err, None, drop, map, refl, sym, ap, subst, ◌∙◌, arith}
+use Rattle.std.proofs.Common.{◌≡◌, [], ◌∷◌, ◌++◌, true, false, cond, Ok, Err, None, drop, map, refl, sym, ap, subst, ◌∙◌, arith}
 use Rattle.lisp_object.specs.Object.{nil, list_of}
 use Rattle.lisp_operators.specs.Evaluation.{gives}
 use Rattle.lisp_object.specs.Datum.{object_of}
@@ -13,7 +13,7 @@ use Rattle.evaluator.specs.StandIns.{stand_in, seen}
 use Rattle.evaluator.proofs.ListItems.{held_so}
 use Rattle.evaluator.proofs.Seen.{seen_value, refused_seen, refused_so, evaluated_so, evaluated_good}
 use Rattle.evaluator.proofs.Sequences.{same_last, sequence_step, sequence_stops, sequence_last, no_forms, answered, refused_after, step_after}
-use Rattle.evaluator.specs.Value.{value, values, sought, selected, has_truth}
+use Rattle.evaluator.specs.Value.{value, sought, selected, has_truth}
 use Rattle.lisp_operators.specs.Properties.{list}
 use Rattle.plist_state.specs.Views.{symbol_named}
 use Rattle.std.specs.Prelude.{◌==◌}

@@ -5,4 +5,4 @@ use Rattle.form_eval.proofs.application.perform.Goals as goal
 
 pub run-requires-clause-form : goal.run-requires-clause-form
 run-requires-clause-form c =
-    subst (λ (w : Worlds). MayEvaluate w.0.packages c.args.form) (sym c.in_ok-mark.ensures.ok.1) c.requires.form
+    subst (λ (w : Worlds). MayEvaluate w.0.packages c.args.form) (sym c.in-Ok.ensures.ok.1) c.requires.form

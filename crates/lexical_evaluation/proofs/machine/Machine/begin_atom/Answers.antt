@@ -2,7 +2,7 @@ use Rattle.std.proofs.Common.{ap, ◌∙◌}
 use Rattle.lisp_object.specs.Datum.{object_of}
 use Rattle.lisp_object.specs.declared.refusal.TheConstants.{NOT_A_FORM}
 use Rattle.lisp_object.proofs.Objects.{object_of-Integer, object_of-Rational, object_of-Char, object_of-Text, object_of-Vector, object_of-Uninterned}
-use Rattle.lexical_evaluation.proofs.Items.{is_constant}
+use Rattle.evaluator.proofs.Steps.{is_constant}
 use Rattle.lexical_evaluation.specs.Values.{value_in}
 use Rattle.lexical_evaluation.specs.Machine.{comes_to, around, point_of}
 use Rattle.lexical_evaluation.proofs.Continuing.{refused}

@@ -5,7 +5,7 @@ use Rattle.lisp_object.specs.declared.refusal.TheConstants.{ARGUMENT_COUNT, UNKN
 use Rattle.lisp_operators.specs.declared.error.EvaluationError.TheVariants.{Refused}
 use Rattle.evaluator.specs.Operators.{count}
 use Rattle.evaluator.specs.ArgumentValues.{arguments_in}
-use Rattle.lexical_evaluation.proofs.Items.{arguments_count}
+use Rattle.evaluator.proofs.Forms.{arguments_count}
 use Rattle.kept_functions.specs.LocalOperators.{takes_so_many}
 use Rattle.lexical_evaluation.specs.declared.machine.head.FormHead.TheVariants.{Operator, Local, Function, Unknown}
 use Rattle.lexical_evaluation.specs.Values.{a_local, local_value, form_value}

@@ -8,7 +8,8 @@ use Rattle.lisp_operators.specs.EvaluationAnswers.{objects}
 use Rattle.lisp_operators.specs.declared.error.EvaluationError.{EvaluationError}
 use Rattle.evaluator.specs.Operators.{first}
 use Rattle.evaluator.specs.ArgumentValues.{arguments_in}
-use Rattle.lexical_evaluation.proofs.Items.{head_at, arguments_proper, symbol_of_some}
+use Rattle.evaluator.proofs.Forms.{head_at, arguments_proper}
+use Rattle.evaluator.proofs.Heads.{symbol_of_some}
 use Rattle.kept_functions.specs.Counting.{spending}
 use Rattle.lexical_evaluation.specs.Values.{value_in, form_value}
 use Rattle.lexical_evaluation.specs.Machine.{Spends, comes_to, around, point_of}

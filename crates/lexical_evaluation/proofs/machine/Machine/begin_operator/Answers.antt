@@ -6,7 +6,7 @@ use Rattle.evaluator.specs.declared.place.PlaceForm.{PlaceForm}
 use Rattle.evaluator.specs.Operators.{count, counts}
 use Rattle.evaluator.specs.Operations.{operator, action_of}
 use Rattle.evaluator.specs.ArgumentValues.{arguments_in}
-use Rattle.lexical_evaluation.proofs.Items.{arguments_count}
+use Rattle.evaluator.proofs.Forms.{arguments_count}
 use Rattle.lexical_evaluation.specs.Values.{an_operator, action_in, form_value}
 use Rattle.lexical_evaluation.specs.Machine.{comes_to, around, point_of, to_come}
 use Rattle.lexical_evaluation.specs.Ways.{ways, parts_in}

@@ -1,11 +1,12 @@
 use Rattle.lexical_evaluation.specs.Arguments.{AreArguments}
 use Rattle.lexical_evaluation.proofs.Handing.{spent_holds, variable_holds, no_arguments, form_more}
-use Rattle.std.proofs.Common.{[], ◌∷◌, ◌++◌, Some, Err, ap, sym, subst, ◌∙◌}
+use Rattle.std.proofs.Common.{[], ◌∷◌, ◌++◌, All, Some, Err, ap, sym, subst, ◌∙◌}
 use Rattle.std.proofs.lemmas.Result.{err_from_is_err_and}
 use Rattle.lisp_object.specs.Datum.{object_of}
 use Rattle.lisp_operators.specs.EvaluationAnswers.{IsProper, objects}
 use Rattle.lisp_operators.specs.declared.error.EvaluationError.{EvaluationError}
 use Rattle.kept_functions.specs.Counting.{here, spending, weight}
+use Rattle.kept_functions.specs.declared.environment.Binding.{Binding}
 use Rattle.kept_functions.specs.Environments.{bound}
 use Rattle.lexical_evaluation.specs.declared.frame.Target.TheVariants.{Global}
 use Rattle.lexical_evaluation.specs.Values.{value_in, variable_value}
@@ -15,7 +16,7 @@ use Rattle.lexical_evaluation.proofs.Going.{comes_as}
 use Rattle.lexical_evaluation.proofs.machine.Machine.begin_symbol.Goals as goal
 
 pub weight-requires : goal.weight-requires
-weight-requires c = subst IsProper (sym c.in_ok-value-in-Some.ensures) c.in-Some.ensures.proper
+weight-requires c = subst IsProper (sym c.in_ok-value-in-Some.ensures) (c.in-Some.ensures.proper (subst (All (λ (b : Binding). IsProper b.value)) (sym c.as_slice.ensures.value) c.requires.bindings))
 
 pub returns-in_err-spend-in-Some-clause-gives : goal.returns-in_err-spend-in-Some-clause-gives
 returns-in_err-spend-in-Some-clause-gives c =
@@ -67,7 +68,7 @@ returns-in_ok-spend-in-Some-clause-arguments c = λ u hand argument.
     let v = c.in_ok-value-in-Some.value in (
       spent_holds u (weight (object_of v)) c.args.self.now c.spend.new.self tt (c.in_ok-spend-in-Some.ensures (weight (object_of v)) c.weight.ensures) hand,
       record {
-        proper = subst IsProper (sym c.in_ok-value-in-Some.ensures) c.in-Some.ensures.proper;
+        proper = subst IsProper (sym c.in_ok-value-in-Some.ensures) (c.in-Some.ensures.proper (subst (All (λ (b : Binding). IsProper b.value)) (sym c.as_slice.ensures.value) c.requires.bindings));
         value = variable_holds u c.args.self.now.bindings.items (c.symbol_in.result.0.now, c.symbol_in.result.1.now) (object_of v) hand.bindings
             (ap (λ d. Some (object_of d)) c.in_ok-value-in-Some.ensures ∙ c.in-Some.ensures.value ∙ ap (λ l. bound (variables_seen l) (c.symbol_in.result.0.now, c.symbol_in.result.1.now)) c.as_slice.ensures.value);
       },

@@ -9,7 +9,7 @@ use Rattle.kept_functions.specs.KeptFunctions.{stored_definition}
 use Rattle.lexical_evaluation.specs.Values.{named_function, called_operator}
 use Rattle.lexical_evaluation.specs.Machine.{point_of}
 use Rattle.lexical_evaluation.specs.Ways.{ways}
-use Rattle.lexical_evaluation.proofs.Items.{symbol_of_some}
+use Rattle.evaluator.proofs.Heads.{symbol_of_some}
 use Rattle.lexical_evaluation.proofs.Finishing.{keeps_as, keeps_refused, ways_calling, other_name, operator_named, function_named, no_function}
 use Rattle.lexical_evaluation.proofs.machine.Machine.call_named.Goals as goal
 

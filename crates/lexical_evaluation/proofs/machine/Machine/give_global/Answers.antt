@@ -8,7 +8,7 @@ use Rattle.evaluator.specs.Value.{symbol_value}
 use Rattle.kept_functions.specs.Counting.{at_point}
 use Rattle.lexical_evaluation.specs.Machine.{global_value, point_of}
 use Rattle.lexical_evaluation.specs.Ways.{ways}
-use Rattle.lexical_evaluation.proofs.Items.{symbol_of_some}
+use Rattle.evaluator.proofs.Heads.{symbol_of_some}
 use Rattle.lexical_evaluation.proofs.Finishing.{keeps_as, keeps_refused, other_global}
 use Rattle.lexical_evaluation.proofs.machine.Machine.give_global.Goals as goal
 
