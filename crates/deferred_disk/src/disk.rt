@@ -90,6 +90,22 @@ impl DeferredDisk {
         self.orders().is_empty()
     }
 
+    /// Says that all orders were done, as a report does. What is in memory of the files stays there, for whoever does each order at once
+    /// and reads on.
+    pub fn note_done(&mut self)
+        ensures calls { calls_of self.new ≡ after_report (calls_of self.old) }
+        ensures failures { (state_by_calls self.new).failures ≡ (state_by_calls self.old).failures }
+        ensures mixes { (state_by_calls self.new).mixes ≡ (state_by_calls self.old).mixes }
+        ensures all { KeepsAll self.old → KeepsAll self.new }
+    {
+        self.past = self.past.reported();
+        if self.orders.capacity() > KEPT {
+            self.orders = Vec::new(self.alloc);
+        } else {
+            self.orders.clear();
+        }
+    }
+
     fn kept(&self, half: Half) -> &KeptBytes
         ensures kept { IsKeptOf result.now (file_of half (state_by_calls self.now).reads) }
         ensures whole { KeepsAll self.now → IsKeptWhole result.now }
@@ -246,12 +262,7 @@ impl DefersCalls for DeferredDisk {
         if count != self.orders.len() {
             return;
         }
-        self.past = self.past.reported();
-        if self.orders.capacity() > KEPT {
-            self.orders = Vec::new(self.alloc);
-        } else {
-            self.orders.clear();
-        }
+        self.note_done();
         self.a.let_go(self.alloc);
         self.b.let_go(self.alloc);
     }

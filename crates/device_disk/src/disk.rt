@@ -293,13 +293,11 @@ impl<V: Device> Disk for DeviceDisk<V> {
         // it is noted once it is made, as a sync that failed binds nothing
         match sync_whole(&mut self.device, half) {
             Ok(()) => match self.noted.sync(half) {
-                Ok(()) => end(
-                    &mut self.noted,
-                    &mut self.failed,
-                    &mut self.cause,
-                    asked,
-                    Ok(()),
-                ),
+                Ok(()) => {
+                    // what was read as the disk was opened stays: a store syncs both files before it reads them
+                    self.noted.note_done();
+                    Ok(())
+                }
                 Err(_) => Err(fail_in_memory(&mut self.failed, &mut self.cause, asked)),
             },
             Err(error) => Err(fail_with(&mut self.failed, &mut self.cause, asked, error)),

@@ -33,6 +33,16 @@ fn is_read(disk: &mut DeviceDisk<MemoryDevice>, half: Half, want: &[u8]) -> bool
     }
 }
 
+// Both files are synced, as a store does before it reads.
+fn sync_both(disk: &mut DeviceDisk<MemoryDevice>) -> bool {
+    for half in [Half::A, Half::B] {
+        if disk.failures() > 0 || disk.sync(half).is_err() {
+            return false;
+        }
+    }
+    true
+}
+
 #[test]
 fn a_call_that_fails_is_the_last_one(rt: HostRuntime) -> Result<(), Fail> {
     for kind in [io::ErrorKind::StorageFull, io::ErrorKind::Other] {
@@ -133,6 +143,7 @@ fn the_next_opening_finds_what_was_synced(rt: HostRuntime) -> Result<(), Fail> {
             .crashed(Some((3, InjectedFault::Short(1))));
         let mut disk = DeviceDisk::open(rt.alloc(), device)?;
         let (a, b) = synced_after(done);
+        assert!(rt; sync_both(&mut disk), "call {call}");
         assert!(rt; is_read(&mut disk, Half::A, a), "call {call}");
         assert!(rt; is_read(&mut disk, Half::B, b), "call {call}");
     }
