@@ -27,8 +27,8 @@ pub fn damage()
         → (d : DifferInOneByte file other) → h.manner.mark ≡ mark_of_two_syncs
         → (more : List LogRecord) → k.entries ≡ j.entries ++ more → 0 < length more
         → IsMarkAt mark_of_two_syncs (41 + length k.snapshot + records_size j.entries) d }
-    ensures hides_last { (k j : Contents) (file other : List ℕ) (h : HoldsBatches k file) → HoldsBatches j other
-        → DifferInOneByte file other → h.manner.mark ≡ mark_of_one_sync
+    ensures hides_last { (k j : Contents) (file other : List ℕ) (h : HoldsBatches k file)
+        → HoldsBatches j other → DifferInOneByte file other → h.manner.mark ≡ mark_of_one_sync
         → (more : List LogRecord) → k.entries ≡ j.entries ++ more → 0 < length more
         → LacksLastBatch h.batches j.entries }
 {}
