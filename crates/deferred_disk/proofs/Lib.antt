@@ -3,3 +3,4 @@ mod FirstByte
 mod Growing
 mod Pending
 mod Walks
+mod WrittenBytes

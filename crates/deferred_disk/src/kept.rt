@@ -1,16 +1,32 @@
 // What is kept in memory of a file.
-ghost use Rattle.std.specs.Prelude.{◌≡◌, ◌+◌, ◌≤◌, List, ℕ, IfSome, IsSome, length, take, drop};
+ghost use Rattle.std.specs.Prelude.{◌≡◌, ◌∷◌, [], ◌+◌, ◌<◌, ◌≤◌, ◌^◌, List, ℕ, IfSome, IsSome, length, take, drop};
 ghost use Rattle.disk_trait.specs.Disk.{written};
-ghost use Rattle.deferred_disk.specs.KeptFiles.{IsKeptOf, IsKeptWhole};
+ghost use Rattle.deferred_disk.specs.KeptFiles.{IsKeptOf, IsKeptWhole, StandFrom};
 
 use std::alloc::Global;
 
-// All of a file's bytes, or none of them; its first byte, if it has one; and its length.
+// So many bytes are kept of what was written at the end of a file.
+const TAIL: usize = 65_536;
+
+// All bytes of a file, as they were read, or its bytes from some place on, or none of them; its first byte, if it has one; and its length.
+// After the first change these are what stood behind it, or the last bytes that were written at the end of the file.
 #[derive(Drop)]
 pub(crate) struct KeptBytes {
     bytes: Vec<u8>,
+    from: u64,
     first: u8,
     len: u64,
+}
+
+// The first byte of a file that is written.
+fn first_after(first: u8, at: u64, bytes: &[u8]) -> u8
+    ensures { (file : List ℕ) → at ≤ length file → take 1 file ≡ take (length file) (first ∷ [])
+        → take 1 (written at bytes.now file) ≡ take (length (written at bytes.now file)) (result ∷ []) }
+{
+    if at == 0 && !bytes.is_empty() {
+        return bytes[0];
+    }
+    first
 }
 
 impl KeptBytes {
@@ -24,7 +40,13 @@ impl KeptBytes {
             None => 0,
         };
         let len = bytes.len() as u64;
-        KeptBytes { bytes, first, len }
+        let from = 0;
+        KeptBytes {
+            bytes,
+            from,
+            first,
+            len,
+        }
     }
 
     /// How many bytes the file has.
@@ -46,9 +68,9 @@ impl KeptBytes {
             return Some(0);
         }
         let count = (buffer.len() as u64).min(self.len - at) as usize;
-        if at + count as u64 <= self.bytes.len() as u64 {
-            let at = at as usize;
-            buffer[..count].copy_from_slice(&self.bytes[at..at + count]);
+        if at >= self.from && at - self.from + count as u64 <= self.bytes.len() as u64 {
+            let start = (at - self.from) as usize;
+            buffer[..count].copy_from_slice(&self.bytes[start..start + count]);
             return Some(count);
         }
         if at == 0 && count == 1 {
@@ -58,11 +80,13 @@ impl KeptBytes {
         None
     }
 
-    // Its bytes are let go.
+    // Its bytes are let go, if it was not changed since it was read.
     pub(crate) fn let_go(&mut self, alloc: Global)
         ensures { (file : List ℕ) → IsKeptOf self.old file → IsKeptOf self.new file }
     {
-        self.bytes = Vec::new(alloc);
+        if self.from == 0 {
+            self.bytes = Vec::new(alloc);
+        }
     }
 
     // The file is written, up to this end or its own.
@@ -72,10 +96,68 @@ impl KeptBytes {
         ensures { (file : List ℕ) → IsKeptOf self.old file
             → IsKeptOf self.new (written at bytes.now file) }
     {
-        if at == 0 && !bytes.is_empty() {
-            self.first = bytes[0];
+        self.first = first_after(self.first, at, bytes);
+        let len = self.len;
+        self.len = len.max(end);
+        if end >= len {
+            self.keep_end(alloc, at, bytes);
+        } else {
+            self.keep_within(alloc, at, bytes, end);
         }
-        self.len = self.len.max(end);
+    }
+
+    // The last bytes of a write that ends with the file are kept.
+    fn keep_end(&mut self, alloc: Global, at: u64, bytes: &[u8])
+        requires { at + length bytes.now < 2 ^ 64 }
+        ensures len { self.new.len ≡ self.old.len }
+        ensures first { self.new.first ≡ self.old.first }
+        ensures kept { (file : List ℕ) → at ≤ length file
+            → StandFrom self.new.from self.new.bytes.items (written at bytes.now file) }
+    {
+        let skipped = bytes.len().saturating_sub(TAIL);
+        self.from = at + skipped as u64;
+        self.bytes = Vec::new(alloc);
+        if self.bytes.extend_from_slice(&bytes[skipped..]).is_err() {
+            self.bytes = Vec::new(alloc);
+        }
+    }
+
+    // What was read before this place is let go.
+    fn let_go_before(&mut self, alloc: Global, at: u64)
+        ensures len { self.new.len ≡ self.old.len }
+        ensures first { self.new.first ≡ self.old.first }
+        ensures kept { (file : List ℕ) → StandFrom self.old.from self.old.bytes.items file
+            → StandFrom self.new.from self.new.bytes.items file }
+    {
+        if self.from > 0 {
+            return;
+        }
+        let passed = at.min(self.bytes.len() as u64) as usize;
+        let mut rest = Vec::new(alloc);
+        if rest.extend_from_slice(&self.bytes[passed..]).is_err() {
+            rest = Vec::new(alloc);
+        }
+        self.bytes = rest;
+        self.from = at;
+    }
+
+    // A write within the file: what is kept behind it stays, and what was read before it is let go.
+    fn keep_within(&mut self, alloc: Global, at: u64, bytes: &[u8], end: u64)
+        requires end { end ≡ at + length bytes.now }
+        ensures len { self.new.len ≡ self.old.len }
+        ensures first { self.new.first ≡ self.old.first }
+        ensures kept { (file : List ℕ) → at ≤ length file → StandFrom self.old.from self.old.bytes.items file
+            → StandFrom self.new.from self.new.bytes.items (written at bytes.now file) }
+    {
+        if end <= self.from {
+            return;
+        }
+        self.let_go_before(alloc, at);
+        if at >= self.from && end - self.from <= self.bytes.len() as u64 {
+            let start = (at - self.from) as usize;
+            self.bytes[start..start + bytes.len()].copy_from_slice(bytes);
+            return;
+        }
         self.bytes = Vec::new(alloc);
     }
 

@@ -7,8 +7,9 @@
 //!   since (`specs/State.antt`). What is said of each moment of a run of calls holds between two orders of that run too:
 //!   `between_orders` (module `laws`).
 //! - Its bytes say the orders that were not reported yet, no more and no less (`specs/Bytes.antt`, module `order`).
-//! - Of each file it keeps the length, the first byte, and all bytes until it is changed or a report comes (module `kept`): a store
-//!   reads more than that only while it is opened.
+//! - Of each file it keeps the length, the first byte, and all bytes until it is changed or a report comes (module `kept`). From then on
+//!   it keeps the last bytes that were written at its end, which a store reads again as it takes zeros away; a store reads more than
+//!   that only while it is opened.
 //! - What was asked since it was made is in `past`, for clauses alone. It takes no memory.
 #![tactic(auto)]
 
