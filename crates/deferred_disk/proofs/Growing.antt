@@ -1,6 +1,6 @@
 -- What a write leaves on a disk that mixes: a crash that may leave a file may also leave it with zeros behind it, up to the length of what a read
 -- gives, since those zeros are bytes that were not written yet. So what a write is done on reaches to where it begins, whatever a crash leaves.
-use Rattle.std.proofs.Common.{◌≡◌, ◌⊎◌, ◌∙◌, inl, inr, ⊎_elim, Bool, true, false, ℕ, zero, suc, ◌+◌, ◌-◌, ◌<◌, ◌≤◌, min, max, List, [], ◌∷◌, ◌++◌, length, take, drop, get_or, replicate, refl, sym, ap, subst, arith, append-nil, append_assoc, length-append, length-take, length-drop}
+use Rattle.std.proofs.Common.{◌≡◌, ◌⊎◌, ◌∙◌, inl, inr, ⊎_elim, Bool, true, false, ℕ, ◌+◌, ◌-◌, ◌<◌, ◌≤◌, min, max, List, [], ◌∷◌, ◌++◌, length, take, drop, get_or, replicate, refl, sym, ap, subst, arith, append-nil, append_assoc, length-append, length-take, length-drop}
 use Rattle.std.proofs.lemmas.Bool.{cases_lt}
 use Rattle.std.proofs.lemmas.List.{ext_get_or, get_or-append_right, get_or-drop, get_or-replicate, get_or-take, get_or_append_left, get_or_past, length-replicate, take_all, drop-drop, take-append-drop}
 use Rattle.disk_trait.specs.Disk.{AreBytes, Changes, TornCut, Elapses, HoldsBytes, Image, Mixed, OnHalf, Partly, State, Torn, file_of, other_of, written}
@@ -11,7 +11,7 @@ use Rattle.disk_trait.specs.Orders.{OrderValue, writes, cuts, syncs}
 use Rattle.deferred_disk.specs.DiskRequests.{CallsValue, all_of, with_order}
 use Rattle.deferred_disk.specs.MixedWrites.{none_in_place}
 use Rattle.deferred_disk.specs.Sound.{left_bytes, on_half, whole}
-use Rattle.deferred_disk.specs.State.{AllWriteBytes, MixedInPlace, OrderBinds, OrdersMayLeave, PartOfOrder, image_after, reads_by, state_after_orders, with_file}
+use Rattle.deferred_disk.specs.State.{AllWriteBytes, MixedInPlace, OrderBinds, OrdersMayLeave, PartOfOrder, image_after, reads_by, state_after_orders}
 
 -- the file with zeros behind it, up to this length at most
 pub record GrownTo (most : ℕ) (old new : List ℕ) : Type 0 where

@@ -1,4 +1,4 @@
-use Rattle.std.proofs.Common.{◌≡◌, List, refl, subst, ap}
+use Rattle.std.proofs.Common.{◌≡◌, refl, subst}
 use Rattle.disk_trait.specs.Disk.{AreBytes}
 use Rattle.disk_trait.specs.Orders.{writes}
 use Rattle.deferred_disk.specs.DiskRequests.{CallsValue, all_of, with_order}
