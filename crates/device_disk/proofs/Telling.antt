@@ -1,10 +1,10 @@
 -- What was noted tells of the device, one call after the other.
-use Rattle.std.proofs.Common.{◌≡◌, ◌⊎◌, inl, inr, ⊎_elim, Bool, true, false, IsTrue, ℕ, zero, suc, ◌+◌, ◌<◌, ◌≤◌, List, [], ◌∷◌, ◌++◌, length, take, drop, refl, sym, ap, subst, ◌∙◌, arith, Result, Ok, Err, IsOk, IsErr, MatchResult, append-nil, length-append}
+use Rattle.std.proofs.Common.{◌≡◌, inr, ⊎_elim, Bool, true, IsTrue, ℕ, ◌+◌, ◌≤◌, List, [], ◌∷◌, ◌++◌, length, take, drop, refl, sym, ap, subst, ◌∙◌, arith, Result, Ok, Err, IsOk, IsErr, MatchResult, length-append}
 use Rattle.std.proofs.Math.Seq.{take-add}
 use Rattle.std.proofs.lemmas.List.{drop-drop, take_all}
 use Rattle.disk_trait.specs.Calls.{WritesBytes}
-use Rattle.disk_trait.specs.Disk.{Image, Changes, HoldsBytes, OnHalf, Partly, State, file_of, written}
-use Rattle.disk_trait.specs.Orders.{OrderValue, writes, cuts, syncs}
+use Rattle.disk_trait.specs.Disk.{Image, Changes, HoldsBytes, OnHalf, State, file_of, written}
+use Rattle.disk_trait.specs.Orders.{writes, syncs}
 use Rattle.disk_trait.specs.declared.disk.DeviceFault.{DeviceFault}
 use Rattle.disk_trait.specs.declared.half.Half.{Half}
 use Rattle.disk_trait.specs.declared.half.Half.TheVariants.{A, B}
@@ -13,8 +13,8 @@ use Rattle.deferred_disk.specs.declared.disk.DeferredDisk.{DeferredDisk}
 use Rattle.deferred_disk.specs.DiskRequests.{CallsValue, all_of, after_report, first_calls, with_order}
 use Rattle.deferred_disk.specs.Sound.{left_bytes, same_file}
 use Rattle.deferred_disk.specs.State.{AllWriteBytes, PartOfWrite, image_after, state_after_orders, with_file}
-use Rattle.device_disk.specs.DeviceCalls.{DeviceCall, done, failed, gave}
-use Rattle.device_disk.specs.DeviceFiles.{FilesAfterBy, IsUnfailed, Shows}
+use Rattle.device_disk.specs.DeviceCalls.{DeviceCall, done, gave}
+use Rattle.device_disk.specs.DeviceFiles.{FilesAfterBy, IsUnfailed}
 use Rattle.device_disk.specs.Pieces.{IsDone, IsDeviceRead, IsDeviceWrittenInPart, IsDeviceWritten, after_reads, after_writes, joined_pieces}
 use Rattle.device_disk.specs.Told.{IsToldDisk, Tells, told_by}
 use Rattle.device_disk.proofs.Tearing.{HoldsIfTorn, half_both, half_bytes, half_none, half_partly, holds_if_torn, put_same, put_twice, written_both, written_none}

@@ -1,6 +1,6 @@
-use Rattle.std.proofs.Common.{◌≡◌, ◌∙◌, ◌++◌, ◌∷◌, [], ◌+◌, ◌≤◌, ℕ, List, length, take, refl, sym, ap, append-nil, arith}
+use Rattle.std.proofs.Common.{◌≡◌, ◌∙◌, ◌++◌, ◌∷◌, [], ◌+◌, ℕ, List, length, take, sym, ap, arith}
 use Rattle.device_disk.specs.DeviceCalls.{DeviceCall, gave}
-use Rattle.device_disk.specs.Pieces.{after_reads, joined_pieces}
+use Rattle.device_disk.specs.Pieces.{joined_pieces}
 use Rattle.device_disk.proofs.Pieces.{joined_more, reads_more}
 use Rattle.device_disk.proofs.whole.read_whole.Goals as goal
 use Rattle.device_disk.proofs.whole.read_whole.Goals.{in-Done+in_ok-extend_from_slice-in-Done, in-Interrupted}

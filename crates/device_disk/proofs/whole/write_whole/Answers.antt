@@ -1,4 +1,4 @@
-use Rattle.std.proofs.Common.{inl, ◌≡◌, ◌+◌, ◌-◌, ◌≤◌, ◌++◌, ◌∷◌, ◌∙◌, [], ℕ, List, refl, sym, ap, length, take, drop, arith, Bor}
+use Rattle.std.proofs.Common.{inl, ◌≡◌, ◌+◌, ◌-◌, ◌≤◌, ◌++◌, ◌∷◌, ◌∙◌, [], ℕ, List, sym, ap, length, take, drop, Bor}
 use Rattle.disk_trait.specs.Orders.{writes}
 use Rattle.device_disk.specs.DeviceCalls.{DeviceCall, done}
 use Rattle.device_disk.specs.Pieces.{joined_pieces}
