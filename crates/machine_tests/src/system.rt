@@ -28,10 +28,7 @@ use user_macros::MacroFunctions;
 pub fn the_system_is_honest<'a>(rt: &HostRuntime, system: &Syncing<'a>)
     ensures always { IsHonestMachine told_of (⟦<HostRuntime as Folders>⟧.opens rt.now) }
     ensures asked { IsHonestMachine told_of (⟦<Syncing<'a> as Folders>⟧.opens system.now) }
-{
-    // no effect at run time
-    let _ = (rt, system);
-}
+{}
 
 /// The program on the system, of whose files is said what the words ask for: what `run_on_machine` says, without its premise.
 pub fn run_on_system<'a, M, S, I, O, T, F>(
