@@ -2,11 +2,13 @@
 import collections
 
 from hostile.store import are_alike, check, courses, has_messages, library, logged
-from lib.room import NO_MEMORY
+from lib.room import DEVICE, NO_MEMORY
 from lib.wanted import want
 
 
 REFUSED = NO_MEMORY.decode().strip()
+# What tells of want of memory: the disk notes each call before it makes it, and a call that it cannot note fails.
+SHORTAGES = (NO_MEMORY, DEVICE)
 
 
 def run(room, every, names=()):
@@ -38,7 +40,7 @@ def disturbed(room, one, loaded, log, number, goes_on, kinds):
         want(got == one.ample, where, "none was refused, and yet", got)
         return False
     left = room.files()
-    want(got == one.ample or got.status == 3 and got.err == NO_MEMORY, where, got)
+    want(got == one.ample or got.status == 3 and got.err in SHORTAGES, where, got)
     want(got.out in (b"", one.ample.out) or got.out.endswith(b"\n"), where, "a part of a line:", got)
     if got == one.ample:
         # messages that were answered one by one have a position each in the log

@@ -6,7 +6,7 @@ import shutil
 
 from hostile.store import library, logged
 from lib import played
-from lib.room import NO_MEMORY, OUTPUT, Answer, without_cause
+from lib.room import DEVICE, NO_MEMORY, OUTPUT, Answer, without_cause
 from lib.wanted import want
 
 REFUSED = NO_MEMORY.decode().strip()
@@ -34,9 +34,9 @@ def without_count(words, err):
 
 
 def shortages(words):
-    """What tells of want of memory. A quiet session gathers the lines of refusals, and where they find none its output
-    has failed."""
-    return (NO_MEMORY, OUTPUT) if "--quiet" in words else (NO_MEMORY,)
+    """What tells of want of memory: a call of the disk that cannot be noted fails. A quiet session gathers the lines of
+    refusals, and where they find none its output has failed."""
+    return (NO_MEMORY, DEVICE, OUTPUT) if "--quiet" in words else (NO_MEMORY, DEVICE)
 
 
 def is_without_tip(got, ample):
