@@ -27,4 +27,5 @@ pub mod Relating
 pub mod Lasting
 pub mod LastingLaws
 pub mod Agreeing
+pub mod MoreOutcomes
 pub mod MoreNames

@@ -1,6 +1,7 @@
 -- What a form gives in the language with functions whose symbols are interned first.
 --     accepted, asked      its value
 --     accepted_refused, asked_refused      where it is refused, or memory runs out
+--     same_again, same_question      of the same names, state and form
 use Rattle.std.proofs.Common.{◌≡◌, Bool, List, Ok, Err, ap, sym, ◌∙◌}
 use Rattle.lisp_object.specs.Object.{Object}
 use Rattle.package_table.specs.Symbols.{symbols}
@@ -31,3 +32,10 @@ module _ (names : List Name) (s v t : WorldState) (x : Object) (interned : Bool)
       → Answers f (Err error) t (lexical_value names v x) → Answers g (Err error) t (question_lexically names s x)
   asked_refused f g (Refused code) is = asked ∙ is
   asked_refused f g OutOfMemory is = tt
+
+module _ (names given : List Name) (s v : WorldState) (x y : Object) (one : given ≡ names) (two : v ≡ s) (three : y ≡ x) where
+  pub same_again : accept_lexically given v y ≡ accept_lexically names s x
+  same_again = ap (λ n. accept_lexically n v y) one ∙ ap (λ w. accept_lexically names w y) two ∙ ap (accept_lexically names s) three
+
+  pub same_question : question_lexically given v y ≡ question_lexically names s x
+  same_question = ap (λ n. question_lexically n v y) one ∙ ap (λ w. question_lexically names w y) two ∙ ap (question_lexically names s) three

@@ -1,3 +1,4 @@
 pub mod Again
 pub mod Both
 pub mod Accepted
+pub mod TrialForms

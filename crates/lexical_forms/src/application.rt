@@ -33,16 +33,21 @@ pub fn apply<M: Meaning>(
     let known = form.known;
     match apply_keeping(alloc, world, macros, form) {
         Ok(wrote) => Ok(wrote),
-        Err((error, None)) => Err(error),
-        Err((error, Some(datum))) => {
-            if !wants_function(error) {
-                return Err(error);
-            }
-            let names = macros.names();
-            are_names(names);
-            match accept_again(alloc, world, names, ReadForm { datum, known }) {
-                Ok(evaluated) => Ok(evaluated.wrote),
-                Err(error) => Err(error),
+        Err(refused) => {
+            let (error, back) = refused;
+            match back {
+                None => Err(error),
+                Some(datum) => {
+                    if !wants_function(error) {
+                        return Err(error);
+                    }
+                    let names = macros.names();
+                    are_names(names);
+                    match accept_again(alloc, world, names, ReadForm { datum, known }) {
+                        Ok(evaluated) => Ok(evaluated.wrote),
+                        Err(error) => Err(error),
+                    }
+                }
             }
         }
     }

@@ -42,11 +42,9 @@ pub fn question<M: Meaning>(
             }
             let names = macros.names();
             are_names(names);
-            let copy = ReadForm {
-                datum: form.datum.copy(alloc)?,
-                known: form.known,
-            };
-            ask_again(alloc, world, names, copy)
+            let datum = form.datum.copy(alloc)?;
+            let known = form.known;
+            ask_again(alloc, world, names, ReadForm { datum, known })
         }
     }
 }

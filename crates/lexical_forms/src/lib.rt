@@ -8,6 +8,7 @@
 //! - `attempt`: a form in the language with functions, marked, and taken back where it is refused
 //! - `wanting`: whether a refusal is for want of a function; `laws`: what holds of every form
 //! - `callers`: a caller of each of these laws, and of those of `lexical_evaluation`, for tests
+//! - `trials`: a function is defined and called, for tests
 //!
 //! # Laws for the crates above
 //!
@@ -21,6 +22,8 @@ mod attempt;
 mod callers;
 pub mod laws;
 mod transaction;
+#[cfg(test)]
+mod trials;
 mod wanting;
 
 pub use application::apply;

@@ -43,11 +43,9 @@ pub fn accept<M: Meaning>(
             }
             let names = macros.names();
             are_names(names);
-            let copy = ReadForm {
-                datum: form.datum.copy(alloc)?,
-                known: form.known,
-            };
-            accept_again(alloc, world, names, copy)
+            let datum = form.datum.copy(alloc)?;
+            let known = form.known;
+            accept_again(alloc, world, names, ReadForm { datum, known })
         }
     }
 }
