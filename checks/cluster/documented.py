@@ -8,6 +8,7 @@ import re
 import shutil
 import signal
 import subprocess
+import threading
 import time
 import urllib.request
 
@@ -225,16 +226,19 @@ def own_member(folder, program):
 
 
 MOST_SILENT = 3.0
-"""Seconds without an answer, after the leader of etcd has stopped, in one case and the other; of several stops most have to be shorter."""
+"""Seconds without an answer, after the leader of etcd has stopped, in one case and the other; of several stops most have to be shorter, but where
+etcd itself takes longer for most."""
 
-LONGEST_SILENT = 10.0
-"""And all than this, on a busy machine too: a watch of a member that has stopped, and which nobody left, would be left
-after 15."""
+MOST_BEYOND = 1.5
+"""So many seconds longer than etcd itself a node may take, in most of them."""
+
+LONGEST_BEYOND = 10.0
+"""And in all of them, on a busy machine too: a watch of a member that has stopped, and which nobody left, would be left after 15."""
 
 
 def stopped_leader(folder, program):
     """The leader of etcd is stopped: each node answers forms again after three seconds, also the one whose own member it is."""
-    cluster, silent = begun(folder, program, members=3, nodes=3), {"its own member": [], "another member": []}
+    cluster, silent, own = begun(folder, program, members=3, nodes=3), {"its own member": [], "another member": []}, []
     try:
         for _ in range(5):
             leader = leader_of(cluster)
@@ -244,23 +248,51 @@ def stopped_leader(folder, program):
             cluster.members[leader].signal(signal.SIGSTOP)
             began = time.monotonic()
             with concurrent.futures.ThreadPoolExecutor() as pool:
+                elected = pool.submit(takes_a_put, [url for place, url in enumerate(cluster.urls) if place != leader])
                 ends = list(pool.map(lambda client: (client.request(b"do", ADD), time.monotonic())[1], clients))
+            own.append(elected.result() - began)
             for place, end in enumerate(ends):
-                silent["its own member" if place == leader else "another member"].append(end - began)
+                silent["its own member" if place == leader else "another member"].append((end - began, end - began - own[-1]))
             cluster.members[leader].signal(signal.SIGCONT)
             time.sleep(3)
-        told = {case: sorted(times) for case, times in silent.items()}
-        for case, times in told.items():
-            print(f"cluster: the leader of etcd, {case} of a node, is stopped: no answer for {' '.join(f'{one:.1f}' for one in times)} s, "
-                  f"load {os.getloadavg()[0]:.0f}", flush=True)
-        faults = []
-        for case, times in told.items():
-            middle, most = times[len(times) // 2], times[-1]
-            if middle > MOST_SILENT or most > LONGEST_SILENT:
-                faults.append(f"{case} stops: no answer for {middle:.1f} s, and once for {most:.1f} s")
-        return faults
+        print(f"cluster: the leader of etcd is stopped: etcd takes no put for {listed(own)} s, load {os.getloadavg()[0]:.0f}", flush=True)
+        return [fault for case, times in silent.items() for fault in faults_of_silence(case, times, middle(own))]
     finally:
         cluster.end()
+
+
+def faults_of_silence(case, times, own):
+    """What is wrong with the times for which nodes were silent in a case, each beside how much longer that was than etcd was. Its own middle is `own`."""
+    silent, beyond = ([one[place] for one in times] for place in (0, 1))
+    print(f"cluster: .. {case} of a node: no answer for {listed(silent)} s", flush=True)
+    is_long = middle(silent) > max(MOST_SILENT, own + MOST_BEYOND) or middle(beyond) > MOST_BEYOND or max(beyond) > LONGEST_BEYOND
+    return [f"{case} stops: no answer for {listed(silent)} s, {listed(beyond)} s longer than etcd"] if is_long else []
+
+
+def listed(times):
+    return " ".join(f"{one:.1f}" for one in sorted(times))
+
+
+def middle(times):
+    return sorted(times)[len(times) // 2]
+
+
+def takes_a_put(urls):
+    """When a put has succeeded at one of these members: one is begun each tenth of a second at each."""
+    ended, began = threading.Event(), time.monotonic()
+
+    def put(url):
+        with contextlib.suppress(OSError, ValueError), urllib.request.urlopen(url + "/v3/kv/put", b'{"key": "YQ==", "value": "YQ=="}', LONG) as told:
+            json.load(told)
+            ended.set()
+
+    while not ended.is_set():
+        if time.monotonic() - began > LONG:
+            raise Late("etcd takes no put")
+        for url in urls:
+            threading.Thread(target=put, args=(url,), daemon=True).start()
+        ended.wait(0.1)
+    return time.monotonic()
 
 
 def leader_of(cluster):
