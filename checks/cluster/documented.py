@@ -32,6 +32,12 @@ def blocks_of_page():
     return [[line.strip() for line in block.splitlines()] for block in blocks[:3]]
 
 
+def health_of_page():
+    """The command by which the page asks how a node is."""
+    with open(PAGE, encoding="utf-8") as page:
+        return re.findall(r"`(curl [^`]*/health)`", page.read())[:1]
+
+
 def commands():
     """The same without those that are left out."""
     return [[line for line in block if not line.startswith(LEFT_OUT)] for block in blocks_of_page()]
@@ -102,6 +108,13 @@ class Machines:
         told = subprocess.run(words, cwd=TOP, env=environment, capture_output=True, text=True, timeout=3 * LONG)
         return told.stdout or told.stderr
 
+    def unwell(self):
+        """What is wrong with the health of the machines, which is asked as the page says, if there is curl."""
+        if not shutil.which("curl"):
+            return []
+        told = [self.answer(place, f"NAME={'abc'[place]}", *health_of_page()) for place in range(3)]
+        return [] if all('"healthy": true' in one for one in told) else [f"the health of the machines is {told}"]
+
     def end(self):
         for shell in self.shells.values():
             os.killpg(shell.pid, signal.SIGKILL)
@@ -147,6 +160,7 @@ def documented(folder, program):
         first, put, look = machines.clients
         told = [machines.answer(0, first, put), machines.answer(1, first, look)]
         faults = [] if told == ["(1 2)\n"] * 2 else [f"the commands of the page answer {told}: {[machines.told(place) for place in range(3)]}"]
+        faults += machines.unwell()
         told = machines.answer(2, first, look.replace("$TLS", "--ca /etc/pazturrok/ca.crt"))
         faults += [] if "no node answered" in told or "certificate" in told else [f"who has no certificate is answered {told}"]
         os.kill(machines.etcd(1), signal.SIGKILL)
