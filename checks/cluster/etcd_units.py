@@ -12,7 +12,6 @@ from waits import LONG, settled
 
 sys.path.insert(0, os.path.join(os.path.dirname(os.path.abspath(__file__)), "..", "..", "cluster"))
 
-from pazturrok_node import elections  # noqa: E402
 from pazturrok_node import etcd as etcds  # noqa: E402
 from pazturrok_node.etcd import BY_A_MEMBER, STATUS, Etcd, EtcdError  # noqa: E402
 
@@ -122,7 +121,7 @@ class EtcdTest(unittest.IsolatedAsyncioTestCase):
 
         one._elections.end(0, {"header": {"raft_term": "2"}})
         one._watched, one._watch = 0, mock.Mock()
-        with mock.patch.object(one, "_ask", ask), mock.patch.object(etcds, "QUICKEST", 0.01), mock.patch.object(elections, "PAUSE", 0.01):
+        with mock.patch.object(one, "_ask", ask), mock.patch.object(etcds, "QUICKEST", 0.01), mock.patch.object(etcds, "PAUSE", 0.01):
             call = asyncio.ensure_future(one.call("/v3/kv/txn", {}, 2 * LONG))
             await asyncio.sleep(0.1)
             self.assertEqual((asked, call.done()), (["a"], False))

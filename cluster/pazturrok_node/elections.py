@@ -3,14 +3,14 @@
 from __future__ import annotations
 
 import asyncio
-from collections.abc import Awaitable, Callable, Iterable
+from collections.abc import AsyncIterator, Callable, Iterable
 from typing import Any
 
-PAUSE = 0.1
-"""Seconds between two looks at a member."""
+FAULTS = (OSError, asyncio.TimeoutError, asyncio.IncompleteReadError, ValueError)
+"""By what a member does not answer."""
 
-Look = Callable[[int], Awaitable[dict[str, Any]]]
-"""Gives what the member at this place tells of itself."""
+Look = Callable[[int], AsyncIterator[dict[str, Any]]]
+"""Gives what the member at this place tells of itself, again and again."""
 
 
 class Elections:
@@ -44,12 +44,10 @@ class Elections:
         return self._heed(place, number(found.get("header", {}), "raft_term"))
 
     async def _look_at(self, place: int) -> None:
-        while True:
-            told = await self._look(place)
+        async for told in self._look(place):
             # one that seeks a leader has a greater term already, and names none
             if number(told, "leader"):
                 self._heed(place, number(told, "raftTerm"))
-            await asyncio.sleep(PAUSE)
 
     def _heed(self, place: int, term: int) -> bool:
         """A member has a leader of this term: whether it is a new one."""

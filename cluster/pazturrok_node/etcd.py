@@ -14,7 +14,7 @@ import urllib.parse
 from collections.abc import AsyncIterator, Iterable
 from typing import Any
 
-from .elections import Elections
+from .elections import FAULTS, Elections
 
 logger = logging.getLogger(__name__)
 
@@ -151,7 +151,7 @@ class Etcd:
         stopped, and which no call goes to."""
         self._doublings = 0
         """How many watches, one after the other, told nothing in time."""
-        self._elections = Elections(range(len(urls)), self._status)
+        self._elections = Elections(range(len(urls)), self._statuses)
 
     async def call(self, path: str, body: dict[str, Any], patience: float = TIMEOUT) -> dict[str, Any]:
         """The answer of a call, which is made until a member answers it: where none does in so many seconds, or where there is a new leader meanwhile, the
@@ -193,16 +193,27 @@ class Etcd:
             self._elections.begin()
         return [], None
 
-    async def _status(self, at: int) -> dict[str, Any]:
-        """What a member tells of itself; nothing where it does not answer."""
-        return await self.of(self._urls[at], STATUS) or {}
+    async def _statuses(self, at: int) -> AsyncIterator[dict[str, Any]]:
+        """What a member tells of itself, again and again, on one connection; nothing where it does not answer."""
+        connection = Connection(self._urls[at], self._context)
+        try:
+            while True:
+                try:
+                    found = await asyncio.wait_for(self._ask(connection, STATUS, {}), QUICK)
+                except FAULTS:
+                    connection.close()
+                    found = {}
+                yield found
+                await asyncio.sleep(PAUSE)
+        finally:
+            connection.close()
 
     async def _try(self, at: int, connection: Connection, path: str, body: dict[str, Any]) -> dict[str, Any] | None:
         """What one member answers; None where it does not, or where another one, or the same again, is to be asked."""
         before, began = self._revision, time.monotonic()
         try:
             found = await asyncio.wait_for(self._ask(connection, path, body), MOST_TRIES * TIMEOUT)
-        except (OSError, asyncio.TimeoutError, asyncio.IncompleteReadError, ValueError) as error:
+        except FAULTS as error:
             connection.close()
             self._heed_silence(at, str(error) or type(error).__name__)
             return None
@@ -258,7 +269,7 @@ class Etcd:
         connection = Connection(url, self._context)
         try:
             return await asyncio.wait_for(self._ask(connection, path, {}), patience)
-        except (OSError, asyncio.TimeoutError, asyncio.IncompleteReadError, ValueError):
+        except FAULTS:
             return None
         finally:
             connection.close()
