@@ -244,7 +244,7 @@ MOST_SILENT = 3.0
 etcd itself takes longer for most."""
 
 MOST_BEYOND = 1.5
-"""So many seconds longer than etcd itself a node may take, in most of them."""
+"""So many seconds longer than etcd itself, and twice as long as a form takes here, a node may take in most of them."""
 
 LONGEST_BEYOND = 10.0
 """And in all of them, on a busy machine too: a watch of a member that has stopped, and which nobody left, would be left after 15."""
@@ -252,13 +252,15 @@ LONGEST_BEYOND = 10.0
 
 def stopped_leader(folder, program):
     """The leader of etcd is stopped: each node answers forms again after three seconds, also the one whose own member it is."""
-    cluster, silent, own = begun(folder, program, members=3, nodes=3), {"its own member": [], "another member": []}, []
+    cluster, silent, own, usual = begun(folder, program, members=3, nodes=3), {"its own member": [], "another member": []}, [], []
     try:
         for _ in range(5):
             leader = leader_of(cluster)
             clients = [Client([place], patience=LONG) for place in cluster.places]
-            for client in clients:
+            for client in clients * 2:
+                began = time.monotonic()
                 client.request(b"do", ADD)
+                usual.append(time.monotonic() - began)
             cluster.members[leader].signal(signal.SIGSTOP)
             began = time.monotonic()
             with concurrent.futures.ThreadPoolExecutor() as pool:
@@ -269,17 +271,20 @@ def stopped_leader(folder, program):
                 silent["its own member" if place == leader else "another member"].append((end - began, end - began - own[-1]))
             cluster.members[leader].signal(signal.SIGCONT)
             time.sleep(3)
-        print(f"cluster: the leader of etcd is stopped: etcd takes no put for {listed(own)} s, load {os.getloadavg()[0]:.0f}", flush=True)
-        return [fault for case, times in silent.items() for fault in faults_of_silence(case, times, middle(own))]
+        print(f"cluster: the leader of etcd is stopped: etcd takes no put for {listed(own)} s, a form takes {middle(usual):.1f} s, "
+              f"load {os.getloadavg()[0]:.0f}", flush=True)
+        beyond = MOST_BEYOND + 2 * middle(usual)
+        return [fault for case, times in silent.items() for fault in faults_of_silence(case, times, middle(own), beyond)]
     finally:
         cluster.end()
 
 
-def faults_of_silence(case, times, own):
-    """What is wrong with the times for which nodes were silent in a case, each beside how much longer that was than etcd was. Its own middle is `own`."""
+def faults_of_silence(case, times, own, most):
+    """What is wrong with the times for which nodes were silent in a case, each beside how much longer that was than etcd was. Etcd's middle is `own`, and
+    nodes may be `most` seconds longer in most of them."""
     silent, beyond = ([one[place] for one in times] for place in (0, 1))
     print(f"cluster: .. {case} of a node: no answer for {listed(silent)} s", flush=True)
-    is_long = middle(silent) > max(MOST_SILENT, own + MOST_BEYOND) or middle(beyond) > MOST_BEYOND or max(beyond) > LONGEST_BEYOND
+    is_long = middle(silent) > max(MOST_SILENT, own + most) or middle(beyond) > most or max(beyond) > LONGEST_BEYOND
     return [f"{case} stops: no answer for {listed(silent)} s, {listed(beyond)} s longer than etcd"] if is_long else []
 
 
