@@ -62,6 +62,16 @@ class EtcdTest(unittest.IsolatedAsyncioTestCase):
             self.assertEqual((one._watched, cut.called), (2, False) if is_heard else (1, True))
             await watch.aclose()
 
+    async def test_next_member(self):
+        """Where a watch ends the next member is watched, but none that was silent while there is another one."""
+        one = Etcd([f"http://127.0.0.1:{port}" for port in (1, 2, 3)])
+        for silent, watched in ((set(), [1, 2, 0]), ({1}, [2, 0, 2]), ({1, 2}, [0, 0])):
+            one._watched, one._silent, found = 0, silent, []
+            for _ in watched:
+                self.assertEqual([result async for result in one.watch({}, 1, LONG)], [])
+                found.append(one._watched)
+            self.assertEqual(found, watched)
+
     async def test_member_that_seeks(self):
         """One that says nothing while it seeks what a node has missed is waited for longer from watch to watch, until it tells."""
         told, count = b'{"result": {"events": [{}]}}\n', 0

@@ -359,7 +359,8 @@ class Etcd:
         finally:
             connection.close()
         if self._watched == at:
-            self._watched = (at + 1) % len(self._urls)
+            # the next one, and first those that did not keep silent
+            self._watched = min(range(len(self._urls)), key=lambda other: (other in self._silent, (other - at - 1) % len(self._urls)))
         await asyncio.sleep(PAUSE)
 
 
