@@ -8,6 +8,7 @@ import re
 import shutil
 import signal
 import subprocess
+import threading
 import time
 import urllib.request
 
@@ -29,6 +30,12 @@ def blocks_of_page():
     with open(PAGE, encoding="utf-8") as page:
         blocks = re.findall(r"(?m)(?:^    .*\n)+", page.read())
     return [[line.strip() for line in block.splitlines()] for block in blocks[:3]]
+
+
+def health_of_page():
+    """The command by which the page asks how a node is."""
+    with open(PAGE, encoding="utf-8") as page:
+        return re.findall(r"`(curl [^`]*/health)`", page.read())[:1]
 
 
 def commands():
@@ -101,6 +108,13 @@ class Machines:
         told = subprocess.run(words, cwd=TOP, env=environment, capture_output=True, text=True, timeout=3 * LONG)
         return told.stdout or told.stderr
 
+    def unwell(self):
+        """What is wrong with the health of the machines, which is asked as the page says, if there is curl."""
+        if not shutil.which("curl"):
+            return []
+        told = [self.answer(place, f"NAME={'abc'[place]}", *health_of_page()) for place in range(3)]
+        return [] if all('"healthy": true' in one for one in told) else [f"the health of the machines is {told}"]
+
     def end(self):
         for shell in self.shells.values():
             os.killpg(shell.pid, signal.SIGKILL)
@@ -146,6 +160,7 @@ def documented(folder, program):
         first, put, look = machines.clients
         told = [machines.answer(0, first, put), machines.answer(1, first, look)]
         faults = [] if told == ["(1 2)\n"] * 2 else [f"the commands of the page answer {told}: {[machines.told(place) for place in range(3)]}"]
+        faults += machines.unwell()
         told = machines.answer(2, first, look.replace("$TLS", "--ca /etc/pazturrok/ca.crt"))
         faults += [] if "no node answered" in told or "certificate" in told else [f"who has no certificate is answered {told}"]
         os.kill(machines.etcd(1), signal.SIGKILL)
@@ -225,42 +240,78 @@ def own_member(folder, program):
 
 
 MOST_SILENT = 3.0
-"""Seconds without an answer, after the leader of etcd has stopped, in one case and the other; of several stops most have to be shorter."""
+"""Seconds without an answer, after the leader of etcd has stopped, in one case and the other; of several stops most have to be shorter, but where
+etcd itself takes longer for most."""
 
-LONGEST_SILENT = 10.0
-"""And all than this, on a busy machine too: a watch of a member that has stopped, and which nobody left, would be left
-after 15."""
+MOST_BEYOND = 1.5
+"""So many seconds longer than etcd itself, and twice as long as a form takes here, a node may take in most of them."""
+
+LONGEST_BEYOND = 10.0
+"""And in all of them, on a busy machine too: a watch of a member that has stopped, and which nobody left, would be left after 15."""
 
 
 def stopped_leader(folder, program):
     """The leader of etcd is stopped: each node answers forms again after three seconds, also the one whose own member it is."""
-    cluster, silent = begun(folder, program, members=3, nodes=3), {"its own member": [], "another member": []}
+    cluster, silent, own, usual = begun(folder, program, members=3, nodes=3), {"its own member": [], "another member": []}, [], []
     try:
         for _ in range(5):
             leader = leader_of(cluster)
             clients = [Client([place], patience=LONG) for place in cluster.places]
-            for client in clients:
+            for client in clients * 2:
+                began = time.monotonic()
                 client.request(b"do", ADD)
+                usual.append(time.monotonic() - began)
             cluster.members[leader].signal(signal.SIGSTOP)
             began = time.monotonic()
             with concurrent.futures.ThreadPoolExecutor() as pool:
+                elected = pool.submit(takes_a_put, [url for place, url in enumerate(cluster.urls) if place != leader])
                 ends = list(pool.map(lambda client: (client.request(b"do", ADD), time.monotonic())[1], clients))
+            own.append(elected.result() - began)
             for place, end in enumerate(ends):
-                silent["its own member" if place == leader else "another member"].append(end - began)
+                silent["its own member" if place == leader else "another member"].append((end - began, end - began - own[-1]))
             cluster.members[leader].signal(signal.SIGCONT)
             time.sleep(3)
-        told = {case: sorted(times) for case, times in silent.items()}
-        for case, times in told.items():
-            print(f"cluster: the leader of etcd, {case} of a node, is stopped: no answer for {' '.join(f'{one:.1f}' for one in times)} s, "
-                  f"load {os.getloadavg()[0]:.0f}", flush=True)
-        faults = []
-        for case, times in told.items():
-            middle, most = times[len(times) // 2], times[-1]
-            if middle > MOST_SILENT or most > LONGEST_SILENT:
-                faults.append(f"{case} stops: no answer for {middle:.1f} s, and once for {most:.1f} s")
-        return faults
+        print(f"cluster: the leader of etcd is stopped: etcd takes no put for {listed(own)} s, a form takes {middle(usual):.1f} s, "
+              f"load {os.getloadavg()[0]:.0f}", flush=True)
+        beyond = MOST_BEYOND + 2 * middle(usual)
+        return [fault for case, times in silent.items() for fault in faults_of_silence(case, times, middle(own), beyond)]
     finally:
         cluster.end()
+
+
+def faults_of_silence(case, times, own, most):
+    """What is wrong with the times for which nodes were silent in a case, each beside how much longer that was than etcd was. Etcd's middle is `own`, and
+    nodes may be `most` seconds longer in most of them."""
+    silent, beyond = ([one[place] for one in times] for place in (0, 1))
+    print(f"cluster: .. {case} of a node: no answer for {listed(silent)} s", flush=True)
+    is_long = middle(silent) > max(MOST_SILENT, own + most) or middle(beyond) > most or max(beyond) > LONGEST_BEYOND
+    return [f"{case} stops: no answer for {listed(silent)} s, {listed(beyond)} s longer than etcd"] if is_long else []
+
+
+def listed(times):
+    return " ".join(f"{one:.1f}" for one in sorted(times))
+
+
+def middle(times):
+    return sorted(times)[len(times) // 2]
+
+
+def takes_a_put(urls):
+    """When a put has succeeded at one of these members: one is begun each tenth of a second at each."""
+    ended, began = threading.Event(), time.monotonic()
+
+    def put(url):
+        with contextlib.suppress(OSError, ValueError), urllib.request.urlopen(url + "/v3/kv/put", b'{"key": "YQ==", "value": "YQ=="}', LONG) as told:
+            json.load(told)
+            ended.set()
+
+    while not ended.is_set():
+        if time.monotonic() - began > LONG:
+            raise Late("etcd takes no put")
+        for url in urls:
+            threading.Thread(target=put, args=(url,), daemon=True).start()
+        ended.wait(0.1)
+    return time.monotonic()
 
 
 def leader_of(cluster):

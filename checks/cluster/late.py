@@ -154,15 +154,16 @@ def caught_up(folder, program):
 MISSED, MOST_MIB = 100, 250
 """So many forms of a megabyte a node has missed, and so many MiB it takes at most for them."""
 
+MISSED_MUCH = 320
+"""And so many where it takes a store."""
+
 
 def missed(folder, program):
     """A node that was away has missed 100 MB: it takes them a piece at a time, and never has all of them in memory."""
     cluster = begun(folder, program, nodes=2)
     try:
         cluster.nodes[1].finish()
-        client, text = Client(cluster.places[:1], patience=LONG), b"(SETF (GET 'BIG 'KY) \"%s\")" % (1_040_000 * b"x")
-        for number in range(MISSED):
-            client.request(b"do big-%d" % number, text)
+        send_large(cluster, MISSED)
         add(cluster, 0, b"last")
         cluster.nodes[1].start()
         began, seen = time.monotonic(), value(cluster, 1)
@@ -172,6 +173,34 @@ def missed(folder, program):
         return faults + ([] if most <= MOST_MIB else [f"a node that missed {MISSED} megabytes took {most} MiB for them"])
     finally:
         cluster.end()
+
+
+def missed_much(folder, program):
+    """A node that was away has missed 320 MB, and etcd has none of it any more: the node takes the store of the other one by itself and goes on, and
+    neither of them has all of that in memory."""
+    cluster = begun(folder, program, nodes=2, keep=0)
+    try:
+        cluster.nodes[1].finish()
+        trimmed(cluster, 0, revision(send_large(cluster, MISSED_MUCH)))
+        cluster.nodes[1].start()
+        began = time.monotonic()
+        add(cluster, 1, b"last")
+        seen, took = [value(cluster, place) for place in (0, 1)], time.monotonic() - began
+        most = [most_memory(node.child.pid) for node in cluster.nodes]
+        print(f"cluster: {MISSED_MUCH} forms of a megabyte that a node had missed, and etcd has no more, took it {took:.0f} s and {most} MiB", flush=True)
+        faults = [] if seen[0] == seen[1] else [f"a node that missed much has {seen[1]}, and the other one {seen[0]}"]
+        faults += [] if "is taken, at" in cluster.nodes[1].told() else ["a node that missed what etcd has no more took no store"]
+        return faults + ([] if max(most) <= MOST_MIB else [f"nodes took {most} MiB for a store that one gave the other"])
+    finally:
+        cluster.end()
+
+
+def send_large(cluster, count):
+    """Sends so many forms of a megabyte by the first node; gives the number of the last one."""
+    client, text, last = Client(cluster.places[:1], patience=LONG), b"(SETF (GET 'BIG 'KY) \"%s\")" % (1_040_000 * b"x"), 0
+    for number in range(count):
+        last, _ = client.request(b"do big-%d" % number, text)
+    return last
 
 
 def most_memory(process):
@@ -301,8 +330,8 @@ def leavers(_folder, _program):
     return faults + ([f"{count} tasks go on after their clients"] if count else [])
 
 
-LONG_ONES = ("waited", "lagging", "missed", "skipped away")
+LONG_ONES = ("waited", "lagging", "missed", "missed much", "skipped away")
 PARTS = {
-    "put back": put_back, "anew": anew, "waited": waited, "twice": twice, "caught up": caught_up, "missed": missed, "lagging": lagging, "newer": newer,
-    "skipped away": skipped_away, "leavers": leavers,
+    "put back": put_back, "anew": anew, "waited": waited, "twice": twice, "caught up": caught_up, "missed": missed, "missed much": missed_much,
+    "lagging": lagging, "newer": newer, "skipped away": skipped_away, "leavers": leavers,
 }  # fmt: skip

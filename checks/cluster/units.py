@@ -1,10 +1,10 @@
 """The parts of a node by themselves: frames, answers, how requests come into a log, the program of a store; journal_units.py has the journal,
-named_units.py the messages of clients with a name, and seed_units.py what comes from other nodes and versions."""
+etcd_units.py the members of etcd, named_units.py the messages of clients with a name, and seed_units.py what comes from other nodes and
+versions."""
 import asyncio
 import contextlib
 import errno
 import io
-import itertools
 import logging
 import os
 import re
@@ -14,6 +14,7 @@ import tempfile
 import unittest
 from unittest import mock
 
+import etcd_units
 import journal_units
 import named_units
 import seed_units
@@ -22,11 +23,9 @@ from waits import LONG, settled
 sys.path.insert(0, os.path.join(os.path.dirname(os.path.abspath(__file__)), "..", "..", "cluster"))
 
 from pazturrok_node import child as childs  # noqa: E402
-from pazturrok_node import etcd as etcds  # noqa: E402
 from pazturrok_node.answers import Answers  # noqa: E402
 from pazturrok_node.appender import Appender  # noqa: E402
 from pazturrok_node.child import Child  # noqa: E402
-from pazturrok_node.etcd import BY_A_MEMBER, Etcd, EtcdError  # noqa: E402
 from pazturrok_node.faults import DeviceError, Fault  # noqa: E402
 from pazturrok_node.frames import ANSWER, LIMIT, LOST, NO_ROOM, REQUEST, Frames, NoFrameError, request_of  # noqa: E402
 from pazturrok_node.log import BusyError, FullError, Refused  # noqa: E402
@@ -271,128 +270,6 @@ class ChildTest(unittest.IsolatedAsyncioTestCase):
         self.assertEqual(await one.end(), 0)
 
 
-class EtcdTest(unittest.IsolatedAsyncioTestCase):
-    """Members that stand in for those of etcd: one that hangs, and one that answers, and tells a watch one thing."""
-
-    async def member(self, answers):
-        async def serve(reader, writer):
-            with contextlib.suppress(asyncio.IncompleteReadError, ConnectionError):
-                while head := await reader.readuntil(b"\r\n\r\n"):
-                    await reader.readexactly(int(re.search(rb"Content-Length: ([0-9]+)", head)[1]))
-                    if answers:
-                        text = b'{"result": {"header": {"revision": "7"}}}\n' if b"/watch" in head else b'{"header": {"revision": "7"}}'
-                        writer.write(b"HTTP/1.1 200 OK\r\nContent-Length: %d\r\n\r\n%s" % (len(text), text) if b"/watch" not in head else
-                                     b"HTTP/1.1 200 OK\r\nTransfer-Encoding: chunked\r\n\r\n%x\r\n%s\r\n" % (len(text), text))
-
-        server = await asyncio.start_server(serve, "127.0.0.1", 0)
-        self.addAsyncCleanup(server.wait_closed)
-        self.addCleanup(server.close)
-        return f"http://127.0.0.1:{server.sockets[0].getsockname()[1]}"
-
-    async def test_member_that_hangs(self):
-        """It is left, and where it was watched the watch goes to the one that answers, before it was silent for as long as a watch may be."""
-        one = Etcd([await self.member(False), await self.member(True)])
-        told = asyncio.ensure_future(one.watch({}, 1, 2 * LONG).__anext__())
-        with mock.patch.object(etcds, "QUICK", 0.2), mock.patch.object(etcds, "TIMEOUT", 2 * LONG):
-            found = await asyncio.wait_for(one.call("/v3/kv/range", {}, one.quick), LONG)
-        self.assertEqual(found, {"header": {"revision": "7"}})
-        with self.assertRaises(StopAsyncIteration):
-            await asyncio.wait_for(told, LONG)
-        self.assertEqual(await asyncio.wait_for(one.watch({}, 1, 2 * LONG).__anext__(), LONG), {"header": {"revision": "7"}})
-
-    async def test_watched_member_that_no_call_goes_to(self):
-        """It hangs with the one that is asked: the watch goes to the one that answers, though no call has found out.
-        Where the watch tells something it stays."""
-        for is_heard in (True, False):
-            one = Etcd([await self.member(False), await self.member(True), await self.member(is_heard)])
-            one._watched, one._watch = 2, mock.Mock()
-            one._heed_silence(0, "it hangs")
-            watch, cut = one.watch({}, 1, 2 * LONG), one._watch.cut
-            if is_heard:
-                await asyncio.wait_for(watch.__anext__(), LONG)
-            one._heed_answer(1)
-            self.assertEqual((one._watched, cut.called), (2, False) if is_heard else (1, True))
-            await watch.aclose()
-
-    async def test_member_that_seeks(self):
-        """One that says nothing while it seeks what a node has missed is waited for longer from watch to watch, until it tells."""
-        told, count = b'{"result": {"events": [{}]}}\n', 0
-
-        async def serve(reader, writer):
-            nonlocal count
-            count += 1
-            await reader.readuntil(b"\r\n\r\n")
-            created = b'{"result": {"created": true}}\n'
-            writer.write(b"HTTP/1.1 200 OK\r\nTransfer-Encoding: chunked\r\n\r\n%x\r\n%s\r\n" % (len(created), created))
-            await asyncio.sleep(0.7)
-            writer.write(b"%x\r\n%s\r\n" % (len(told), told))
-
-        server = await asyncio.start_server(serve, "127.0.0.1", 0)
-        self.addCleanup(server.close)
-        one, found = Etcd([f"http://127.0.0.1:{server.sockets[0].getsockname()[1]}"]), []
-        while count < 10 and {"events": [{}]} not in found:
-            found = [result async for result in one.watch({}, 1, 0.2)]
-        self.assertIn({"events": [{}]}, found)
-        self.assertEqual(one._doublings, 0)
-
-    async def test_tries(self):
-        """A call that has no answer in time is made at the next member too, and the first answer is taken: also that of the earlier try. Of those under way
-        only some are kept."""
-        one, let, asked = Etcd(["http://a", "http://b"]), {}, []
-
-        async def ask(connection, _path, _body):
-            asked.append(connection._parts.netloc)
-            let[len(asked)] = asyncio.get_running_loop().create_future()
-            return await let[len(asked)]
-
-        with mock.patch.object(one, "_ask", ask):
-            call = asyncio.ensure_future(one.call("/v3/kv/range", {}, 0.01))
-            while len(asked) < 6:
-                await asyncio.sleep(0.01)
-            self.assertEqual((asked[:6], let[1].cancelled(), let[2].cancelled()), (["a", "b"] * 3, True, True))
-            let[4].set_result({"header": {"revision": "7"}})
-            self.assertEqual(await asyncio.wait_for(call, LONG), {"header": {"revision": "7"}})
-            await settled()
-            self.assertTrue(all(future.done() for future in let.values()))
-
-    async def test_without_leader(self):
-        """A member that says that it could not do a call is no sign of a leader, and none that tells its members; one that does a call that wants it is."""
-        one, told = Etcd(["http://a"]), []
-        unable = {"error": "etcdserver: no leader", "code": 14}
-        in_stream = {"error": {"grpc_code": 14, "message": "etcdserver: no leader"}}
-        done = {"header": {"revision": "7"}}
-
-        async def ask(_connection, _path, _body):
-            told.append(one.without_leader_seconds > 0)
-            return answers.pop(0)
-
-        with mock.patch.object(one, "_ask", ask), mock.patch.object(etcds, "PAUSE", 0):
-            answers = [unable, unable, done]
-            await one.call("/v3/kv/range", {})
-            self.assertEqual((told, one.without_leader_seconds), ([False, True, True], 0))
-            answers = [in_stream, done]
-            with self.assertRaises(EtcdError):
-                await one.call("/v3/lease/keepalive", {})
-            await one.call(BY_A_MEMBER, {})
-            self.assertGreater(one.without_leader_seconds, 0)
-            answers = [done]
-            await one.call("/v3/lease/grant", {})
-            self.assertEqual(one.without_leader_seconds, 0)
-
-    async def test_quick(self):
-        """Where calls are answered soon, a member is left soon; and never sooner than in half a second."""
-        one = Etcd([await self.member(True)])
-        self.assertEqual(one.quick, 1.5)
-        clock = mock.Mock(monotonic=itertools.count(0, 0.001).__next__)
-        for _ in range(100):
-            with mock.patch.object(etcds, "time", clock):
-                await one.call("/v3/kv/range", {})
-        self.assertLess(one.quick, 1.5)
-        self.assertGreaterEqual(one.quick, 0.5)
-        one._took = 100.0
-        self.assertEqual(one.quick, 1.5)
-
-
 class SocketTest(unittest.TestCase):
     def test_free(self):
         with tempfile.TemporaryDirectory() as room:
@@ -410,7 +287,7 @@ class SocketTest(unittest.TestCase):
 
 def units(_folder, _program):
     load = unittest.defaultTestLoader.loadTestsFromModule
-    tests = unittest.TestSuite(map(load, (sys.modules[__name__], journal_units, named_units, seed_units)))
+    tests = unittest.TestSuite(map(load, (sys.modules[__name__], etcd_units, journal_units, named_units, seed_units)))
     logging.disable(logging.CRITICAL)
     try:
         with open(os.devnull, "w", encoding="ascii") as nowhere:

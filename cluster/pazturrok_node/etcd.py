@@ -11,8 +11,10 @@ import socket
 import ssl
 import time
 import urllib.parse
-from collections.abc import AsyncIterator
+from collections.abc import AsyncIterator, Iterable
 from typing import Any
+
+from .elections import FAULTS, Elections
 
 logger = logging.getLogger(__name__)
 
@@ -46,6 +48,9 @@ UNABLE = (4, 10, 13, 14)
 
 BY_A_MEMBER = "/v3/cluster/member/list"
 """The one call that a member may answer by itself: each other one wants a leader, and a majority of the members."""
+
+STATUS = "/v3/maintenance/status"
+"""By which a member tells of itself, whether there is a leader or not."""
 
 
 class EtcdError(Exception):
@@ -142,14 +147,15 @@ class Etcd:
         """The members that did not answer the last call to them."""
         self._watch: Connection | None = None
         self._is_in_doubt = False
-        """Whether a member was silent, and the watch has told nothing since: it may be that of another one which has
+        """Whether a member was silent, or there is a new leader, and the watch has told nothing since: it may be that of a member which has
         stopped, and which no call goes to."""
         self._doublings = 0
         """How many watches, one after the other, told nothing in time."""
+        self._elections = Elections(range(len(urls)), self._statuses)
 
     async def call(self, path: str, body: dict[str, Any], patience: float = TIMEOUT) -> dict[str, Any]:
-        """The answer of a call, which is made until a member answers it: where none does in so many seconds the next one is asked too. So it has to
-        be one that may be made twice."""
+        """The answer of a call, which is made until a member answers it: where none does in so many seconds, or where there is a new leader meanwhile, the
+        next one is asked too. So it has to be one that may be made twice."""
         tries: dict[asyncio.Task[dict[str, Any] | None], int] = {}
         try:
             while True:
@@ -162,33 +168,59 @@ class Etcd:
                 # where another try has its answer first, nobody looks at this one
                 one.add_done_callback(lambda done: done.cancelled() or done.exception())
                 tries[one] = at
-                done, _ = await asyncio.wait(tries, timeout=patience, return_when=asyncio.FIRST_COMPLETED)
-                for one in done:
+                ended, elected = await self._first_of(tries, patience)
+                for one in ended:
                     del tries[one]
                     found = one.result()
                     if found is not None:
                         return found
-                if done:
+                if ended:
                     await asyncio.sleep(PAUSE)
                 else:
                     self._heed_silence(at, "it has not answered yet")
+                    self._at = self._at if elected is None else elected
         finally:
             for one in tries:
                 one.cancel()
+
+    async def _first_of(self, tries: Iterable[asyncio.Task[Any]], patience: float) -> tuple[list[asyncio.Task[Any]], int | None]:
+        """Those of the tries that end first; or none, and the place of a member that tells of a new leader, if one does, in so many seconds."""
+        elected, soon = self._elections.next, min(patience, QUICKEST)
+        for seconds in (soon, patience - soon):
+            done, _ = await asyncio.wait({*tries, elected}, timeout=seconds, return_when=asyncio.FIRST_COMPLETED)
+            if done:
+                return [one for one in tries if one in done], elected.result() if elected.done() else None
+            self._elections.begin()
+        return [], None
+
+    async def _statuses(self, at: int) -> AsyncIterator[dict[str, Any]]:
+        """What a member tells of itself, again and again, on one connection; nothing where it does not answer."""
+        connection = Connection(self._urls[at], self._context)
+        try:
+            while True:
+                try:
+                    found = await asyncio.wait_for(self._ask(connection, STATUS, {}), QUICK)
+                except FAULTS:
+                    connection.close()
+                    found = {}
+                yield found
+                await asyncio.sleep(PAUSE)
+        finally:
+            connection.close()
 
     async def _try(self, at: int, connection: Connection, path: str, body: dict[str, Any]) -> dict[str, Any] | None:
         """What one member answers; None where it does not, or where another one, or the same again, is to be asked."""
         before, began = self._revision, time.monotonic()
         try:
             found = await asyncio.wait_for(self._ask(connection, path, body), MOST_TRIES * TIMEOUT)
-        except (OSError, asyncio.TimeoutError, asyncio.IncompleteReadError, ValueError) as error:
+        except FAULTS as error:
             connection.close()
             self._heed_silence(at, str(error) or type(error).__name__)
             return None
         except BaseException:
             connection.close()
             raise
-        self._heed_leader(path, found, began)
+        self._heed_leader(at, path, found, began)
         self._silent_since, self._told = None, SILENCE
         self._free.append((at, connection))
         self._took += (min(time.monotonic() - began, QUICK) - self._took) / TYPICAL
@@ -217,12 +249,13 @@ class Etcd:
                 self._watch.cut()
         self._is_in_doubt = False
 
-    def _heed_leader(self, path: str, found: dict[str, Any], began: float) -> None:
+    def _heed_leader(self, at: int, path: str, found: dict[str, Any], began: float) -> None:
         """A member has answered a call. Where it could not do that, etcd has no leader, until a call that wants one is done; it had none either while no
         member answered just before."""
         if "error" not in found:
             if path != BY_A_MEMBER:
                 self._without_leader_since = None
+                self._is_in_doubt |= self._elections.end(at, found)
         elif is_unable(found):
             self._without_leader_since = self._without_leader_since or self._silent_since or began
 
@@ -236,7 +269,7 @@ class Etcd:
         connection = Connection(url, self._context)
         try:
             return await asyncio.wait_for(self._ask(connection, path, {}), patience)
-        except (OSError, asyncio.TimeoutError, asyncio.IncompleteReadError, ValueError):
+        except FAULTS:
             return None
         finally:
             connection.close()
@@ -326,7 +359,8 @@ class Etcd:
         finally:
             connection.close()
         if self._watched == at:
-            self._watched = (at + 1) % len(self._urls)
+            # the next one, and first those that did not keep silent
+            self._watched = min(range(len(self._urls)), key=lambda other: (other in self._silent, (other - at - 1) % len(self._urls)))
         await asyncio.sleep(PAUSE)
 
 

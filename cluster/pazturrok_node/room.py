@@ -5,7 +5,7 @@ from __future__ import annotations
 import asyncio
 import logging
 
-from .etcd import Etcd
+from .etcd import STATUS, Etcd
 
 logger = logging.getLogger(__name__)
 
@@ -49,7 +49,7 @@ class Room:
         self._looking = asyncio.Lock()
 
     async def look(self) -> None:
-        found = await self._etcd.of_each("/v3/maintenance/status")
+        found = await self._etcd.of_each(STATUS)
         sizes = {url: int(told.get("dbSize", "0")) for url, told in found.items()}
         used = {url: int(told.get("dbSizeInUse", told.get("dbSize", "0"))) for url, told in found.items()}
         if found:
