@@ -115,9 +115,13 @@ fn call(alloc: Global, world: &World) -> Result<ReadForm, AllocError>
     })
 }
 
-// The first world, with the symbol F.
+// The first world, with the package of the definitions, and the symbol F.
 fn world_with_name(alloc: Global) -> Result<World, AllocError> {
     let mut world = World::new(alloc)?;
+    match world.make(b"PAZTURROK") {
+        Ok(()) => (),
+        Err(_) => return Err(AllocError),
+    }
     match world.intern(COMMON_LISP_USER, b"F") {
         Ok(_) => Ok(world),
         Err(_) => Err(AllocError),
