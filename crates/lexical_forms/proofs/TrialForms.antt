@@ -12,10 +12,11 @@ use Rattle.lisp_object.proofs.Sound.{all_below, sound_nil}
 use Rattle.package_table.specs.Table.{Name, Table, IsPresent, common_lisp, common_lisp_user, AreSoundPackages}
 use Rattle.package_table.proofs.FirstNames.{nil_present}
 use Rattle.package_table.proofs.Found.{present_found}
+use Rattle.evaluator.specs.Operators.{pazturrok}
 use Rattle.form_eval.specs.Laws.{FitsTable, IsForm, MayEvaluate}
 
 abbrev defun : Object
-defun = symbol common_lisp (codes "DEFUN")
+defun = symbol pazturrok (codes "DEFUN")
 
 abbrev list : Object
 list = symbol common_lisp (codes "LIST")
@@ -37,7 +38,7 @@ module _ (t : Table) (sound : AreSoundPackages t) where
     all_there = λ known. absurd (false≢true known);
   }
 
-  pub definition_may : IsPresent t common_lisp (codes "DEFUN") common_lisp → IsPresent t common_lisp_user (codes "F") common_lisp_user → IsPresent t common_lisp (codes "LIST") common_lisp
+  pub definition_may : IsPresent t pazturrok (codes "DEFUN") pazturrok → IsPresent t common_lisp_user (codes "F") common_lisp_user → IsPresent t common_lisp (codes "LIST") common_lisp
       → (d : Datum) → is_proper d ≡ true → object_of d ≡ list_of (defun ∷ name ∷ list_of (list ∷ []) ∷ list ∷ []) → MayEvaluate t (record { datum = d; known = false })
   definition_may head own variable d proper same =
       let lisp : All (λ b. b < 128) common_lisp = all_below common_lisp refl in
@@ -45,10 +46,10 @@ module _ (t : Table) (sound : AreSoundPackages t) where
       let list_fits : FitsTable t list = present_fits common_lisp (codes "LIST") variable in
       may (list_of (defun ∷ name ∷ list_of (list ∷ []) ∷ list ∷ []))
       (record {
-        object = ((lisp, all_below (codes "DEFUN") refl), ((all_below common_lisp_user refl, all_below (codes "F") refl), ((list_sound, sound_nil), (list_sound, sound_nil))));
+        object = ((all_below pazturrok refl, all_below (codes "DEFUN") refl), ((all_below common_lisp_user refl, all_below (codes "F") refl), ((list_sound, sound_nil), (list_sound, sound_nil))));
         depth = omega arith;
         symbols =
-            (present_fits common_lisp (codes "DEFUN") head, (present_fits common_lisp_user (codes "F") own, ((list_fits, nil_fits), (list_fits, nil_fits))));
+            (present_fits pazturrok (codes "DEFUN") head, (present_fits common_lisp_user (codes "F") own, ((list_fits, nil_fits), (list_fits, nil_fits))));
       })
       d proper same
 

@@ -8,6 +8,7 @@ ghost use Rattle.package_table.specs.Table.{IsPresent};
 ghost use Rattle.form_eval.specs.Laws.{MayEvaluate};
 
 use form_eval::{EvaluationError, ReadForm};
+use kept_functions::PAZTURROK;
 use lisp_object::refusal::UNKNOWN_OPERATOR;
 use lisp_object::{Bytes, Datum, Items};
 use package_table::standardized::{COMMON_LISP, COMMON_LISP_USER};
@@ -90,7 +91,7 @@ fn definition(alloc: Global, world: &World) -> Result<ReadForm, AllocError>
     ensures { IfOk result (λ form. MayEvaluate world.now.0.packages form) }
 {
     world.soundness();
-    let head = symbol(alloc, world, COMMON_LISP, b"DEFUN")?;
+    let head = symbol(alloc, world, PAZTURROK, b"DEFUN")?;
     let name = symbol(alloc, world, COMMON_LISP_USER, b"F")?;
     let variable = symbol(alloc, world, COMMON_LISP, b"LIST")?;
     let variables = list_of_one(alloc, variable)?;
@@ -115,9 +116,15 @@ fn call(alloc: Global, world: &World) -> Result<ReadForm, AllocError>
     })
 }
 
-// The first world, with the symbol F.
+// The first world, with the package of the operators, DEFUN there, and the symbol F.
 fn world_with_name(alloc: Global) -> Result<World, AllocError> {
     let mut world = World::new(alloc)?;
+    let Ok(()) = world.make(PAZTURROK) else {
+        return Err(AllocError);
+    };
+    let Ok(_) = world.intern(PAZTURROK, b"DEFUN") else {
+        return Err(AllocError);
+    };
     match world.intern(COMMON_LISP_USER, b"F") {
         Ok(_) => Ok(world),
         Err(_) => Err(AllocError),
