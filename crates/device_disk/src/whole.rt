@@ -11,7 +11,10 @@ use std::io;
 /// So many bytes are read at once.
 const PIECE: usize = 65_536;
 
-/// All bytes of a file.
+/// A file of a store has at most so many bytes: a half may have 1 GiB, and a crash leaves less than the rest behind it.
+const MOST: usize = (1 << 30) + (1 << 26);
+
+/// All bytes of a file. One that is longer than `MOST` is refused, and not read into memory to its end.
 pub(crate) fn read_whole<V: Device>(
     alloc: Global,
     device: &mut V,
@@ -22,6 +25,9 @@ pub(crate) fn read_whole<V: Device>(
     let mut bytes = Vec::new(alloc);
     let mut piece = [0u8; PIECE];
     'parts: for _ in 0..u64::MAX {
+        if bytes.len() > MOST {
+            return Err(io::ErrorKind::FileTooLarge.into());
+        }
         match device.read_at(half, bytes.len() as u64, &mut piece) {
             DeviceAnswer::Done(0) => return Ok(bytes),
             DeviceAnswer::Done(count) => bytes.extend_from_slice(&piece[..count])?,

@@ -14,13 +14,13 @@ parts-preserved g c =
           let piece = take w.in-Done.count c.read_at.new.buffer in
           let items : w.extend_from_slice.new.self.items ≡ c.parts.bytes.items ++ piece = w.in_ok-extend_from_slice-in-Done.ensures.items in
           let same : c.match-read_at.bytes.items ≡ w.extend_from_slice.new.self.items = (let is = w.bytes-is in cc) in
-          let place : c.len.result ≡ 0 + length (joined_pieces far.0.0) = omega (arith, c.len.ensures, c.parts.bytes.ok.0, ap (λ (l : List ℕ). length l) far.0.1) in (
+          let place : c.len-in-parts.result ≡ 0 + length (joined_pieces far.0.0) = omega (arith, c.len-in-parts.ensures, c.parts.bytes.ok.0, ap (λ (l : List ℕ). length l) far.0.1) in (
             (
               far.0.0 ++ piece ∷ [],
               same ∙ items ∙ ap (λ (l : List ℕ). l ++ piece) far.0.1 ∙ sym (joined_more far.0.0 piece),
-              w.in-Done.ensures.calls.1 ∙ ap (λ (room : ℕ). gave c.args.half c.len.result room piece ∷ g.V.Device.calls c.parts.device) far.1
-                  ∙ ap (λ (l : List DeviceCall). gave c.args.half c.len.result 65536 piece ∷ l) far.0.2
-                  ∙ sym (reads_more c.args.half 65536 0 c.len.result far.0.0 piece before place),
+              w.in-Done.ensures.calls.1 ∙ ap (λ (room : ℕ). gave c.args.half c.len-in-parts.result room piece ∷ g.V.Device.calls c.parts.device) far.1
+                  ∙ ap (λ (l : List DeviceCall). gave c.args.half c.len-in-parts.result 65536 piece ∷ l) far.0.2
+                  ∙ sym (reads_more c.args.half 65536 0 c.len-in-parts.result far.0.0 piece before place),
             ),
             c.read_at.ensures.size ∙ far.1,
           ))
