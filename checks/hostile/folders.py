@@ -19,6 +19,8 @@ DAMAGED = Answer(3, b"", b"! 62 DAMAGED\n")
 NOBODY = 65_534
 # An open half of a later generation: version 1, generation 9, and the length of its text.
 LATER = b"\xa5\0\1" + (9).to_bytes(8, "big")
+# A file that is longer than what it holds, and one that is longer than a half may be.
+LONG, TOO_LONG = 1 << 26, 1 << 40
 
 
 class Folder:
@@ -171,18 +173,24 @@ def lengths(folder):
     os.unlink(folder.a)
     yield "half A is missing, and half B is in use", folder.run(text=GET), Answer(0, b"8\n", b""), b"8\n"
     folder.anew()
-    os.truncate(folder.b, 1 << 40)
+    os.truncate(folder.b, LONG)
     yield "half B is closed, and long", folder.run(options=["--snapshot-every", "1"]), SERVED, b"8\n"
     want(os.path.getsize(folder.b) < 1000, "half B was not cut")
     folder.anew()
-    os.truncate(folder.a, 1 << 40)
-    # what comes after the records is not read (docs/run/operating.md)
+    os.truncate(folder.a, LONG)
     yield "half A is in use, and goes on past its records", folder.run(), SERVED, b"8\n"
     folder.anew()
     folder.run(options=["--snapshot-every", "1"])
-    os.truncate(folder.a, 1 << 40)
+    os.truncate(folder.a, LONG)
     yield "half A is open, older, and long", folder.run(text=SET.replace(b"8", b"9")), Answer(0, b"9\n9\n", b""), b"9\n"
-    want(os.path.getsize(folder.a) == 1 << 40, "half A was cut")
+    want(os.path.getsize(folder.a) == LONG, "half A was cut")
+    for half in (folder.a, folder.b):
+        folder.anew()
+        size = os.path.getsize(half)
+        os.truncate(half, TOO_LONG)
+        got = folder.run()
+        os.truncate(half, size)
+        yield "a half is longer than one may be", got, FAULT, b"7\n"
     folder.anew()
     with open(folder.b, "wb") as file:
         file.write(LATER + (10).to_bytes(4, "big"))
